@@ -3,7 +3,7 @@
 # lists:begin completion (written by tools/lists from lists/svidd.toml)
 _svidd() {
   local current=${COMP_WORDS[COMP_CWORD]} before=${COMP_WORDS[COMP_CWORD - 1]}
-  local commands='serve verify withdraw report resume ready check-state schema version help'
+  local commands='serve verify withdraw report ready check-state schema version help'
   local options='' values='' files='' word n
   COMPREPLY=()
   # (bash takes the `=` after an option for a word of its own)
@@ -14,11 +14,10 @@ _svidd() {
   fi
   case $COMP_CWORD,${COMP_WORDS[1]} in
     1,*) COMPREPLY=($(compgen -W "$commands" -- "$current")) ;;
-    *,serve) options='--audience --workload-api --allow --bundle --bundle-id --bundle-ca --bundles --longest --rsa-bits --ahead --replay --listen --envoy --metrics --drain --admin --state --log --group-log --nats --group --replicas --nats-ca --nats-cert --nats-key --nats-creds --wait --summaries --config --check-config -h --help' ;;
+    *,serve) options='--audience --workload-api --allow --bundle --bundle-id --bundle-ca --bundles --longest --rsa-bits --ahead --replay --listen --envoy --metrics --drain --admin --state --log --store --group-log --nats --group --replicas --nats-ca --nats-cert --nats-key --nats-creds --wait --summaries --config --check-config -h --help' ;;
     *,verify) options='--audience --workload-api --bundle --bundle-id --bundle-ca --bundles --longest --rsa-bits --config -h --help' ;;
     *,withdraw) options='--admin --key --exp -h --help' ;;
     *,report) options='--admin --json -h --help' ;;
-    *,resume) options='--admin --anyway -h --help' ;;
     *,ready) options='--listen -h --help' ;;
     *,check-state) options='--messages -h --help' files=yes ;;
     *,schema) options='--longest --ahead --group --role -h --help' ;;
@@ -30,13 +29,13 @@ _svidd() {
         options='' before=''
         break
         ;;
-      --allow | --audience | --bundle | --bundle-ca | --bundle-id | --group-log | --nats) continue ;;
+      --allow | --audience | --bundle | --bundle-ca | --bundle-id | --group-log | --nats | --store) continue ;;
     esac
     options=" $options "
     options=${options/" ${COMP_WORDS[n]} "/ }
   done
   case $before in
-    --audience | --workload-api | --allow | --bundle | --bundle-id | --bundle-ca | --longest | --rsa-bits | --ahead | --listen | --envoy | --metrics | --drain | --group-log | --nats | --group | --replicas | --wait | --summaries | --key | --exp | --role) options='' files='' ;;
+    --audience | --workload-api | --allow | --bundle | --bundle-id | --bundle-ca | --longest | --rsa-bits | --ahead | --listen | --envoy | --metrics | --drain | --store | --group-log | --nats | --group | --replicas | --wait | --summaries | --key | --exp | --role) options='' files='' ;;
     --bundles | --admin | --state | --nats-ca | --nats-cert | --nats-key | --nats-creds | --config) options='' files=yes ;;
     --replay) options='' files='' values='once strict reuse' ;;
     --log) options='' files='' values='errors decisions all' ;;

@@ -4,6 +4,7 @@ go 1.19
 
 require (
 	github.com/BurntSushi/toml v1.2.0
+	github.com/gomodule/redigo v1.8.3
 	github.com/lib/pq v1.10.7
 	github.com/nats-io/nats.go v1.22.1
 	github.com/nats-io/nkeys v0.3.0

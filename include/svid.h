@@ -130,6 +130,13 @@ enum svid_status {
     SVID_FILE_DAMAGE = 54, /* what was synced here has changed */
     SVID_FILE_OTHER = 55,  /* a frame of another format stands here; frame->format is its number */
 
+    /* what svid_claim_outcome answers of a claim that does not count: the first that holds, in this order */
+    SVID_CLAIM_WITHDRAWN = 56, /* the entry says that the token was withdrawn */
+    SVID_CLAIM_TAKEN = 57,     /* the entry is another's, so the token was used */
+    SVID_CLAIM_FAR = 58,       /* the token expires more than `lasts` seconds past the store's time */
+    SVID_CLAIM_DEAF = 59,      /* the token may have been claimed before the store lost entries */
+    SVID_CLAIM_EXPIRED = 60,   /* the token has expired */
+
     /* what svid_key_text answers of an entry of a trust bundle that is no key for JWT-SVIDs: the first that holds, in this order */
     SVID_ENTRY_NOT_OBJECT = 61, /* it is no JSON object */
     SVID_ENTRY_NO_USE = 62,     /* it has no `use`, which must be "jwt-svid" */
@@ -343,16 +350,17 @@ uint32_t svid_validator_bundles(svid_validator *v, const uint8_t *bundles, size_
 uint32_t svid_validator_ask(svid_validator *v, const uint8_t *token, size_t token_len, size_t most,
                             uint8_t *out, size_t out_len, svid_told *told);
 
-/* Checks a token at the time `now`. `yes` are `yes_len` questions of this token whose answer is yes, in any order. SVID_HAS_LOG if the
- * validator reads a log: it accepts a token by svid_validator_read alone.
+/* Checks a token at the time `now`. `yes` are `yes_len` questions of this token whose answer is yes, in any order.
+ *
+ * The status is the first that holds: SVID_CLOSED; SVID_JUMP; SVID_HAS_LOG if the validator reads a log, since it accepts a token by
+ * svid_validator_read alone; SVID_TOO_SHORT if `out_len` is less than SVID_ID_ROOM. Then nothing happened. Else the token is judged.
  *
  * First the call advances the record to `now`; it judges the token at the record's moment, which may be later. If it accepts the token, the
  * status is SVID_OK: the record has gained the use, `used` is that use, and `out` has the SPIFFE ID of the subject. If it refuses the token,
  * the status is the first of SVID_TOO_LONG to SVID_REPLAYED that holds.
  *
- * SVID_JUMP. Else, if `out_len` is less than SVID_ID_ROOM, the status is SVID_TOO_SHORT, and nothing happened. SVID_NO_MEMORY: the token was
- * not accepted, and you can check it again; it is never answered for a token that is SVID_TOO_LONG or SVID_NOT_THREE_PARTS. Unless the status
- * is SVID_OK, `used` stays as it was.
+ * SVID_NO_MEMORY: the token was not accepted, and you can check it again; it is never answered for a token that is SVID_TOO_LONG or
+ * SVID_NOT_THREE_PARTS. Unless the status is SVID_OK, `used` stays as it was.
  *
  * A check hashes the token once for each of its candidate keys until one of them has a question in `yes`, and not at all if `yes_len` is 0. */
 uint32_t svid_validator_check(svid_validator *v, uint64_t now, const svid_question *yes, size_t yes_len,
@@ -362,8 +370,8 @@ uint32_t svid_validator_check(svid_validator *v, uint64_t now, const svid_questi
 /* Answers what svid_validator_check would answer, but the record gains no use: a later check may still accept the token. `used` is the
  * use that a check would add.
  *
- * If the validator reads a log, `used` is the claim to put into the log (svid_batch_of), and a token with a claim beside the record is
- * SVID_REPLAYED too. */
+ * It never answers SVID_HAS_LOG. If the validator reads a log, `used` is the claim to put into the log (svid_batch_of), and a token with a claim
+ * beside the record is SVID_REPLAYED too. */
 uint32_t svid_validator_judge(svid_validator *v, uint64_t now, const svid_question *yes, size_t yes_len,
                               const uint8_t *token, size_t token_len, uint8_t *out, size_t out_len,
                               svid_use *used, svid_told *told);
@@ -376,7 +384,8 @@ uint32_t svid_validator_judge(svid_validator *v, uint64_t now, const svid_questi
  *   1. svid_token_open reads it.
  *   2. svid_validator_ask_token gives its signature, and lists the first keys that may have made it.
  *   3. Your crypto library verifies the signature with each of these keys.
- *   4. svid_validator_check_token gets the key that made the signature, and accepts or refuses the token. */
+ *   4. svid_validator_check_token gets the key that made the signature, with the bytes and the signature that you verified with it, and accepts
+ *      or refuses the token. */
 typedef struct { uint64_t word; void *held; } svid_token;
 #define SVID_TOKEN_CLOSED { 0, NULL }
 
@@ -398,28 +407,33 @@ void svid_token_close(svid_token *t);
  * `most` and `told->more` are as for svid_validator_ask. */
 uint32_t svid_validator_ask_token(svid_validator *v, svid_token *t, size_t most, uint8_t *out, size_t out_len, svid_told *told);
 
-/* As svid_validator_check, for a token that was read: so it never answers SVID_TOO_LONG to SVID_JTI. `key` is the key that made the signature
- * of this token, as svid_validator_ask_token lists it; NULL and 0 if none did. If the bundles were renewed in between, and no longer have that
- * key, the token is refused as SVID_BAD_SIGNATURE. SVID_CLOSED if the validator is closed, or the token. The token stays open, and another call
- * may be asked about it.
+/* As svid_validator_check, for a token that was read: so it never answers SVID_TOO_LONG to SVID_JTI. `key`, `input` and `signature` are what your
+ * crypto library verified: that key, as svid_validator_ask_token lists it, made that signature over these bytes, which are the first of the
+ * token. All three are NULL and 0 if no key did.
  *
- * Unlike a question, a key says nothing of the token: give it to the check of no other token than the one that you verified. */
-uint32_t svid_validator_check_token(svid_validator *v, uint64_t now, const uint8_t *key, size_t key_len, svid_token *t,
-                                    uint8_t *out, size_t out_len, svid_use *used, svid_told *told);
+ * The token is refused as SVID_BAD_SIGNATURE, or for what comes before that, if `input` or `signature` is not that of this token, so an answer
+ * about another token is worth nothing; and if `key` is empty, or none of the keys that may have signed the token at this moment: the bundles
+ * may have been renewed in between. The call compares these bytes, and hashes nothing.
+ *
+ * SVID_CLOSED if the validator is closed, or the token. The token stays open, and another call may be asked about it. */
+uint32_t svid_validator_check_token(svid_validator *v, uint64_t now, const uint8_t *key, size_t key_len,
+                                    const uint8_t *input, size_t input_len, const uint8_t *signature, size_t signature_len,
+                                    svid_token *t, uint8_t *out, size_t out_len, svid_use *used, svid_told *told);
 
-/* As svid_validator_judge, for a token that was read, and with `key` as for svid_validator_check_token: so it never answers SVID_TOO_LONG to
- * SVID_JTI. SVID_CLOSED if the validator is closed, or the token. */
-uint32_t svid_validator_judge_token(svid_validator *v, uint64_t now, const uint8_t *key, size_t key_len, svid_token *t,
-                                    uint8_t *out, size_t out_len, svid_use *used, svid_told *told);
+/* As svid_validator_judge, for a token that was read, with `key`, `input` and `signature` as for svid_validator_check_token: so it never answers
+ * SVID_TOO_LONG to SVID_JTI. SVID_CLOSED if the validator is closed, or the token. */
+uint32_t svid_validator_judge_token(svid_validator *v, uint64_t now, const uint8_t *key, size_t key_len,
+                                    const uint8_t *input, size_t input_len, const uint8_t *signature, size_t signature_len,
+                                    svid_token *t, uint8_t *out, size_t out_len, svid_use *used, svid_told *told);
 
 /* Judges again a token that this validator has accepted, or judged so: `key` and `exp` are those of `used`. While the bundles stay, the
  * status is what svid_validator_judge would answer for that token and the same `yes`: SVID_OK, or SVID_EXPIRED, SVID_WITHDRAWN or
  * SVID_REPLAYED. It reads no token, so it takes a fraction of the time. It first advances the record to `now`, and adds nothing. SVID_JUMP. */
 uint32_t svid_validator_judge_again(svid_validator *v, uint64_t now, const svid_key *key, uint64_t exp, svid_told *told);
 
-/* Withdraws the token with this key, which expires at `exp`: it is refused as SVID_WITHDRAWN from now on, also by the validators that are told of
- * it. `used` is what the record gained. SVID_GONE if the token has expired; SVID_JUMP; SVID_NO_MEMORY, but never for a withdrawal that the
- * record has already. */
+/* Withdraws the token with this key, which expires at `exp`: it is refused as SVID_WITHDRAWN from now on until `exp`, also by the validators that
+ * are told of it. If the token expires later than that, it may be accepted then. `used` is what the record gained. SVID_GONE if the token has
+ * expired; SVID_JUMP; SVID_NO_MEMORY, but never for a withdrawal that the record has already. */
 uint32_t svid_validator_withdraw(svid_validator *v, uint64_t now, const svid_key *key, uint64_t exp,
                                  svid_use *used, svid_told *told);
 
@@ -478,8 +492,8 @@ typedef struct {
 /* The summary of a large record, bucket by bucket, so that no call keeps the lock for long. svid_validator_digest puts the digest of one bucket
  * at `digests->moment` into its place, and `told->len` is how many uses it is of. It looks at the uses of this bucket alone. Call it for each
  * of 0 to 255, and then svid_summary_of, which writes their summary: SVID_SUMMARY_LEN bytes. It is the summary that the record has once it is
- * advanced to that moment. Other calls may run in between. The summary has what they add or lacks it, and what it lacks makes an answer
- * longer, and never wrong. A moment before that of the record summarizes what the record still has. */
+ * advanced to that moment. Other calls may run in between: then each digest is of its bucket at its own call, and the summary is that of no one
+ * moment. What it lacks makes an answer longer, and never wrong. A moment before that of the record summarizes what the record still has. */
 uint32_t svid_validator_digest(svid_validator *v, uint8_t bucket, svid_digests *digests, svid_told *told);
 uint32_t svid_summary_of(const svid_digests *digests, uint8_t *out, size_t out_len, svid_told *told);
 
@@ -491,7 +505,11 @@ uint32_t svid_summary_of(const svid_digests *digests, uint8_t *out, size_t out_l
  *   3. If they differ, svid_validator_bucket with `asked.moment` writes the uses of that bucket that expire later: messages, or no bytes if there
  *      are none.
  * What step 3 writes in all tells the uses that svid_validator_answer tells. The record stays as it is. Each call of steps 2 and 3 looks once at
- * each use of its bucket, and at no other use. Other calls may run in between. The answer has what they add or lacks it. */
+ * each use of its bucket, and at no other use.
+ *
+ * Other calls may run in between. Then the answer has, or the asking validator had when it made the digest of that bucket, each use that the record
+ * had at the first call of step 2 and that is still live. What the record gained since, it has or lacks. So also a validator that took a whole
+ * answer, or an empty one, may accept a token that this one accepted meanwhile. */
 uint32_t svid_summary_read(const uint8_t *summary, size_t summary_len, svid_digests *asked, svid_told *told);
 uint32_t svid_validator_differs(svid_validator *v, uint8_t bucket, const svid_digests *asked, svid_told *told);
 uint32_t svid_validator_bucket(svid_validator *v, uint8_t bucket, uint64_t moment, uint8_t *out, size_t out_len, svid_told *told);
@@ -514,18 +532,20 @@ enum svid_fates {
     SVID_FATE_FIRST = 1,         /* the first claim of its token, which this validator does not accept: it is of another validator, or stands at
                                     `ready` or in front of it, or the validator is deaf. The record has the use */
     SVID_FATE_WITHDRAWAL = 2,    /* a withdrawal. The record has it */
-    SVID_FATE_TOO_FAR_AHEAD = 8, /* it was made more than `ahead` seconds past `now`. It counts as a claim, and nobody that sees it as early
-                                    accepts it */
+    SVID_FATE_TOO_FAR_AHEAD = 8, /* it was made after the record's moment, and more than `ahead` seconds past `now`. It counts as a claim, and
+                                    nobody that sees it as early accepts it */
     SVID_FATE_EXPIRED = 118,     /* it has expired */
     SVID_FATE_WITHDRAWN = 124,   /* the token was withdrawn */
-    SVID_FATE_REPLAYED = 125     /* the record has a use of the token, or a claim in front of it in the log has its key */
+    SVID_FATE_REPLAYED = 125     /* the record has a use of the token, or a claim beside the record, which stands in front of it in the log, has
+                                    its key */
 };
 
 /* How a value follows on those that were read. */
 enum svid_orders {
-    SVID_ORDER_AGAIN = 0,  /* it was read before; nothing happened */
+    SVID_ORDER_AGAIN = 0,  /* it was read before; nothing happened. Also where the status says that nothing was read */
     SVID_ORDER_NEXT = 1,
-    SVID_ORDER_GAP = 2     /* values in front of it are missing: the validator is deaf for `lasts` seconds */
+    SVID_ORDER_GAP = 2     /* values in front of it are missing: the validator is deaf for `lasts` seconds, from `now` or from the record's moment,
+                              whichever is later */
 };
 
 /* Where a validator is in a log. At the start `begun` and `deaf` are 0, and `passed` is the position of the last value in front of the first
@@ -563,13 +583,24 @@ uint32_t svid_validator_log(svid_validator *v, const svid_mark *mark, uint64_t r
 /* Reads the value at `position` of the log, with all its bytes. Positions are counted from 1, without gaps. The validator goes on where it
  * stopped in the value, and writes each use that it reads to `out`, with its fate. `out` has room for `out_len` entries.
  *
- * SVID_OK: the value is read to its end, or was before. SVID_TOO_SHORT: `out` is full, and uses are left. SVID_NO_MEMORY: uses are left, too.
- * After these two, call again with the same value: the validator goes on. SVID_MAGIC to SVID_TRUNCATED, with `offset` told and not `message`: the
- * value is no row of messages, so it has no uses, for every validator alike, and it is read to its end. SVID_NO_LOG.
+ * Before each use, the call advances the record to `now`, and to the time of that use unless it is too far ahead. So a value without a use to read
+ * advances nothing. `now` 0 advances nothing by itself.
  *
- * The call first advances the record to `now`, and to the time of each use that is not too far ahead. SVID_JUMP: call again with `now` 0, which
- * advances nothing. SVID_JUMP also if values are missing in front of this one and `now` is 0: a gap wants a clock. `reading` is always written.
- * `out` stays as it was behind the first `reading->count` entries. */
+ * The status is the first of these that holds:
+ * - SVID_CLOSED.
+ * - SVID_JUMP, by `step`: call again with `now` 0.
+ * - SVID_NO_LOG.
+ * - SVID_JUMP: values are missing in front of this one, and `now` is 0. A gap wants a clock.
+ * - SVID_NO_MEMORY: there was none to read the bytes. In all cases up to here nothing happened, and `reading` is all 0.
+ * - SVID_MAGIC to SVID_TRUNCATED, with `offset` told and not `message`: the value is no row of messages. So it has no uses, for every validator
+ *   alike, and is read to its end.
+ * - SVID_TOO_SHORT: `out` is full, and uses are left. SVID_NO_MEMORY: uses are left too. After these two, call again with the same value: the
+ *   validator goes on.
+ * - SVID_OK: the value is read to its end.
+ * A value at a position that was read before is read no more: nothing happens, `reading` is all 0 (SVID_ORDER_AGAIN), and the status is that of
+ * its bytes, so SVID_OK, or SVID_MAGIC to SVID_TRUNCATED.
+ *
+ * `reading` is always written. `out` stays as it was behind the first `reading->count` entries. */
 uint32_t svid_validator_read(svid_validator *v, uint64_t now, uint64_t position, const uint8_t *value, size_t value_len,
                              svid_fate *out, size_t out_len, svid_reading *reading, svid_told *told);
 
@@ -581,9 +612,64 @@ uint32_t svid_validator_mark(svid_validator *v, svid_mark *mark, svid_told *told
  * time. SVID_NO_LOG. */
 uint32_t svid_validator_go_on(svid_validator *v, svid_told *told);
 
-/* Writes the claims beside the record as messages: those of the log that count, and that the record has not. Save them with the mark and the
+/* Writes the uses beside the record as messages: those of the log that counted when they were read, and that the record did not gain then. Some may
+ * have expired since, and messages may have brought some to the record since: both do no harm in a save. Save them with the mark and the
  * record of the same moment. SVID_NO_LOG. */
 uint32_t svid_validator_beside(svid_validator *v, uint8_t *out, size_t out_len, svid_told *told);
+
+/* ---- Claims in a store ----
+ *
+ * Validators that share a *store* accept a token once in the whole group, and tell each other nothing. The store keeps one entry for each token
+ * key: the first that was put there. An entry is an *owner*: 32 bytes that say whose claim it is. No call here takes memory.
+ *
+ * What the store does:
+ *   - A put answers the owner that the key has afterwards: the one that was put, or that of an earlier put. Puts of one key never overlap.
+ *   - It keeps an entry until svid_claim_until has passed by its own clock. Nobody else removes one.
+ *   - Each answer has the store's time, read at the put or after it, and its `deaf`. `deaf` was the same before the put and after it.
+ *   - Before it answers a put again after it may have lost entries, it replaces `deaf` by svid_claim_deaf. At first `deaf` is 0.
+ *
+ * To check a token:
+ *   1. svid_validator_judge refuses the token, or tells its key and expiry in `used`.
+ *   2. Put the owner of svid_claim_owner under that key.
+ *   3. Give the answer to svid_claim_outcome, at the moment of svid_claim_moment. If that is SVID_OK, make svid_validator_check, which adds the use:
+ *      accept the token if that is SVID_OK too. A second answer to the claim then finds the token SVID_REPLAYED.
+ *   4. If no answer comes, put the same owner again.
+ *
+ * To accept a token any number of times, but from one caller, put the owner of svid_claim_owner_of_caller, and accept at SVID_OK of
+ * svid_claim_outcome. To withdraw a token, put 32 zeros under its key. If the answer is another owner, the token was used already. */
+
+/* Writes the owner that a life of a validator claims a token for which expires at `exp`. `life` is 16 random bytes: take new ones at each start,
+ * or the validator would accept tokens again after a restart. The owner begins with the validator ID. */
+void svid_claim_owner(const uint8_t validator_id[16], const uint8_t life[16], uint64_t exp, uint8_t owner[32]);
+
+/* Writes the owner that every validator claims a token for which `caller` presents, and which expires at `exp`. `caller` is 32 bytes that tell the
+ * caller from all others, as a digest of its certificate. */
+void svid_claim_owner_of_caller(const uint8_t caller[32], uint64_t exp, uint8_t owner[32]);
+
+/* Writes the validator ID that an owner of svid_claim_owner begins with, so that people see who used a token. */
+void svid_claim_validator(const uint8_t owner[32], uint8_t validator_id[16]);
+
+/* Returns until when the store keeps the entry of a token that expires at `exp`: `exp` + `margin`, or UINT64_MAX if that is greater. `margin` is at
+ * least the `ahead` of svid_claim_moment plus how many seconds the store's clock may ever step back. */
+uint64_t svid_claim_until(uint64_t exp, uint64_t margin);
+
+/* Returns the `deaf` of a store after it may have lost entries: the greater of `before`, its `deaf` until then, and `time` + `lasts` (or
+ * UINT64_MAX if that is greater). `time` is no less than the time of any answer before the loss: the store's time at the end, plus how many seconds
+ * its clock may ever step back. `lasts` is that of svid_claim_outcome, or more. */
+uint64_t svid_claim_deaf(uint64_t time, uint64_t lasts, uint64_t before);
+
+/* Returns the moment at which to judge an answer with this time: `now`, or `time` - `ahead` if that is greater. `now` is the greater of the clock and
+ * of the record's moment. Do not advance the record to what this returns: a store whose clock is wrong would expire all its uses. */
+uint64_t svid_claim_moment(uint64_t now, uint64_t time, uint64_t ahead);
+
+/* Says what becomes of a claim, which put `owner` for a token that expires at `exp`. `found_owner`, `time` and `deaf` are the store's answer: an
+ * answer to any put of the key, even a late one. `lasts` is how many seconds past the store's time a token may expire: the longest life of a
+ * token, plus what two clocks may differ.
+ *
+ * SVID_OK: the token is accepted. Else the first of SVID_CLAIM_WITHDRAWN, SVID_CLAIM_TAKEN, SVID_CLAIM_FAR, SVID_CLAIM_DEAF and SVID_CLAIM_EXPIRED
+ * that holds. */
+uint32_t svid_claim_outcome(const uint8_t owner[32], uint64_t exp, const uint8_t found_owner[32], uint64_t time, uint64_t deaf,
+                            uint64_t lasts, uint64_t moment);
 
 /* ---- Trust bundles that you keep ----
  *
@@ -612,17 +698,24 @@ typedef struct {
 } svid_document;
 
 /* Joins documents of trust bundles to one JSON text, as the other calls take bundles: an object from trust domain names to JWK Sets.
- * `bytes` are the name and the text of each document, one after the other.
+ * `bytes` are the name and the text of each document, one after the other. A JWK Set has a list, or null, as its `keys`. Of a text whose
+ * `keys` is 1 in `documents`, that list alone is kept.
  *
- * SVID_BUNDLES_LENGTHS if the lengths of the documents do not add up to `bytes_len`. SVID_BUNDLES_NOT_OBJECT: a document is no JSON object.
- * SVID_BUNDLES_UNNAMED: it is the bundle of one trust domain, and has no name. SVID_BUNDLES_DOMAIN, SVID_BUNDLES_KEYS and SVID_BUNDLES_TWICE:
- * one of its names is no trust domain name, has no list of keys, or is in an earlier document. `told->input` is the number of the first
- * faulty document, counted from 1, and `told->offset` that of the name among all its names in rising order of their bytes, counted from 0. */
+ * SVID_BUNDLES_LENGTHS if the lengths of the documents do not add up to `bytes_len`. SVID_BUNDLES_NOT_OBJECT: a document is no JSON object, or
+ * its objects and lists nest more than 127 deep; what is kept of the bundle of one trust domain may nest 126 deep. SVID_BUNDLES_UNNAMED: it has
+ * no name, and is the bundle of one trust domain, since its own `keys` is a list or null. SVID_BUNDLES_DOMAIN, SVID_BUNDLES_KEYS and
+ * SVID_BUNDLES_TWICE: one of its names is no trust domain name, has neither a list nor null as `keys`, or is in an earlier document.
+ * `told->input` is the number of the first faulty document, counted from 1, and `told->offset` that of the name among all its names in rising
+ * order of their bytes, counted from 0. A name that is not UTF-8 (SVID_BUNDLES_DOMAIN) is answered before any other fault.
+ *
+ * SVID_TOO_SHORT. SVID_NO_MEMORY: `told->input` is the number of the document that was being read, or 0 if none was. Unless the status is
+ * SVID_OK, `out` stays as it was. The documents and the text may be longer than SVID_INPUT_MOST; a call that reads the text then refuses it. */
 uint32_t svid_bundles_join(const uint8_t *bytes, size_t bytes_len, const svid_document *documents, size_t documents_len,
                            uint8_t *out, size_t out_len, svid_told *told);
 
-/* Opens a closed handle: reads trust bundles, as for svid_validator_open. SVID_IS_OPEN: the handle stays as it was. SVID_TOO_MUCH and
- * SVID_BUNDLES_NOT_OBJECT to SVID_BUNDLES_KEYS: the handle stays closed. */
+/* Opens a closed handle: reads trust bundles, as for svid_validator_open. SVID_IS_OPEN: the handle stays as it was. SVID_TOO_MUCH,
+ * SVID_NO_MEMORY and SVID_BUNDLES_NOT_OBJECT to SVID_BUNDLES_KEYS: the handle stays closed. The bundles are no object also if they nest more
+ * than 127 deep, and `keys` may be null: then the trust domain has no key. */
 uint32_t svid_bundles_open(svid_bundles *b, const uint8_t *bundles, size_t bundles_len, svid_told *told);
 
 /* Closes a handle, and frees all that it holds. Does nothing to a closed one. */
@@ -637,7 +730,8 @@ uint32_t svid_bundles_ask(svid_bundles *b, const uint8_t *token, size_t token_le
 
 /* Writes the question of the row with this number to `asked`: it hashes the token once. The question is that of svid_validator_ask.
  * SVID_TOO_LONG to SVID_JTI, SVID_UNKNOWN_DOMAIN and SVID_NO_KEY if the token is refused already. SVID_NO_KEY also if there is no such row:
- * `number` is less than the number of keys that may have signed the token. Unless the status is SVID_OK, `asked` stays as it was. */
+ * `number` is less than the number of keys that may have signed the token. SVID_CLOSED; SVID_NO_MEMORY. Unless the status is SVID_OK, `asked`
+ * stays as it was. */
 uint32_t svid_bundles_question(svid_bundles *b, const uint8_t *token, size_t token_len, size_t number,
                                svid_question *asked, svid_told *told);
 
@@ -701,7 +795,9 @@ typedef struct {
     uint64_t pieces;    /* how many pieces of a snapshot were handed out */
 } svid_folder;
 
-/* 16 bytes that tell a state folder from each other one. Take random ones when you make the folder, and keep them in it. */
+/* 16 bytes that tell a state folder from each other one. Take random ones when you make the folder, and keep them in it. While neither a
+ * snapshot nor a journal is there, each start syncs the folder above, writes these bytes to a new file, syncs it, renames it to the name that
+ * it keeps, and syncs the folder. It ends if one of these calls fails: no later sync vouches for a name whose sync failed. */
 typedef struct {
     uint8_t bytes[16];
 } svid_folder_id;
@@ -999,6 +1095,11 @@ static inline const char *svid_strstatus(uint32_t status) {
     case SVID_FILE_TEAR: return "SVID_FILE_TEAR";
     case SVID_FILE_DAMAGE: return "SVID_FILE_DAMAGE";
     case SVID_FILE_OTHER: return "SVID_FILE_OTHER";
+    case SVID_CLAIM_WITHDRAWN: return "SVID_CLAIM_WITHDRAWN";
+    case SVID_CLAIM_TAKEN: return "SVID_CLAIM_TAKEN";
+    case SVID_CLAIM_FAR: return "SVID_CLAIM_FAR";
+    case SVID_CLAIM_DEAF: return "SVID_CLAIM_DEAF";
+    case SVID_CLAIM_EXPIRED: return "SVID_CLAIM_EXPIRED";
     case SVID_ENTRY_NOT_OBJECT: return "SVID_ENTRY_NOT_OBJECT";
     case SVID_ENTRY_NO_USE: return "SVID_ENTRY_NO_USE";
     case SVID_ENTRY_X509: return "SVID_ENTRY_X509";
@@ -1117,6 +1218,11 @@ static inline const char *svid_strsentence(uint32_t status) {
     case SVID_FILE_TEAR: return "A write was cut off: nobody was told that it is on the disk.";
     case SVID_FILE_DAMAGE: return "What was synced here has changed.";
     case SVID_FILE_OTHER: return "A frame of another format stands here.";
+    case SVID_CLAIM_WITHDRAWN: return "The entry says that the token was withdrawn.";
+    case SVID_CLAIM_TAKEN: return "The entry is another's, so the token was used.";
+    case SVID_CLAIM_FAR: return "The token expires more than lasts seconds past the store's time. Set the store's clock right.";
+    case SVID_CLAIM_DEAF: return "The token may have been claimed before the store lost entries. Present a token that was issued later.";
+    case SVID_CLAIM_EXPIRED: return "The token has expired.";
     case SVID_ENTRY_NOT_OBJECT: return "The entry is no JSON object.";
     case SVID_ENTRY_NO_USE: return "The entry has no use, which must be \"jwt-svid\".";
     case SVID_ENTRY_X509: return "The entry is for X.509-SVIDs.";
@@ -1191,8 +1297,8 @@ typedef int (*svid_verify)(void *context, const uint8_t *alg, size_t alg_len, co
 static inline uint32_t svid_validator_verify(svid_validator *v, uint64_t now, const uint8_t *token, size_t token_len,
                                              svid_verify verify, void *context, uint8_t *rows, size_t rows_len,
                                              uint8_t *out, size_t out_len, svid_use *used, svid_told *told) {
-    const uint8_t *field[2], *key = NULL;
-    size_t at = 4, end, len[2], key_len = 0, n;
+    const uint8_t *field[2], *key = NULL, *signature = NULL;
+    size_t at = 4, end, len[2], key_len = 0, signature_len = 0, input_len = 0, n;
     svid_token read = SVID_TOKEN_CLOSED;
     uint32_t status = svid_token_open(&read, token, token_len, told);
     /* A token that can't be read is refused all the same by a check, which also advances the record. */
@@ -1204,16 +1310,18 @@ static inline uint32_t svid_validator_verify(svid_validator *v, uint64_t now, co
     }
     /* Where no key may have signed the token, the check answers the first refusal that holds, which may be another. */
     end = status == SVID_OK ? told->len : 0;
+    if (end > 0) input_len = (size_t)rows[0] << 24 | (size_t)rows[1] << 16 | (size_t)rows[2] << 8 | rows[3];
     /* The first field is the signature. Behind it, each two are an algorithm and a key. */
     for (n = 0; at < end && key == NULL; n++) {
         len[n % 2] = (size_t)rows[at] << 24 | (size_t)rows[at + 1] << 16 | (size_t)rows[at + 2] << 8 | rows[at + 3];
         field[n % 2] = rows + at + 4;
         at += 4 + len[n % 2];
+        if (n == 0) signature = field[0], signature_len = len[0];
         if (n == 0 || n % 2 == 1) continue;
         if (verify(context, field[1], len[1], field[0], len[0], token, token_len) <= 0) continue;
         key = field[0], key_len = len[0];
     }
-    status = svid_validator_check_token(v, now, key, key_len, &read, out, out_len, used, told);
+    status = svid_validator_check_token(v, now, key, key_len, token, input_len, signature, signature_len, &read, out, out_len, used, told);
     svid_token_close(&read);
     return status;
 }

@@ -12,7 +12,6 @@ declare global {
   // (what TypeScript 5.2 and the types of Node declare in the same words)
   interface SymbolConstructor {
     readonly dispose: unique symbol;
-    readonly asyncDispose: unique symbol;
   }
 }
 
@@ -66,18 +65,6 @@ export interface ValidatorOptions extends BundlesOptions {
   validatorId?: Uint8Array;
 }
 
-/** What `Member.open` takes. */
-export interface MemberOptions extends ValidatorOptions {
-  /** The log of the group. */
-  log: Log;
-  /** How many seconds a token may still live. Uses stay in the log for so long, and for twice `ahead`. All members have the same two. */
-  longest: Seconds;
-  /** For how many seconds a check waits for the log, until it throws `Unavailable`. By default 2. */
-  wait?: number;
-  /** Is told what is wrong with the log, each kind of fault once in a minute at the most. By default `console.warn`. */
-  onWarning?: (text: string) => void;
-}
-
 /** One entry of a record: a token was accepted, or withdrawn. */
 export interface Use {
   /** When the token expires. The entry is dropped then. */
@@ -126,10 +113,13 @@ export interface Says {
   readonly expires: bigint;
 }
 
-/** What the header fields Authorization of a request bear: a token, or none. `spelling` says whether the scheme is Bearer, and the rest no token. */
+/**
+ * What the header fields Authorization of a request bear: a token, or none. `several` says whether there is more than one field, and `spelling`
+ * whether the scheme is Bearer, and the rest no token.
+ */
 export type Bearer =
-  | { readonly token: Uint8Array; readonly spelling?: undefined }
-  | { readonly token?: undefined; readonly spelling: boolean };
+  | { readonly token: Uint8Array; readonly several?: undefined; readonly spelling?: undefined }
+  | { readonly token?: undefined; readonly several: boolean; readonly spelling: boolean };
 
 /**
  * Judges tokens by bundles, without a record: a token is never `Withdrawn` or `Replayed`.
@@ -214,64 +204,6 @@ export class Validator {
   close(): void;
   /** Does what `close` does, where the platform has this symbol. */
   [Symbol.dispose](): void;
-}
-
-/**
- * What `Member` wants of a log: values in one order, which all members read.
- *
- * Values have positions that are counted from 1 without gaps. A log keeps a value for at least `longest` plus twice `ahead` seconds of its
- * members. Each call may throw, and then it is made again. No call may wait without end.
- */
-export interface Log {
-  /**
-   * The position before the first value that the log has, and that of the last value; both are 0 in a log that never had any. Throw
-   * `UnfitLog` where no member may join.
-   */
-  bounds(): Promise<readonly [bigint | number, bigint | number]>;
-  /** Puts a value after all others, and returns once it is there to stay. Where that is not known, throw: it is put again. It may be there twice. */
-  append(value: Uint8Array): Promise<void>;
-  /**
-   * Values after this position, in their order, each with its own position. Where there are none, wait for `wait` seconds at the most, and give
-   * none. Throw `OtherLog` where the log is another one than was read so far: it was lost, or an older copy was put back.
-   */
-  read(after: bigint, wait: number): Promise<Iterable<readonly [bigint | number, Uint8Array]>>;
-}
-
-/** A log in the memory of one process, for tests. It keeps all values. */
-export class MemoryLog implements Log {
-  bounds(): Promise<[bigint, bigint]>;
-  append(value: Uint8Array): Promise<void>;
-  read(after: bigint, wait: number): Promise<[bigint, Uint8Array][]>;
-}
-
-/**
- * A `Validator` of a group whose members read one log: each token is accepted once in all.
- *
- * Of the claims of a token that are in the log, the first counts. `check` puts a claim there, and returns once this member has read it and all in
- * front of it. It starts where the log is away, too. Until it has read the log, and whenever that is away, checks throw `Unavailable`.
- */
-export class Member extends Validator {
-  private constructor(ready: never);
-  /** Opens a member, and begins to read the log. Throws what `Validator.open` does, and `UnfitLog` where the log may lose values. */
-  static open(options: MemberOptions): Promise<Member>;
-  /** Accepts a token, once in the group. Throws `Unavailable` where the log does not say so in time: the token may be used up then. */
-  check(token: Token, now?: Seconds): Promise<Accepted>;
-  /**
-   * Answers what `check` would, but puts no claim into the log: `check` may still accept it. It does not wait: it answers by what this member has read
-   * of the log. Throws `Unavailable` until it has read what the log had at first, and while values are missing, since the token may have been used or
-   * withdrawn there.
-   */
-  judge(token: Token, now?: Seconds): Promise<Accepted>;
-  /** Whether it accepts tokens: it has read the log, and no value is missing that may live. */
-  readonly isReady: boolean;
-  /** Before this moment it accepts nothing: values are missing. */
-  readonly deafUntil: bigint;
-  /** Lets it accept tokens though values of the log are missing. A token whose claim was among them may be accepted twice. */
-  goOn(): void;
-  /** Ends the checks that wait, and frees the record. It may take a quarter of a second, and longer where the log does not answer. */
-  close(): Promise<void>;
-  /** Does what `close` does, where the platform has this symbol. */
-  [Symbol.asyncDispose](): Promise<void>;
 }
 
 /** A request, as Express and node:http have it. */
@@ -412,11 +344,6 @@ export class BadMessages extends SvidError {
   readonly offset: number;
 }
 
-/** Nobody accepts the token: the log did not keep its claim in time. Answer with status 503. The token may be used up all the same. */
-export class Unavailable extends SvidError {
-  constructor(message: string, options?: { cause?: unknown });
-}
-
 /** WebCrypto here, or your `verify`, could not say whether a key made the signature: see `cause`. Nothing was accepted. */
 export class Unverifiable extends SvidError {}
 
@@ -425,13 +352,3 @@ export class OutOfMemory extends SvidError {}
 
 /** The library has stopped, and this validator makes no other call. Open a new one, and let it take the record that you saved last. */
 export class Stopped extends SvidError {}
-
-/** The log may lose values while they live. The message says why, and what to change. A log of your own throws it. */
-export class UnfitLog extends SvidError {
-  constructor(message: string, options?: { cause?: unknown });
-}
-
-/** The log is another one than was read so far: values that were read may be gone. A log of your own throws it. */
-export class OtherLog extends SvidError {
-  constructor(message: string, options?: { cause?: unknown });
-}

@@ -22,7 +22,12 @@ RULES = {
     # base64url is read by the core: the parts of a token, the members of a key
     "base64url": (
         r"encoding/base64|RawURLEncoding|urlsafe_b64|binascii|\batob\(|\bbtoa\(|fn base64|util\.Base64|\"base64url\"|'base64url'|ABCDEFGHIJKLMNOPQRSTUVWXYZ",
-        {"page/src/page.js": "the module in the page is base64"},
+        {
+            "page/src/page.js": "the module in the page is base64",
+            "go/claims/nats/nats.go": "the subject of an entry has the key as base64url: no other letters may stand in a subject",
+            "go/claims/nats/ask.go": "an inbox has random letters that may stand in a subject",
+            "go/claims/nats/withdraw.go": "the subject of a withdrawal has the key as base64url too",
+        },
     ),
     # the first bytes of a message, and the lengths of its parts
     "messages": (

@@ -80,10 +80,10 @@ RUNS = {
     # a token that is read once
     "tokens": {
         "wrapped": "refused",
-        "bare": "answers guarded nulls renewed stack",
+        "bare": "answers guarded nulls renewed mixed stack",
         "musl": "stack",
-        "sanitized": "answers refused guarded nulls renewed",
-        "valgrind": "refused nulls renewed",
+        "sanitized": "answers refused guarded nulls renewed mixed",
+        "valgrind": "refused nulls renewed mixed",
     },
     # the entries of messages
     "entries": {

@@ -228,6 +228,16 @@ CHECKS = [
         f"{SPIRE} --trust-domain example.org/ --out kept ledger <token.txt; [ ! -e kept ]",
         prints("")[:1] + ("", "svid: bundles: Domain(0)\n"),
     ),
+    # each file is open before the first one is read, also where the trust domain of that is named
+    (f"{CHECK} --trust-domain example.org ledger <token.txt", faults("bundles: Keys(0)")),
+    (f"{CHECK.replace('table.txt', 'none')} --trust-domain example.org ledger <token.txt", stops("cannot open none")),
+    (f"{CHECK} --trust-domain example.org --record none ledger <token.txt", stops("cannot open none")),
+    (f"{CHECK} --trust-domain example.org --out none/kept ledger <token.txt", stops("cannot open none/kept")),
+    (rf"{CHECK} --trust-domain $'\xff' --record none ledger <token.txt", stops("cannot open none")),
+    (
+        f"echo as before >kept; {CHECK} --trust-domain example.org --out kept ledger <token.txt; cat kept",
+        prints("as before\n")[:2] + ("svid: bundles: Keys(0)\n",),
+    ),
     (f"{CHECK} $(cat many) ledger <token.txt", prints(ACCEPTED)),
     (f"{CHECK} $(cat many) <token.txt", refuses("refused NotAudience\n")),
     (f"svid merge {'two-uses.batch ' * 251} {MANY[250]}", stops(f"cannot open {MANY[250]}")),

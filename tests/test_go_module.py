@@ -16,8 +16,8 @@ MODULE = "svid.example/go/v2"
 VENDOR = TOP / "go/vendor"
 README = (TOP / "go/README.md").read_text()
 SERVICE = re.search(r"^## A service\n.*?^```go\n(.*?)^```$", README, re.M | re.S)[1]
-ALL = ("guard", "svid", "svidhttp", "bundles", "journal", "carriers", "carriers/redis", "carriers/memory")
-OTHERS = ("carriers/postgres", "carriers/jetstream", "workload")
+ALL = ("guard", "svid", "svidhttp", "bundles", "journal", "claims", "claims/memory", "claims/claimstest", "carriers")
+OTHERS = ("claims/redis", "claims/postgres", "claims/nats", "carriers/jetstream", "workload")
 
 
 def version():

@@ -32,6 +32,7 @@ PREFIXES = {
     "NoBearer": "BEARER_",
     "KeyFault": "KEY_",
     "EntryFault": "ENTRY_",
+    "Outcome": "CLAIM_",
 }
 LISTS = ("Reason", "Refusal", *PREFIXES)
 # What stands in these lists but has the name or the number of another one.
@@ -79,8 +80,11 @@ STRUCTURES = {
 }
 # Other languages have a question as its bytes.
 OF_ALL = [name for name in STRUCTURES if name != "SvidQuestion"]
-DECLARED = dict(re.findall(r"^(?:uint32_t|void) (svid_\w+)\(([^)]*)\);", HEADER, re.M))
-EXPORTED = dict(re.findall(r"#\[unsafe\(no_mangle\)\]\npub extern \"C\" fn (\w+)\(([^)]*)\)(?: -> u32)?\n", SOURCE))
+DECLARED = {name: (result, given) for result, name, given in re.findall(r"^(void|uint32_t|uint64_t) (svid_\w+)\(([^)]*)\);", HEADER, re.M)}
+EXPORTED = {
+    name: (result, given)
+    for name, given, result in re.findall(r"#\[unsafe\(no_mangle\)\]\npub extern \"C\" fn (\w+)\(([^)]*)\)(?: -> (u32|u64))?\n", SOURCE)
+}
 
 
 def defined(name):
@@ -130,6 +134,8 @@ def in_c(field, kind):
         return []
     if not kind.startswith("&"):
         return [TYPES[kind][0].format(field)]
+    if re.fullmatch(r"\[u8; \d+\]", lent):
+        return [const + TYPES[lent][0].format(field)]
     if lent in lists or lent.startswith("[Svid"):
         return [f"{const}{lists.get(lent) or snake(lent[1:-1])} *{field}", f"size_t {field}_len"]
     return [f"{const}{snake(lent)} *{field}"]
@@ -137,8 +143,14 @@ def in_c(field, kind):
 
 @pytest.mark.parametrize("name", EXPORTED)
 def test_the_parameters_of_a_function(name):
-    due = [it for field, kind in re.findall(r"(\w+): ([^,]+)", EXPORTED[name]) for it in in_c(field, kind)]
-    assert [" ".join(it.split()) for it in DECLARED[name].split(",")] == (due or ["void"])
+    due = [it for field, kind in re.findall(r"(\w+): ([^,]+)", EXPORTED[name][1]) for it in in_c(field, kind)]
+    assert [" ".join(it.split()) for it in DECLARED[name][1].split(",")] == (due or ["void"])
+
+
+@pytest.mark.parametrize("name", EXPORTED)
+def test_the_result_of_a_function(name):
+    result = EXPORTED[name][0]
+    assert DECLARED[name][0] == (TYPES[result][0].format("").strip() if result else "void")
 
 
 def numbers():

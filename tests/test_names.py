@@ -81,7 +81,7 @@ def test_no_name_has_the_word_place(language):
 # What others call so: promises and assertions of JavaScript, rights in SQL, a setting of Envoy, and a call of browsers.
 OTHERS_WORDS = re.compile(
     r"\bPromise\.reject\b|\bassert\.rejects\b|(?<=[ {(])reject(?=[,); ])|\breject\("
-    r"|\bREVOKE ALL ON\b|\bREJECT_REQUEST\b|\brevokeObjectURL\b|\bunhandledRejection\b"
+    r"|\bREVOKE (ALL|EXECUTE) ON\b|\bREJECT_REQUEST\b|\brevokeObjectURL\b|\bunhandledRejection\b"
 )
 
 

@@ -66,7 +66,7 @@ static void check(svid_validator *v, const uint8_t *token, size_t len, size_t tu
     const uint8_t *key = rows + 4; /* behind how many bytes are signed: the signature, an algorithm, and the key */
     for (int field = 0; field < 2; field++) key += 4 + number_at(key);
     from = clock_ns();
-    status = svid_validator_check_token(v, NOW, key + 4, number_at(key), &read, id, sizeof id, &used, &told);
+    status = svid_validator_check_token(v, NOW, key + 4, number_at(key), token, number_at(rows), rows + 8, number_at(rows + 4), &read, id, sizeof id, &used, &told);
     svid_token_close(&read);
 #else
     svid_question yes[SVID_MOST_CANDIDATES];

@@ -7,6 +7,9 @@
 // A source that can't be read, or gives no bundle, changes nothing: the last good bundle stays, and the log says so.
 // Only a file that is gone from a folder takes its trust domain with it, and so does a Workload API that names a trust
 // domain no more.
+//
+// A bundle has at most 1 MiB, and 32,768 of the brackets { and [. All bundles together have at most 4 MiB, where each of these
+// brackets counts as 32 bytes more: the heaviest are passed over beyond that, and the log says so.
 package bundles
 
 import (
@@ -28,6 +31,8 @@ import (
 	"sync/atomic"
 	"syscall"
 	"time"
+
+	"svid.example/go/v2/internal/brief"
 )
 
 const (
@@ -37,8 +42,9 @@ const (
 	mostIdle      = 100              // connections that stay open for the next look
 	idleWait      = 90 * time.Second // so long
 	handshakeWait = 10 * time.Second
-	mostSaid      = 16 // entries of one bundle that are logged each by itself
-	mostJudged    = 64 // entries of one bundle that Options.Unusable is asked about
+	mostHeader    = 1 << 16 // bytes of the header of an answer
+	mostSaid      = 16      // entries of one bundle that are logged each by itself
+	mostJudged    = 64      // entries of one bundle that Options.Unusable is asked about
 )
 
 // Options say what Watch needs beside its sources. Each field may be left out.
@@ -87,7 +93,10 @@ type Watcher struct {
 type bundle struct {
 	document json.RawMessage
 	source   string
-	good     time.Time // when its source last gave a good bundle
+	good     time.Time     // when its source last gave a good bundle
+	refresh  time.Duration // how long it is good before it is asked for again
+	weight   int
+	isOver   bool // all bundles together are too heavy, so it does not count
 }
 
 // Watch reads the files and folders of the specs, begins to ask the addresses, and goes on until ctx ends.
@@ -141,20 +150,22 @@ func (w *Watcher) Reload() {
 }
 
 // Age is how long ago the source of a trust domain last gave a good bundle. It grows while the source is unwell. ok is
-// false where there is no bundle.
+// false where there is no bundle that counts.
 func (w *Watcher) Age(domain string) (age time.Duration, ok bool) {
 	age, ok = w.Ages()[domain]
 	return age, ok
 }
 
-// Ages is Age of every trust domain that has a bundle.
+// Ages is Age of every trust domain that has a bundle that counts.
 func (w *Watcher) Ages() map[string]time.Duration {
 	w.mu.Lock()
 	defer w.mu.Unlock()
 	w.stillGood()
 	now, ages := time.Now(), map[string]time.Duration{}
 	for domain, b := range w.held {
-		ages[domain] = now.Sub(b.good)
+		if !b.isOver {
+			ages[domain] = now.Sub(b.good)
+		}
 	}
 	return ages
 }
@@ -336,11 +347,11 @@ func (w *Watcher) fetch(ctx context.Context, s Spec) ([]byte, error) {
 	}
 	answer, err := client.Do(request)
 	if err != nil {
-		return nil, err
+		return nil, notAsked(err)
 	}
 	defer answer.Body.Close()
 	if answer.StatusCode != http.StatusOK {
-		return nil, fmt.Errorf("it answers %s", answer.Status)
+		return nil, fmt.Errorf("it answers %s", brief.Text(answer.Status, mostOfAnswer))
 	}
 	return readAll(answer.Body)
 }
@@ -350,7 +361,7 @@ func (w *Watcher) fetch(ctx context.Context, s Spec) ([]byte, error) {
 // what the server sends.
 func httpsOnly(roots *x509.CertPool) *http.Client {
 	transport := &http.Transport{
-		Proxy: http.ProxyFromEnvironment, MaxIdleConns: mostIdle, IdleConnTimeout: idleWait,
+		Proxy: http.ProxyFromEnvironment, MaxIdleConns: mostIdle, IdleConnTimeout: idleWait, MaxResponseHeaderBytes: mostHeader,
 		TLSHandshakeTimeout: handshakeWait, TLSClientConfig: &tls.Config{RootCAs: roots, MinVersion: tls.VersionTLS12},
 	}
 	transport.DialTLSContext = func(ctx context.Context, network, address string) (net.Conn, error) {
@@ -358,7 +369,7 @@ func httpsOnly(roots *x509.CertPool) *http.Client {
 	}
 	return &http.Client{Transport: transport, CheckRedirect: func(next *http.Request, before []*http.Request) error {
 		if next.URL.Scheme != "https" || len(before) > mostRedirects {
-			return fmt.Errorf("it leads to %s", next.URL)
+			return fmt.Errorf("it leads to %s", brief.Text(next.URL.String(), mostOfAnswer))
 		}
 		return nil
 	}}
@@ -396,6 +407,13 @@ func dialTLS(ctx context.Context, network, address string, config *tls.Config) (
 // judge puts what a source gave in the place of its last good bundle, if it is one. It returns whether that is another
 // one than before, and how long to wait before the source is asked again.
 func (w *Watcher) judge(domain, source string, text []byte, err error) (wait time.Duration, changed bool) {
+	if err == nil {
+		if wait, is := w.isHeld(domain, source, text); is {
+			w.fault(source, nil)
+			return wait, false
+		}
+		err = bearable(text)
+	}
 	var d document
 	if err == nil {
 		d, err = parse(text)
@@ -409,13 +427,33 @@ func (w *Watcher) judge(domain, source string, text []byte, err error) (wait tim
 	w.mu.Lock()
 	defer w.mu.Unlock()
 	last := w.held[domain]
-	changed = last == nil || !bytes.Equal(last.document, text)
-	w.held[domain] = &bundle{text, source, time.Now()}
+	changed = !last.has(text)
+	b := &bundle{document: text, source: source, good: time.Now(), refresh: d.refresh(), weight: weight(text)}
+	if !changed {
+		b.isOver = last.isOver
+	}
+	w.held[domain] = b
 	if changed {
 		w.say(domain, source, d)
 	}
-	return d.refresh(), changed
+	return b.refresh, changed
 }
+
+// isHeld says whether a source gave its last good bundle again. That is as good as new, and is not judged again: to read it takes
+// memory.
+func (w *Watcher) isHeld(domain, source string, text []byte) (wait time.Duration, is bool) {
+	w.mu.Lock()
+	defer w.mu.Unlock()
+	b := w.held[domain]
+	if !b.has(text) || b.source != source {
+		return 0, false
+	}
+	b.good = time.Now()
+	return b.refresh, true
+}
+
+// has says whether it is this bundle. A bundle that is nil is none.
+func (b *bundle) has(text []byte) bool { return b != nil && bytes.Equal(b.document, text) }
 
 // errNoKeys: a bundle verifies no token.
 var errNoKeys = errors.New(`no entry of it has the use "jwt-svid", so no token of this trust domain can be accepted`)
@@ -428,7 +466,7 @@ var errNoGoodKeys = errors.New("no key of it can be used, so no token of this tr
 func (w *Watcher) say(domain, source string, d document) {
 	keys, over, said := 0, 0, map[[sha256.Size]byte]bool{}
 	none := errNoKeys
-	for i, entry := range d.Keys {
+	d.each(func(i int, entry json.RawMessage) {
 		why := passedOver(entry)
 		if why == "" && i < mostJudged && w.options.Unusable != nil {
 			if why = w.options.Unusable(entry); why != "" {
@@ -437,16 +475,16 @@ func (w *Watcher) say(domain, source string, d document) {
 		}
 		if why == "" {
 			keys++
-			continue
+			return
 		}
 		if over++; over > mostSaid {
-			continue
+			return
 		}
 		name := sha256.Sum256(entry)
 		if said[name] = true; !w.said[domain][name] {
 			w.log("key passed over", "domain", domain, "source", source, "entry", i, "why", why)
 		}
-	}
+	})
 	w.said[domain] = said
 	w.log("bundle read", "domain", domain, "source", source, "keys", keys, "passed_over", over)
 	if keys == 0 {
@@ -459,6 +497,7 @@ func (w *Watcher) fault(source string, err error) {
 	w.mu.Lock()
 	defer w.mu.Unlock()
 	last := w.faults[source]
+	err = brief.Error(err) // (a source may have said much)
 	switch {
 	case err == nil && last != "":
 		delete(w.faults, source)
@@ -480,10 +519,7 @@ func (w *Watcher) tell() {
 	w.telling.Lock()
 	defer w.telling.Unlock()
 	w.mu.Lock()
-	all := make(map[string]json.RawMessage, len(w.held))
-	for domain, b := range w.held {
-		all[domain] = b.document
-	}
+	all := w.fitting()
 	w.mu.Unlock()
 	why := ""
 	err := w.onChange(all)

@@ -1,6 +1,7 @@
 package bundles
 
 import (
+	"bytes"
 	"encoding/json"
 	"errors"
 	"fmt"
@@ -11,16 +12,15 @@ import (
 	"svid.example/go/v2/svid"
 )
 
-// mostDocument is how many bytes a bundle has at the most. One of SPIRE has 2,000 for each key and certificate; and JSON
-// that means no good takes more than a hundred times its length in memory, for each processor.
+// mostDocument is how many bytes a bundle has at the most. One of SPIRE has 2,000 for each key and certificate.
 const mostDocument = 1 << 20
 
 var errTooLong = fmt.Errorf("it has more than %d bytes", mostDocument)
 
 // A document is what of a bundle this package looks at.
 type document struct {
-	Keys        []json.RawMessage `json:"keys"`
-	RefreshHint json.Number       `json:"spiffe_refresh_hint"`
+	keys json.RawMessage // a list, or null
+	hint json.Number     // spiffe_refresh_hint
 }
 
 // parse reads a bundle: a JSON object whose member keys is a list, or null.
@@ -39,13 +39,51 @@ func parse(text []byte) (document, error) {
 	if !there {
 		return document{}, errors.New(`it has no member "keys"`)
 	}
-	var d document
-	if err := json.Unmarshal(keys, &d.Keys); err != nil {
+	d := document{keys: bytes.TrimSpace(keys)}
+	if d.keys[0] != '[' && d.keys[0] != 'n' {
 		return document{}, errors.New(`its member "keys" is no list`)
 	}
 	// A hint that is no number is as good as none.
-	_ = json.Unmarshal(members["spiffe_refresh_hint"], &d.RefreshHint)
+	_ = json.Unmarshal(members["spiffe_refresh_hint"], &d.hint)
 	return d, nil
+}
+
+// each calls do for each entry of keys, in their order. (To decode them all takes a hundred times the memory of the shortest, and
+// one after the other, seconds.)
+func (d document) each(do func(number int, entry json.RawMessage)) {
+	if d.keys[0] != '[' {
+		return // It is null.
+	}
+	list := d.keys[1 : len(d.keys)-1]
+	for number := 0; len(bytes.TrimSpace(list)) > 0; number++ {
+		end := firstEnd(list)
+		do(number, json.RawMessage(bytes.TrimSpace(list[:end])))
+		if end == len(list) {
+			return
+		}
+		list = list[end+1:]
+	}
+}
+
+// firstEnd is where the first entry of a list ends: at a comma outside of texts and brackets, or at the end. The list is JSON.
+func firstEnd(list []byte) int {
+	depth, isText := 0, false
+	for i := 0; i < len(list); i++ {
+		switch c := list[i]; {
+		case isText && c == '\\':
+			i++
+		case c == '"':
+			isText = !isText
+		case isText:
+		case c == '[' || c == '{':
+			depth++
+		case c == ']' || c == '}':
+			depth--
+		case c == ',' && depth == 0:
+			return i
+		}
+	}
+	return len(list)
 }
 
 // Between two looks at an address. The hint of a bundle is followed within these bounds; without one SPIFFE recommends
@@ -58,7 +96,7 @@ const (
 
 // refresh is how long a bundle is good before it is asked for again.
 func (d document) refresh() time.Duration {
-	hint, err := d.RefreshHint.Int64()
+	hint, err := d.hint.Int64()
 	switch {
 	case err != nil || hint <= 0:
 		return usualRefresh

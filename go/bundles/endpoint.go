@@ -8,9 +8,11 @@ import (
 	"errors"
 	"fmt"
 	"net/http"
+	"net/url"
 	"strings"
 	"time"
 
+	"svid.example/go/v2/internal/brief"
 	"svid.example/go/v2/svid"
 )
 
@@ -46,6 +48,18 @@ func (w *Watcher) endpoint(s Spec) (*http.Client, error) {
 		return client, nil
 	}
 	return w.client, nil
+}
+
+// mostOfAnswer is how many bytes of a status or an address that a server sends stand in an error.
+const mostOfAnswer = 256
+
+// notAsked is the error of a request, whose address may be one that a server led to.
+func notAsked(err error) error {
+	var request *url.Error
+	if errors.As(err, &request) {
+		request.URL = brief.Text(request.URL, mostOfAnswer)
+	}
+	return err
 }
 
 // once lets no connection stay after its request, since each request has a client of its own: the authorities may be other ones
@@ -159,19 +173,19 @@ func authoritiesIn(bundle []byte) (*x509.CertPool, error) {
 		return nil, err
 	}
 	roots, some := x509.NewCertPool(), false
-	for _, entry := range d.Keys {
+	d.each(func(_ int, entry json.RawMessage) {
 		var key struct {
 			Use string   `json:"use"`
 			X5C [][]byte `json:"x5c"` // each DER as base64
 		}
 		if json.Unmarshal(entry, &key) != nil || key.Use != "x509-svid" || len(key.X5C) != 1 {
-			continue
+			return
 		}
 		if c, err := x509.ParseCertificate(key.X5C[0]); err == nil {
 			roots.AddCert(c)
 			some = true
 		}
-	}
+	})
 	if !some {
 		return nil, errNoAuthorities
 	}

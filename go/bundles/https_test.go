@@ -8,6 +8,7 @@ import (
 	"encoding/json"
 	"io"
 	"log"
+	"net"
 	"net/http"
 	"net/http/httptest"
 	"strings"
@@ -107,6 +108,60 @@ func TestAnotherDefaultTransport(t *testing.T) {
 		if o.calls != 0 {
 			t.Errorf("told %d times: %q", o.calls, o.lines)
 		}
+	}
+}
+
+// What an endpoint answers may be long: it is not read for long, and its log, and what is kept of it, is short.
+func TestLongTextsOfAnEndpoint(t *testing.T) {
+	e := newEndpoint(t)
+	listen := func() net.Listener {
+		l, err := tls.Listen("tcp", "127.0.0.1:0", &tls.Config{Certificates: e.TLS.Certificates})
+		if err != nil {
+			t.Fatal(err)
+		}
+		return l
+	}
+	long, endless := strings.Repeat("x", mostHeader-1000), strings.Repeat("x", 2<<20)
+	for answer, want := range map[string]string{
+		"HTTP/1.1 404 " + endless + "\r\n":                                  "server response headers exceeded 65536 bytes",
+		"HTTP/1.1 200 OK\r\n" + "X: " + endless + "\r\n":                    "server response headers exceeded 65536 bytes",
+		"HTTP/1.1 302 Found\r\nLocation: " + endless + "\r\n":               "server response headers exceeded 65536 bytes",
+		"HTTP/1.1 404 " + long + "\r\n":                                     "it answers 404 xxx",
+		"HTTP/1.1 302 Found\r\nLocation: http://elsewhere/" + long + "\r\n": "it leads to http://elsewhere/xxx",
+		"HTTP/1.1 302 Found\r\nLocation: https://[::1]:0/" + long + "\r\n":  "dial tcp [::1]:0",
+		"HTTP/1.1 302 Found\r\nLocation: https://%zz/" + long + "\r\n":      "failed to parse Location header",
+		long + "\r\n": "malformed HTTP response",
+	} {
+		l, answer := listen(), answer
+		go func() {
+			for {
+				conn, err := l.Accept()
+				if err != nil {
+					return
+				}
+				if _, err := http.ReadRequest(bufio.NewReader(conn)); err == nil {
+					_, _ = io.WriteString(conn, answer+"Content-Length: 0\r\nConnection: close\r\n\r\n")
+				}
+				conn.Close()
+			}
+		}()
+		w, o := watch(t, e.trusted, Spec{Domain: "example.org", Source: "https://" + l.Addr().String()})
+		o.await(t, want, o.says("bundle not read"))
+		l.Close()
+		o.mu.Lock()
+		for _, line := range o.lines {
+			if len(line) > 2048 || !strings.Contains(line, want) {
+				t.Errorf("%s: %d bytes are logged: %.300s", want, len(line), line)
+			}
+		}
+		o.mu.Unlock()
+		w.mu.Lock()
+		for _, fault := range w.faults {
+			if len(fault) > 2048 {
+				t.Errorf("%s: %d bytes are kept", want, len(fault))
+			}
+		}
+		w.mu.Unlock()
 	}
 }
 

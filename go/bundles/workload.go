@@ -101,6 +101,9 @@ func mended(domain string, text []byte, room *int) ([]byte, error) {
 	if err := fits(len(text), *room); err != nil {
 		return nil, err
 	}
+	if err := bearable(text); err != nil {
+		return nil, err
+	}
 	joined, err := svid.JoinBundles(map[string][]byte{domain: text})
 	if err != nil {
 		if _, bad := parse(text); bad != nil {

@@ -202,8 +202,8 @@ func TestGreatBundlesOfAWorkloadAPI(t *testing.T) {
 		}
 	}
 
-	// What is longer once each key says its use counts as what it becomes: 300 kB, and 1.9 MB.
-	give(small, small, small, `{"keys":[`+strings.Repeat("{},", 100_000)+"{}]}")
+	// What is longer once each key says its use counts as what it becomes: 630 kB, and 1.1 MB.
+	give(small, small, small, `{"keys":[`+strings.Repeat(`{"n":"AAAAAAAAAAAA"},`, 30_000)+"{}]}")
 	o.await(t, "the one that grows", o.says("bundle not read source d of "+agent.Address+" why it has more than 1048576 bytes"))
 }
 

@@ -1,14 +1,11 @@
-// Package carriers carries values to the members of a group. A carrier is a log: its values have one order, and every member
-// reads all of them in it, its own ones too. A carrier knows nothing of tokens.
+// Package carriers carries values to the members of a group in mode once. A carrier is a log: its values have one order, and every
+// member reads all of them in it, its own ones too. A carrier knows nothing of tokens.
 //
-// A Log is what a group shares, before it is joined: the Options of packages jetstream (NATS), redis and postgres are one. A Group is a
-// member's tie to it, whatever carries it: package jetstream has its own, and Join makes one of a Store. A Store is the small part that each server needs: package redis has one, package postgres another, and package
-// memory one for tests.
+// A Log is what a group shares, before it is joined: the Options of package jetstream (NATS) are one. A Group is a member's tie to it.
 package carriers
 
 import (
 	"context"
-	"errors"
 	"fmt"
 	"time"
 )
@@ -19,7 +16,7 @@ type Kind byte
 // The kinds of values.
 const (
 	Uses   Kind = 'u' // uses and withdrawals that the record of a member has gained
-	Claims Kind = 'c' // uses that a member claims: of all claims of a token, the first in the log counts
+	Claims Kind = 'c' // uses that svidd 2.0 claimed in mode strict: a member of mode once says that it is there
 	Answer Kind = 'a' // a part of an answer to this member's summary, and no value of the log
 )
 
@@ -77,8 +74,7 @@ type Group interface {
 	Close() error
 }
 
-// A Log is that of a group, before it is joined. The Options of packages jetstream, redis and postgres are one, and Of makes one of a
-// Store.
+// A Log is that of a group, before it is joined. The Options of package jetstream are one.
 type Log interface {
 	// Join makes the log where it is not there, and begins to read it. It tries until ctx ends, so a server that comes up later is
 	// waited for. A log that could lose a claim before its token expires is an error that says why, and what to do.
@@ -94,80 +90,17 @@ type Repairer interface {
 	Summaries(every time.Duration, summary func() ([]byte, error), answer func(summary []byte, most int) ([][]byte, error))
 }
 
-// Of is the Log that a Store has.
-func Of(name string, store Store) Log { return of{name, store} }
-
-type of struct {
-	name  string
-	store Store
+// Options are those of a member.
+type Options struct {
+	// ValidatorID tells this member from every other one.
+	ValidatorID [16]byte
+	// Keep is how long the log keeps a value at least: the longest life of a token, and twice the bound for clocks, since
+	// the member that accepted and the one that asks may both be off.
+	Keep time.Duration
+	// Log receives what an operator may want to know: an event, and names and values by turns. It may be nil, and is
+	// called from several goroutines.
+	Log func(event string, fields ...any)
 }
-
-func (l of) GroupName() string { return l.name }
-
-func (l of) Join(ctx context.Context, o Options, s Sink) (Group, error) {
-	return JoinStore(ctx, l.store, o, s)
-}
-
-// JoinStore is Join as a Log has it, where the error is no Group that is nil.
-func JoinStore(ctx context.Context, store Store, o Options, s Sink) (Group, error) {
-	m, err := Join(ctx, store, o, s)
-	if err != nil {
-		return nil, err
-	}
-	return m, nil
-}
-
-// A State is what a Store says about its log.
-type State struct {
-	Made  string        // tells this log from every other one, such as one that was made anew
-	First uint64        // the position of the first value that the log has; Last+1 where it has none
-	Last  uint64        // of the last value that the log was given, and 0 where it was given none
-	Gone  uint64        // values up to this position were removed because of their age
-	Keeps time.Duration // the age at which values are removed
-	Stamp string        // tells the value at a position from every other one; "" where none is
-	Lost  bool          // values may be lost that nobody here has read, since another server has taken over
-
-	Unsafe string // settings of the server by which it may lose values, and what they must be; "" where none is known
-}
-
-// A Stored is a value as its Store has it.
-type Stored struct {
-	Position uint64
-	Kind     Kind
-	Message  []byte
-	Stamp    string
-}
-
-// A Store is a server that keeps a log. Its calls end soon after ctx does, and after Close. Append may be called while
-// others are under way; these come one at a time.
-//
-// Its duties: each Append puts one value after all that are there, at the next position: whoever reads sees values appear in
-// the order of their positions, and never one before another that was read. A value that Append has told of, or that was
-// read, is there after a crash of the server. What is at a position is never replaced. Values are removed by their age
-// alone, and Gone says so before, or at the moment when, they are.
-type Store interface {
-	// Open makes the log where there is none, and says what it is. An *Unfit says that the log may lose values, or that
-	// this member can't use it.
-	Open(ctx context.Context) (State, error)
-	// State says what the log is, and has the stamp of the value at a position. The error is ErrNoLog where there is none.
-	State(ctx context.Context, at uint64) (State, error)
-	// Append puts a value at the end of this log, and returns once it is there to stay, with the server's time. An error may
-	// come of a value that is stored, or that will be. It is ErrNoLog where the log is another one.
-	Append(ctx context.Context, made string, kind Kind, message []byte) (time.Time, error)
-	// Read returns values after a position, in their order: those that are there, or the next one that comes within about
-	// Patience; none if none comes.
-	Read(ctx context.Context, behind uint64) ([]Stored, error)
-	// Expire removes what is older than the log keeps.
-	Expire(ctx context.Context, made string) error
-	// Close lets go of the server.
-	Close() error
-}
-
-// Patience is how long Read waits for a value.
-const Patience = time.Second
-
-// ErrNoLog: the log is not there, or is another one.
-var ErrNoLog = errors.New("the log is not there, or is another one")
 
 // ErrTooLarge: the value has more than MostValue bytes.
 var ErrTooLarge = fmt.Errorf("a value has at most %d bytes", MostValue)

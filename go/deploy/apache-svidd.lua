@@ -22,6 +22,10 @@ local function forget(r)
 end
 
 function check(r)
+  -- Behind CONNECT there may be a tunnel, of which nobody checks anything.
+  if r.method == "CONNECT" then
+    return 405
+  end
   forget(r)
   -- Apache leaves a header out of what it sends on if the client names it in Connection.
   local connection = r.headers_in["Connection"]

@@ -5,8 +5,8 @@
 //	defer g.Close()
 //	http.Handle("/", g.Protect(handler))
 //
-// A Guard ties these packages: svid judges, bundles reads the keys, journal keeps what was accepted, and a log of package carriers
-// shares it. docs/SIDECAR.md says what each Mode promises, and what an operator does about faults: a Guard is what svidd runs.
+// A Guard ties these packages: svid judges, bundles reads the keys, journal keeps what was accepted, and a store of package claims
+// or a log of package carriers shares it. docs/SIDECAR.md says what each Mode promises, and what an operator does about faults: a Guard is what svidd runs.
 package guard
 
 import (
@@ -22,6 +22,7 @@ import (
 
 	"svid.example/go/v2/bundles"
 	"svid.example/go/v2/carriers"
+	"svid.example/go/v2/claims"
 	"svid.example/go/v2/internal/server"
 	"svid.example/go/v2/journal"
 	"svid.example/go/v2/svid"
@@ -75,27 +76,25 @@ var ErrClock = fmt.Errorf("the clock went ahead by more than %d seconds, and sta
 // ErrNotAllowed: no pattern of Options.Allow allows the token's subject. The token is good, and it is not used up.
 var ErrNotAllowed = svidhttp.ErrNotAllowed
 
-// errNoRepair ends a guard of mode once whose group would never hear of what a log has lost.
-var errNoRepair = errors.New("guard: in mode once the members of a group repair their records by summaries, over NATS alone: use mode strict with this log")
-
-// Options say what a guard is for. Audiences and Bundles must be given, and State, unless Mode is Reuse or Log is given.
+// Options say what a guard is for. Audiences and Bundles must be given, and State, unless Mode is Reuse or Store is given.
 type Options struct {
 	Audiences []string       // the names of this service: a token is for it if its `aud` has one of them
 	Bundles   []bundles.Spec // where the trust bundles come from: bundles.Parse, bundles.Folder, bundles.WorkloadAPI
 	Allow     []string       // patterns of the SPIFFE IDs that may call (svid.Allows); nil allows all, and an empty list is an error
-	Mode      Mode           // "" is Once, or Strict where Log is given
+	Mode      Mode           // "" is Once, or Strict where Store is given
 	State     string         // the folder that keeps what was accepted over restarts; "" for none
-	Log       carriers.Log   // the group's: Options of package jetstream, redis or postgres; nil without a group
+	Store     claims.Store   // the group's: of package claims/redis, claims/postgres or claims/nats, opened with Terms. In mode Strict each token is claimed there; in the others withdrawals are read there. Close closes it
+	Log       carriers.Log   // of a group in mode Once: Options of package jetstream; nil without one
 	Longest   uint64         // seconds that a token may still live; 0 is 3600
 	Ahead     uint64         // seconds that the clocks of the group may differ; 0 is 30, and Exactly is 0
 	RSABits   int            // how many bits an RSA key may have, as svid.KeyringOptions has it
-	Wait      time.Duration  // how long one request may wait for the disk and the group; 0 is two seconds
+	Wait      time.Duration  // how long one request may wait for the disk, the group and the store; 0 is two seconds
 	Summaries time.Duration  // the time between two repairs, in a group of mode Once; 0 is a minute
 	Lines     *Lines         // what happens, as NewLines makes them; nil for none. Close does not close them
 	Now       func() uint64  // the clock; nil is svid.Now
 
-	// Failed is called with what the guard can't go on without: ErrClock, a group's log that can't be joined, or a record that
-	// can't be read after it. The guard accepts nothing from then on. It may be nil. It has a goroutine of its own, so it may call
+	// Failed is called with what the guard can't go on without: ErrClock, a store that is unfit, or a group's log that can't be
+	// joined. The guard accepts nothing from then on. It may be nil. It has a goroutine of its own, so it may call
 	// Close; and it may be called before Open returns.
 	Failed func(error)
 }
@@ -107,7 +106,7 @@ var errNoAudience = errors.New("guard: Options.Audiences is empty: give the name
 
 // usual returns the options with what they leave out.
 func (o Options) usual() (Options, error) {
-	if o.Mode == "" && o.Log != nil {
+	if o.Mode == "" && o.Store != nil {
 		o.Mode = Strict
 	} else if o.Mode == "" {
 		o.Mode = Once
@@ -134,8 +133,10 @@ func (o Options) usual() (Options, error) {
 		return o, errors.New("guard: Options.Bundles is empty: say where the trust bundles come from, as by bundles.Parse")
 	case o.Mode == Once && o.State == "":
 		return o, errors.New("guard: Options.State is empty: in mode once the record is kept there, since a token that was accepted before a restart must not be accepted after it")
-	case o.Mode == Strict && o.Log == nil:
-		return o, errors.New("guard: Options.Log is nil: in mode strict each token is claimed in the group's log")
+	case o.Mode == Strict && o.Store == nil:
+		return o, errors.New("guard: Options.Store is nil: in mode strict each token is claimed in the group's store")
+	case o.Mode != Once && o.Log != nil:
+		return o, errors.New("guard: Options.Log is for mode once, whose members tell each other of their uses: a group of another mode shares Options.Store")
 	case o.Mode != Once && o.Mode != Strict && o.Mode != Reuse:
 		return o, fmt.Errorf("guard: Options.Mode %q is none of once, strict and reuse", o.Mode)
 	case o.Wait < 0 || o.Summaries < 0:
@@ -151,7 +152,24 @@ func (o Options) usual() (Options, error) {
 
 // Keep is how long the group's log keeps a value: a token lives for longest seconds by the clock of who accepts it, and that clock
 // and the one of who asks may both be off by ahead.
-func Keep(longest, ahead uint64) time.Duration { return time.Duration(longest+2*ahead) * time.Second }
+func Keep(longest, ahead uint64) time.Duration {
+	return time.Duration(Terms(longest, ahead).Lasts) * time.Second
+}
+
+// StepBack is how many seconds the clock of a group's store may step back, also by a failover.
+const StepBack = 60
+
+// leastMargin is the least part of a store's margin that is for members' clocks: so members whose Ahead differs share a store.
+const leastMargin = 60
+
+// Terms are those of the store of a group whose members have these Options.Longest and Options.Ahead.
+func Terms(longest, ahead uint64) claims.Terms {
+	margin := ahead
+	if margin < leastMargin {
+		margin = leastMargin
+	}
+	return claims.Terms{Lasts: svid.StaysUntil(longest, 2*ahead), Margin: margin + StepBack, Back: StepBack}
+}
 
 // A Guard accepts tokens. Its methods may be called by many goroutines at once.
 type Guard struct {
@@ -170,7 +188,7 @@ type Guard struct {
 }
 
 // Open returns a guard that runs until Close. It reads the record, and whatever bundles can be read now. Others may come later, and
-// so may the servers of the group's log: Ready says whether all is there.
+// so may the servers of the group's store and log: Ready says whether all is there.
 func Open(o Options) (*Guard, error) {
 	g, err := New(o)
 	if err != nil {
@@ -211,7 +229,7 @@ func New(o Options) (g *Guard, err error) {
 	}
 	g.engine, err = server.NewEngine(server.Options{
 		Mode: o.Mode, Audiences: o.Audiences, Allow: o.Allow, Domains: domainsOf(o.Bundles), RSABits: o.RSABits, Longest: o.Longest, Ahead: o.Ahead,
-		Step: clockStep, Jumped: func() { g.fail(ErrClock) }, ValidatorID: id, Journal: kept, Grouped: o.Log != nil, Wait: o.Wait, Log: o.Lines,
+		Step: clockStep, Jumped: func() { g.fail(ErrClock) }, ValidatorID: id, Journal: kept, Grouped: o.Log != nil, Stored: o.Store != nil, Terms: Terms(o.Longest, o.Ahead), Wait: o.Wait, Log: o.Lines,
 		Now: o.Now,
 	})
 	if err != nil {
@@ -221,23 +239,11 @@ func New(o Options) (g *Guard, err error) {
 		return g, err
 	}
 	g.engine.Metrics.BundleAges = func() map[string]time.Duration { return g.follows.watcher.Load().Ages() }
-	if g.journal != nil && o.Mode == Strict {
-		g.journal.Bear(g.engine.Mark)
-	}
 	return g, nil
 }
 
-// Load reads the record of the state folder. In mode strict Run does, after the group's log: a claim that the record has already
-// would be kept a second time, as a lost one.
+// Load reads the record of the state folder.
 func (g *Guard) Load() error {
-	if g.options.Mode == Strict {
-		return nil
-	}
-	return g.load()
-}
-
-// load gives the engine what the state folder has.
-func (g *Guard) load() error {
 	if g.journal == nil {
 		return g.engine.Load(nil)
 	}
@@ -245,9 +251,6 @@ func (g *Guard) load() error {
 	debug.FreeOSMemory() // of the files, which may be as large as the record
 	if err != nil {
 		return err
-	}
-	if mark, ok := g.journal.Mark(); ok {
-		g.engine.Recall(mark)
 	}
 	for _, f := range g.journal.Torn() {
 		g.options.Lines.Event("journal torn", "file", f.Name, "at", f.At, "bytes", f.Rest, "why", "a crash left them of a write that nobody was answered for")
@@ -272,9 +275,26 @@ func (g *Guard) Run(ctx context.Context) {
 		joining.Add(1)
 		go func() { defer joining.Done(); g.join(ctx) }()
 	}
+	if g.options.Store != nil {
+		joining.Add(1)
+		go func() { defer joining.Done(); g.openStore(ctx) }()
+	}
 	g.engine.Run(ctx)
 	joining.Wait()
 	g.end()
+}
+
+// openStore opens the group's store, however long its server takes to come up.
+func (g *Guard) openStore(ctx context.Context) {
+	state, err := g.options.Store.Open(ctx)
+	if err != nil {
+		if ctx.Err() == nil {
+			g.fail(err)
+		}
+		return
+	}
+	g.options.Lines.Event("store", "epoch", state.Epoch, "until", state.Deaf)
+	g.engine.UseStore(g.options.Store, state)
 }
 
 // join joins the group, however long its broker takes to come up.
@@ -287,13 +307,8 @@ func (g *Guard) join(ctx context.Context) {
 		}
 		return
 	}
-	// (In mode strict each reads all values, and an answer would tell of a claim before its value is read: that burns the token.)
-	if repairs, ok := tie.(carriers.Repairer); ok && o.Mode != Strict {
+	if repairs, ok := tie.(carriers.Repairer); ok {
 		repairs.Summaries(o.Summaries, g.engine.Summary, g.engine.Answers)
-	} else if !ok && o.Mode == Once {
-		tie.Close()
-		g.fail(errNoRepair)
-		return
 	}
 	g.group = tie
 	g.engine.Join(tie)
@@ -301,12 +316,6 @@ func (g *Guard) join(ctx context.Context) {
 	case <-tie.Ready():
 		o.Lines.Event("group", "name", o.Log.GroupName(), "taken", tie.Taken(), "aside", tie.Aside())
 	case <-ctx.Done():
-		return
-	}
-	if o.Mode == Strict && ctx.Err() == nil {
-		if err := g.load(); err != nil {
-			g.fail(err)
-		}
 	}
 }
 
@@ -321,6 +330,11 @@ func (g *Guard) Close() {
 		g.ran.Wait()
 		if g.group != nil {
 			g.group.Close()
+		}
+		if g.options.Store != nil {
+			if err := g.options.Store.Close(); err != nil {
+				g.options.Lines.Error("store", err)
+			}
 		}
 		if g.journal != nil {
 			if err := g.journal.Close(); err != nil {
@@ -398,37 +412,38 @@ func (g *Guard) Ready() error {
 // Drain lets Ready return an error from now on. Tokens are still judged.
 func (g *Guard) Drain() { g.engine.Drain() }
 
+// A Withdrawn is what Withdraw did.
+type Withdrawn struct {
+	Use    svid.Use         // what the record gained
+	UsedBy svid.ValidatorID // who accepted the token before, as the group's store has it; zeros where nobody did
+}
+
 // Withdraw withdraws a token whose signature is good, here and in the group, whether it was used or not. Where the error says that
 // the group was not told, the token is withdrawn here, and the same call can be made again.
-func (g *Guard) Withdraw(token string) (svid.Use, error) {
+func (g *Guard) Withdraw(token string) (Withdrawn, error) {
 	if !g.enter() {
-		return svid.Use{}, svid.ErrClosed
+		return Withdrawn{}, svid.ErrClosed
 	}
 	defer g.calls.RUnlock()
 	found, err := g.engine.Find(token)
 	if err != nil {
-		return svid.Use{}, err
+		return Withdrawn{}, err
 	}
-	return g.engine.Withdraw(found.Key, found.Expires)
+	return g.withdraw(found.Key, found.Expires)
 }
 
 // WithdrawKey does so by the key and the expiry of a token's use.
-func (g *Guard) WithdrawKey(key svid.TokenKey, expires uint64) (svid.Use, error) {
+func (g *Guard) WithdrawKey(key svid.TokenKey, expires uint64) (Withdrawn, error) {
 	if !g.enter() {
-		return svid.Use{}, svid.ErrClosed
+		return Withdrawn{}, svid.ErrClosed
 	}
 	defer g.calls.RUnlock()
-	return g.engine.Withdraw(key, expires)
+	return g.withdraw(key, expires)
 }
 
-// Resume lets the guard accept tokens though values of the group's log are missing, and returns until when these may live: 0 if
-// none is missing.
-func (g *Guard) Resume() (until uint64, err error) {
-	if !g.enter() {
-		return 0, svid.ErrClosed
-	}
-	defer g.calls.RUnlock()
-	return g.engine.Resume()
+func (g *Guard) withdraw(key svid.TokenKey, expires uint64) (Withdrawn, error) {
+	use, usedBy, err := g.engine.Withdraw(key, expires)
+	return Withdrawn{use, usedBy}, err
 }
 
 // ValidatorID names this guard among all that share its record.
@@ -459,10 +474,5 @@ func CheckBundle(domain string, document json.RawMessage) error {
 	if err != nil {
 		return err
 	}
-	validator, err := svid.Open(svid.Options{Bundles: text})
-	if err != nil {
-		return err
-	}
-	validator.Close()
-	return nil
+	return svid.CheckBundles(text)
 }

@@ -17,7 +17,8 @@ import (
 
 	"svid.example/go/v2/bundles"
 	"svid.example/go/v2/carriers"
-	"svid.example/go/v2/carriers/memory"
+	"svid.example/go/v2/claims"
+	"svid.example/go/v2/claims/memory"
 	"svid.example/go/v2/internal/issuer"
 	"svid.example/go/v2/internal/patience"
 	"svid.example/go/v2/internal/server"
@@ -91,8 +92,8 @@ func TestAServiceAcceptsEachTokenOnce(t *testing.T) {
 	}{
 		{[]string{"Bearer " + good}, 200, "hello spiffe://example.org/web\n", ""},
 		{[]string{"Bearer " + good}, 401, `{"reason":"Replayed","result":"refused"}`, `Bearer error="invalid_token", error_description="Replayed"`},
-		{nil, 401, `{"reason":"NoToken","result":"refused"}`, "Bearer"},
-		{[]string{"Basic x"}, 401, `{"reason":"NotBearer","result":"refused"}`, `Bearer error="invalid_request", error_description="NotBearer"`},
+		{nil, 401, `{"reason":"NoToken","result":"refused"}`, `Bearer realm="svid"`},
+		{[]string{"Basic x"}, 401, `{"reason":"NotBearer","result":"refused"}`, `Bearer realm="svid"`},
 		{[]string{"Bearer " + other}, 403, `{"reason":"NotAllowed","result":"refused"}`, `Bearer error="insufficient_scope", error_description="NotAllowed"`},
 	} {
 		w := ask(g.Protect(hello), row.authorization...)
@@ -117,9 +118,9 @@ func TestAServiceAcceptsEachTokenOnce(t *testing.T) {
 func TestWithdraw(t *testing.T) {
 	g := open(t, usual(t))
 	one := token("withdrawn")
-	use, err := g.Withdraw(one)
-	if err != nil || !use.Withdrawn {
-		t.Fatal(use, err)
+	done, err := g.Withdraw(one)
+	if err != nil || !done.Use.Withdrawn || done.UsedBy != (svid.ValidatorID{}) {
+		t.Fatal(done, err)
 	}
 	if w := ask(g.Protect(hello), "Bearer "+one); w.Code != 401 || !strings.Contains(w.Body.String(), "Withdrawn") {
 		t.Errorf("%d %q", w.Code, w.Body)
@@ -143,7 +144,8 @@ func TestOptionsThatCanNotBeMeant(t *testing.T) {
 		"Options.Audiences is empty": func(o *Options) { o.Audiences = nil },
 		"Options.Bundles is empty":   func(o *Options) { o.Bundles = nil },
 		"Options.State is empty":     func(o *Options) { o.State = "" },
-		"Options.Log is nil":         func(o *Options) { o.Mode = Strict },
+		"Options.Store is nil":       func(o *Options) { o.Mode = Strict },
+		"Options.Log is for":         func(o *Options) { o.Mode, o.Log = Reuse, slowLog{} },
 		`Options.Mode "twice"`:       func(o *Options) { o.Mode = "twice" },
 		"Options.Longest is at most": func(o *Options) { o.Longest = mostLongest + 1 },
 		"Options.Ahead at most":      func(o *Options) { o.Ahead = mostAhead + 1 },
@@ -172,7 +174,7 @@ func TestWhatOptionsLeaveOut(t *testing.T) {
 	if err != nil || got.Mode != Once || got.Longest != 3600 || got.Ahead != 30 || got.Wait != 2*time.Second || got.Summaries != time.Minute {
 		t.Errorf("%+v %v", got, err)
 	}
-	o.Log, o.Ahead = carriers.Of("svid", memory.NewServer().Store(time.Hour)), Exactly
+	o.Store, o.Ahead = new(memory.Store), Exactly
 	if got, err = o.usual(); err != nil || got.Mode != Strict || got.Ahead != 0 {
 		t.Errorf("%+v %v", got, err)
 	}
@@ -183,12 +185,12 @@ func TestWhatOptionsLeaveOut(t *testing.T) {
 
 // The guards of a group accept a token once in all, whichever is asked, and one behind a restart knows what the others accepted.
 func TestAGroupAcceptsEachTokenOnce(t *testing.T) {
-	server := memory.NewServer()
+	store := &memory.Store{Terms: Terms(3600, 30)}
 	var all [3]*Guard
 	var last string
 	join := func() *Guard {
 		o := usual(t)
-		o.State, o.Log = "", carriers.Of("svid", server.Store(Keep(3600, 30)))
+		o.State, o.Store = "", store
 		g := open(t, o)
 		await(t, g)
 		return g
@@ -233,12 +235,19 @@ func await(t *testing.T, g *Guard) {
 	}
 }
 
-// A log that is of no use is told, and nothing is accepted.
-func TestALogThatIsOfNoUse(t *testing.T) {
+// An unfitStore is of no use.
+type unfitStore struct{ memory.Store }
+
+func (*unfitStore) Open(context.Context) (claims.State, error) {
+	return claims.State{}, claims.Unfitf("appendonly is off: turn it on")
+}
+
+// A store that is of no use is told, and nothing is accepted.
+func TestAStoreThatIsOfNoUse(t *testing.T) {
 	o, failed := usual(t), make(chan error, 1)
-	o.Log, o.Failed = carriers.Of("svid", memory.NewServer().Store(time.Second)), func(err error) { failed <- err }
+	o.Store, o.Failed = new(unfitStore), func(err error) { failed <- err }
 	g := open(t, o)
-	var unfit *carriers.Unfit
+	var unfit *claims.Unfit
 	select {
 	case err := <-failed:
 		if !errors.As(err, &unfit) {
@@ -328,7 +337,7 @@ func TestLinesThatAreNone(t *testing.T) {
 // Who is told that the guard can't go on may close it then.
 func TestFailedMayClose(t *testing.T) {
 	o, guards, closed := usual(t), make(chan *Guard, 1), make(chan bool)
-	o.Log = carriers.Of("svid", memory.NewServer().Store(time.Second))
+	o.Store = new(unfitStore)
 	o.Failed = func(error) { (<-guards).Close(); close(closed) }
 	g, err := Open(o)
 	if err != nil {
@@ -349,7 +358,7 @@ func TestCloseWhileRequestsCome(t *testing.T) {
 		o := usual(t)
 		o.Mode = mode
 		if mode == Strict {
-			o.Log = carriers.Of("svid", memory.NewServer().Store(Keep(3600, 30)))
+			o.Store = &memory.Store{Terms: Terms(3600, 30)}
 		}
 		g := open(t, o)
 		await(t, g)
@@ -386,9 +395,6 @@ func TestCloseWhileRequestsCome(t *testing.T) {
 		if _, err := g.WithdrawKey(svid.TokenKey{1}, svid.Now()+300); err != svid.ErrClosed {
 			t.Errorf("%s: behind Close: %v", mode, err)
 		}
-		if _, err := g.Resume(); err != svid.ErrClosed {
-			t.Errorf("%s: behind Close: %v", mode, err)
-		}
 		if err := g.Ready(); err != svid.ErrClosed {
 			t.Errorf("%s: behind Close: ready: %v", mode, err)
 		}
@@ -398,13 +404,13 @@ func TestCloseWhileRequestsCome(t *testing.T) {
 
 // A slowLog is one whose group takes its time to close.
 type slowLog struct {
-	carriers.Log
 	closing, goOn chan struct{}
 }
 
-func (l slowLog) Join(ctx context.Context, o carriers.Options, s carriers.Sink) (carriers.Group, error) {
-	g, err := l.Log.Join(ctx, o, s)
-	return slowGroup{g, l}, err
+func (slowLog) GroupName() string { return "slow" }
+
+func (l slowLog) Join(context.Context, carriers.Options, carriers.Sink) (carriers.Group, error) {
+	return slowGroup{log: l}, nil
 }
 
 type slowGroup struct {
@@ -412,15 +418,27 @@ type slowGroup struct {
 	log slowLog
 }
 
+func (slowGroup) Ready() <-chan struct{} {
+	ready := make(chan struct{})
+	close(ready)
+	return ready
+}
+func (slowGroup) Taken() uint64   { return 0 }
+func (slowGroup) Aside() uint64   { return 0 }
+func (slowGroup) Connected() bool { return true }
+func (slowGroup) Put(context.Context, carriers.Kind, uint64, []byte) error {
+	return nil
+}
+
 func (g slowGroup) Close() error {
 	close(g.log.closing)
 	<-g.log.goOn
-	return g.Group.Close()
+	return nil
 }
 
-// A token that comes while a guard closes is answered at once: nobody would take its claim any more.
+// A token that comes while a guard closes is answered at once.
 func TestATokenThatComesWhileAGuardCloses(t *testing.T) {
-	o, slow := usual(t), slowLog{carriers.Of("svid", memory.NewServer().Store(Keep(3600, 30))), make(chan struct{}), make(chan struct{})}
+	o, slow := usual(t), slowLog{make(chan struct{}), make(chan struct{})}
 	o.Log = slow
 	g := open(t, o)
 	await(t, g)
@@ -445,24 +463,6 @@ func inTime(t *testing.T, do func()) {
 	case <-done:
 	case <-time.After(patience.Long):
 		t.Fatal("it hangs")
-	}
-}
-
-// In mode once a group must be able to repair what its log has lost.
-func TestModeOnceWantsALogThatRepairs(t *testing.T) {
-	o, failed := usual(t), make(chan error, 1)
-	o.Mode, o.Log, o.Failed = Once, carriers.Of("svid", memory.NewServer().Store(Keep(3600, 30))), func(err error) { failed <- err }
-	g := open(t, o)
-	select {
-	case err := <-failed:
-		if err != errNoRepair {
-			t.Error(err)
-		}
-	case <-time.After(patience.Long):
-		t.Fatal("nobody is told")
-	}
-	if w := ask(g.Protect(hello), "Bearer "+token("unrepaired")); w.Code != 503 || !strings.Contains(w.Body.String(), "NotReady") {
-		t.Errorf("%d %q", w.Code, w.Body)
 	}
 }
 

@@ -24,10 +24,18 @@ func TestTheNameOfANewFolderMayBeLost(t *testing.T) {
 	}
 }
 
-// A blind system can't list the folder.
-type blind struct{ system }
+// A blind system can't list the folder, but for so many times.
+type blind struct {
+	system
+	times *int
+}
 
-func (blind) names() ([]string, error) { return nil, syscall.EIO }
+func (b blind) names() ([]string, error) {
+	if *b.times--; *b.times < 0 {
+		return nil, syscall.EIO
+	}
+	return b.system.names()
+}
 
 // A folder whose names can't be read is not taken for one without journals.
 func TestAFolderThatCannotBeListedIsNotEmpty(t *testing.T) {
@@ -35,8 +43,11 @@ func TestAFolderThatCannotBeListedIsNotEmpty(t *testing.T) {
 	j := mustOpen(t, dir)
 	mustAppend(t, j, batch(1))
 	mustClose(t, j)
-	if _, err := openWith(dir, func(s system) system { return blind{s} }); !errors.Is(err, syscall.EIO) {
-		t.Errorf("%v", err)
+	for times := 0; times < 2; times++ { // (one to look for the ID, and one to read)
+		left := times
+		if _, err := openWith(dir, func(s system) system { return blind{s, &left} }); !errors.Is(err, syscall.EIO) {
+			t.Errorf("after %d listings: %v", times, err)
+		}
 	}
 	wantMessages(t, mustOpen(t, dir), batch(1))
 }

@@ -199,14 +199,15 @@ func TestEachChangedBitIsNamed(t *testing.T) {
 // A changed bit of the validator ID is an error, or lets a start find a snapshot that is not of this ID.
 func TestEachChangedBitOfTheValidatorIDIsNamed(t *testing.T) {
 	d, _ := thousand(t)
-	text := d.others[placeName]
+	text := d.id.now.seen
 	for bit := 0; bit < 8*32; bit++ {
-		d.others[placeName] = append([]byte(nil), text...)
-		d.others[placeName][bit/8] ^= 1 << (bit % 8)
+		changed := append([]byte(nil), text...)
+		changed[bit/8] ^= 1 << (bit % 8)
+		d.id = settled(atRest(changed))
 		_, err := begin(d)
 		switch {
 		case err == nil:
-			if d.others[placeName][bit/8]|0x20 != text[bit/8] { // (a digit in capitals is the same)
+			if changed[bit/8]|0x20 != text[bit/8] { // (a digit in capitals is the same)
 				t.Errorf("bit %d of byte %d is not seen", bit%8, bit/8)
 			}
 			*d.journal(4) = journalOnDisk{&fileOnDisk{}, settled(false)}

@@ -87,7 +87,8 @@ func TestTheModelOfADisk(t *testing.T) {
 	}
 
 	// The calls on a whole disk: journals 1 and 2, a snapshot, and a file beside.
-	const from = "1: ab/ab whole, true of [true]; 2: cd/c, true of [false true]; 3: /, false of [false]; snapshot: old/old whole of [old/old whole]; beside: new/n"
+	const from = "1: ab/ab whole, true of [true]; 2: cd/c, true of [false true]; 3: /, false of [false]; snapshot: old/old whole of [old/old whole]; beside: new/n; " +
+		"id: none of [none]; id beside: id/i; folder: true of [false true]"
 	fault := syscall.EIO
 	for _, row := range []struct {
 		definition string
@@ -133,12 +134,36 @@ func TestTheModelOfADisk(t *testing.T) {
 			strings.Replace(from, "[false true]", "[true]", 1)},
 		{"sync_folder false", func(d *disk) error { return d.sync() }, fault, 0,
 			strings.Replace(from, "[false true]", "[false true] stuck", 1)},
+		{"write_id xy", func(d *disk) error {
+			f, err := d.create("place.new")
+			if err == nil {
+				_, err = f.WriteAt([]byte("xy"), 0)
+			}
+			return err
+		}, nil, 0, strings.Replace(from, "id/i", "xy/", 1)},
+		{"sync_id true", func(d *disk) error { return d.opened("place.new").sync() }, nil, 0, strings.Replace(from, "id/i", "id/id whole", 1)},
+		{"sync_id false", func(d *disk) error { return d.opened("place.new").sync() }, fault, 0, strings.Replace(from, "id/i", "id/i spoiled", 1)},
+		{"rename_id", func(d *disk) error { return d.rename("place.new", "place") }, nil, 0,
+			strings.Replace(from, "id: none of [none]", "id: id/i of [none id/i]", 1)},
+		{"rename_id that fails", func(d *disk) error { return d.rename("place.new", "place") }, fault, 0, from},
+		{"sync_folder true, of a new id", func(d *disk) error { d.id.leads(d.idBeside); return d.sync() }, nil, 0,
+			strings.NewReplacer("none of [none]", "id/i of [id/i]", "2: cd/c, true of [false true]", "2: cd/c, true of [true]").Replace(from)},
+		{"sync_folder false, of a new id", func(d *disk) error { d.id.leads(d.idBeside); return d.sync() }, fault, 0,
+			strings.NewReplacer("none of [none]", "id/i of [none id/i] stuck", "2: cd/c, true of [false true]", "2: cd/c, true of [false true] stuck").Replace(from)},
+		{"the folder is removed", func(d *disk) error { return d.rmdir() }, nil, 0, from[:len(from)-len("true of [false true]")] + "false of [false true false]"},
+		{"the folder is not removed", func(d *disk) error { return d.rmdir() }, fault, 0, from},
+		{"the folder is made anew", func(d *disk) error { d.here.leads(false); return d.mkdir() }, nil, 0,
+			from[:len(from)-len("[false true]")] + "[false true false true]"},
+		{"the folder is there", func(d *disk) error { return d.mkdir() }, syscall.EEXIST, 0, from},
+		{"sync of the folder above", func(d *disk) error { return d.syncAbove() }, nil, 0, from[:len(from)-len("[false true]")] + "[true]"},
+		{"sync of the folder above that fails", func(d *disk) error { return d.syncAbove() }, fault, 0, from + " stuck"},
 	} {
 		d := newDisk()
 		*d.journal(1) = journalOnDisk{file("ab", "ab", "whole"), name(true, true)}
 		*d.journal(2) = journalOnDisk{file("cd", "c"), name(true, false, true)}
 		*d.journal(3) = journalOnDisk{file("", ""), name(false, false)}
 		d.snapshot, d.beside = settled(file("old", "old", "whole")), file("new", "n")
+		d.here, d.idBeside = name(true, false, true), file("id", "i")
 		if got := d.text(); got != from {
 			t.Fatal(got)
 		}
@@ -155,6 +180,9 @@ func TestTheModelOfADisk(t *testing.T) {
 // opened is a file of the disk that is open.
 func (d *disk) opened(name string) file {
 	f := &openFile{disk: d, name: name, file: d.beside}
+	if name == "place.new" {
+		f.file = d.idBeside
+	}
 	if n, is := numberOf(name); is {
 		f.file = d.journal(n).file
 	}
@@ -172,7 +200,8 @@ func (d *disk) text() string {
 	for _, n := range numbers {
 		all = append(all, fmt.Sprintf("%d: %v, %v", n, d.journals[n].file, d.journals[n].here))
 	}
-	return strings.Join(append(all, fmt.Sprintf("snapshot: %v", d.snapshot), fmt.Sprintf("beside: %v", d.beside)), "; ")
+	return strings.Join(append(all, fmt.Sprintf("snapshot: %v", d.snapshot), fmt.Sprintf("beside: %v", d.beside),
+		fmt.Sprintf("id: %v", d.id), fmt.Sprintf("id beside: %v", d.idBeside), fmt.Sprintf("folder: %v", d.here)), "; ")
 }
 
 // MayLeave of the definitions: a file that is whole leaves its front alone, and another one any bytes that begin with it. A
@@ -182,6 +211,7 @@ func TestACrashOfTheModelLeavesWhatItMay(t *testing.T) {
 	names, behind := map[string]bool{}, map[bool]int{}
 	for i := 0; i < 3000; i++ {
 		d := newDisk()
+		d.here = settled(true)
 		f, err := d.create("journal.1")
 		if err != nil {
 			t.Fatal(err)

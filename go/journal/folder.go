@@ -34,18 +34,28 @@ const mostFile = math.MaxInt64 - 1
 // ErrHeld is what the error of Open wraps where another process has the folder.
 var ErrHeld = errors.New("the state folder is in use")
 
+// ErrMoved is what the error of an append wraps once the path of the folder no longer leads to it: somebody removed or moved the
+// folder, or mounted another one over it. Another process may have opened what is there now, so this is for good.
+var ErrMoved = errors.New("the state folder is no longer at its path")
+
 // journalName is the name of the journal of this number.
 func journalName(number uint64) string { return journalPrefix + strconv.FormatUint(number, 10) }
 
 // A system makes the calls of the system on one folder. Tests have a model of a disk.
 type system interface {
 	path(name string) string // for people
+	mkdir() error            // makes the folder; the error wraps os.ErrExist where it is there
+	rmdir() error            // removes it where it is empty
+	syncAbove() error        // of the folder above, which has its name
 	names() ([]string, error)
 	read(name string) ([]byte, error)
 	create(name string) (file, error) // a new file; one that has the name is removed first
 	rename(from, to string) error
 	remove(name string) error
 	sync() error // of the folder
+	// there returns nil while the folder is at its path, with the lock that is held; and with this validator ID, if id is not nil.
+	// Else the error is ErrMoved. It makes two calls that read no disk, and three more for the ID.
+	there(id *svid.ValidatorID) error
 }
 
 // A file is open for writing.
@@ -59,34 +69,59 @@ type file interface {
 // A folder is one of the system's.
 type folder struct {
 	dir  string
-	self *os.File // open all the while, so that a sync needs no more files
+	self *os.File // open all the while
+
+	is, lock os.FileInfo // of the folder, and of the lock that is held
 }
 
 // openFolder opens the folder. It makes one that is not there, so that its name lasts.
 func openFolder(dir string) (*folder, error) {
-	dir = filepath.Clean(dir)
-	err := os.Mkdir(dir, 0o700)
-	if err == nil {
-		err = syncAbove(dir)
+	f := &folder{dir: filepath.Clean(dir)}
+	if err := makeFolder(f); err != nil {
+		return nil, err
 	}
-	if err != nil && !errors.Is(err, os.ErrExist) {
-		return nil, fmt.Errorf("journal: %w", err)
+	if err := f.open(); err != nil {
+		return nil, err
 	}
-	self, err := os.OpenFile(dir, os.O_RDONLY|syscall.O_DIRECTORY, 0)
-	if err != nil {
-		return nil, fmt.Errorf("journal: %w", err)
-	}
-	return &folder{dir, self}, nil
+	return f, nil
 }
 
-// syncAbove forces the name of the folder to the disk.
-func syncAbove(dir string) error {
-	above, err := os.Open(filepath.Dir(dir))
-	if err != nil {
-		return err
+// makeFolder makes the folder where it is not there, so that its name lasts. Where the sync of the folder above fails, no later sync
+// vouches for the name. So the folder is removed, and the next start makes it anew.
+func makeFolder(sys system) error {
+	err := sys.mkdir()
+	if errors.Is(err, os.ErrExist) {
+		return nil
 	}
-	defer above.Close()
-	return syncFile(above)
+	if err == nil {
+		if err = sys.syncAbove(); err != nil && sys.rmdir() != nil {
+			return unsure(sys, err)
+		}
+	}
+	if err != nil {
+		return fmt.Errorf("journal: %w", err)
+	}
+	return nil
+}
+
+// unsure is the error of a folder whose name may not last, and that stays.
+func unsure(sys system, why error) error {
+	return fmt.Errorf("journal: the name of %s may not last (%w): mend the disk, remove this folder, which keeps nothing yet, and start again",
+		sys.path(""), why)
+}
+
+// open keeps the folder open, so that a sync needs no more files.
+func (f *folder) open() error {
+	self, err := os.OpenFile(f.dir, os.O_RDONLY|syscall.O_DIRECTORY, 0)
+	if err != nil {
+		return fmt.Errorf("journal: %w", err)
+	}
+	if f.is, err = self.Stat(); err != nil {
+		self.Close()
+		return fmt.Errorf("journal: %w", err)
+	}
+	f.self = self
+	return nil
 }
 
 // syncFile is fsync. Tests let it fail.
@@ -95,6 +130,19 @@ var syncFile = (*os.File).Sync
 func (f *folder) Close() error { return f.self.Close() }
 
 func (f *folder) path(name string) string { return filepath.Join(f.dir, name) }
+
+func (f *folder) mkdir() error { return os.Mkdir(f.dir, 0o700) }
+
+func (f *folder) rmdir() error { return syscall.Rmdir(f.dir) }
+
+func (f *folder) syncAbove() error {
+	above, err := os.Open(filepath.Dir(f.dir))
+	if err != nil {
+		return err
+	}
+	defer above.Close()
+	return syncFile(above)
+}
 
 func (f *folder) names() ([]string, error) {
 	entries, err := os.ReadDir(f.dir)
@@ -126,6 +174,36 @@ func (f *folder) rename(from, to string) error { return os.Rename(f.path(from), 
 func (f *folder) remove(name string) error { return os.Remove(f.path(name)) }
 
 func (f *folder) sync() error { return syncFile(f.self) }
+
+func (f *folder) there(id *svid.ValidatorID) error {
+	if err := isAt(f.dir, f.is); err != nil {
+		return err
+	}
+	if err := isAt(f.path(lockName), f.lock); err != nil {
+		return err
+	}
+	if id == nil {
+		return nil
+	}
+	switch now, err := readID(f); {
+	case err != nil:
+		return fmt.Errorf("%w: %v", ErrMoved, err)
+	case now != *id:
+		return fmt.Errorf("%w: %s has the ID of another validator", ErrMoved, f.path(placeName))
+	}
+	return nil
+}
+
+// isAt is ErrMoved where a path does not lead to this file.
+func isAt(path string, file os.FileInfo) error {
+	switch now, err := os.Stat(path); {
+	case err != nil:
+		return fmt.Errorf("%w: %v", ErrMoved, err)
+	case !os.SameFile(now, file):
+		return fmt.Errorf("%w: %s is another file than the one that was opened", ErrMoved, path)
+	}
+	return nil
+}
 
 type osFile struct{ *os.File }
 
@@ -165,6 +243,10 @@ func (f *folder) hold() (*os.File, error) {
 	if err := f.lockFile(lock); err != nil {
 		lock.Close()
 		return nil, err
+	}
+	if f.lock, err = lock.Stat(); err != nil {
+		lock.Close()
+		return nil, fmt.Errorf("journal: %w", err)
 	}
 	return lock, nil
 }
@@ -243,12 +325,58 @@ func readID(sys system) (id svid.ValidatorID, err error) {
 	return id, nil
 }
 
-// makeID makes a validator ID at random and keeps it.
-func makeID(sys system) (id svid.ValidatorID, err error) {
+// findID reads the validator ID, or makes one at random, and keeps it where nothing else is kept yet.
+func findID(sys system, dir string) (id svid.ValidatorID, err error) {
+	isNew := false
+	if id, err = readID(sys); err == nil {
+		isNew, err = keepsNothing(sys)
+	} else if errors.Is(err, os.ErrNotExist) {
+		isNew = true
+		id, err = makeID(sys, dir)
+	}
+	if err == nil && isNew {
+		err = keepID(sys, id)
+	}
+	return id, err
+}
+
+// keepsNothing says whether the folder has neither a snapshot nor a journal.
+func keepsNothing(sys system) (bool, error) {
+	names, err := sys.names()
+	if err != nil {
+		return false, fmt.Errorf("journal: %w", err)
+	}
+	for _, name := range names {
+		if name == snapshotName || strings.HasPrefix(name, journalPrefix) {
+			return false, nil
+		}
+	}
+	return true, nil
+}
+
+// makeID makes a validator ID, where no file needs the one that is missing.
+func makeID(sys system, dir string) (id svid.ValidatorID, err error) {
+	found, err := readAll(sys, nil)
+	if err == nil {
+		err = found.fault(dir)
+	}
+	if err != nil {
+		return id, err
+	}
 	if id, err = svid.NewValidatorID(); err != nil {
 		return id, fmt.Errorf("journal: %w", err)
 	}
-	return id, keepText(sys, placeName, id.String())
+	return id, nil
+}
+
+// keepID keeps the validator ID, before anything is kept that can't be read without it. A start that failed or was killed may have left
+// a file that has it, and the folder itself: no later sync vouches for a name whose sync failed. So the file is made anew.
+func keepID(sys system, id svid.ValidatorID) error {
+	// (Who may not read the folder above has not made this one. Where that folder is only read, it may have no sync.)
+	if err := sys.syncAbove(); err != nil && !errors.Is(err, os.ErrPermission) && !errors.Is(err, syscall.EINVAL) {
+		return unsure(sys, err)
+	}
+	return keepText(sys, placeName, id.String())
 }
 
 // keepText makes a file of one line, whole or not at all, that lasts.

@@ -20,6 +20,8 @@
 //     bytes themselves.
 //   - A mark stands after a journal that was closed, and after one to which nobody appended for a second. So damage of the
 //     last batch is seen.
+//   - A lock keeps other processes from the folder, as long as its path leads to it. So no Append succeeds once the path leads
+//     elsewhere (ErrMoved).
 package journal
 
 import (
@@ -98,6 +100,7 @@ type Journal struct {
 	least  int64 // the room that Room wants
 
 	size     atomic.Int64 // for who does not wait for a write
+	moved    atomic.Bool  // broken is ErrMoved
 	older    int64        // how many bytes of frames older journals have, as a start found them
 	snapshot sync.Mutex   // held over a snapshot; guards next and upgrades
 	next     file         // the journal that is to grow
@@ -147,16 +150,7 @@ func openBy(sys system, dir string) (*Journal, error) {
 	if err := removeUnfinished(sys); err != nil {
 		return nil, err
 	}
-	id, err := readID(sys)
-	if errors.Is(err, os.ErrNotExist) {
-		var found *contents
-		if found, err = readAll(sys, nil); err == nil {
-			err = found.fault(dir)
-		}
-		if err == nil {
-			id, err = makeID(sys)
-		}
-	}
+	id, err := findID(sys, dir)
 	if err != nil {
 		return nil, err
 	}
@@ -324,6 +318,8 @@ func (j *Journal) Size() int64 { return j.size.Load() }
 //
 // AppendUses waits until ctx ends, and wraps its error then. What becomes of the uses is open in that case: the disk has them
 // now, or later, or never.
+//
+// Where the path of the folder leads elsewhere once the uses are written, this and every later Append fails, and wraps ErrMoved.
 func (j *Journal) AppendUses(ctx context.Context, uses ...svid.Use) error {
 	return j.append(ctx, &commit{uses: uses})
 }
@@ -481,6 +477,10 @@ func (j *Journal) commit(payload []byte) error {
 		j.core.Failed()
 		return j.end(err)
 	}
+	if err := j.sys.there(nil); err != nil {
+		j.core.Failed()
+		return j.end(err)
+	}
 	if err := j.core.Synced(); err != nil {
 		return j.end(err)
 	}
@@ -547,6 +547,9 @@ func (j *Journal) mark() error {
 type ended struct{ why error }
 
 func (e *ended) Error() string {
+	if errors.Is(e.why, ErrMoved) {
+		return fmt.Sprintf("journal: %v: put the folder back there, and start the service again", e.why)
+	}
 	return fmt.Sprintf("journal: %v: start the service again once its disk is well", e.why)
 }
 func (e *ended) Unwrap() error        { return e.why }
@@ -556,9 +559,14 @@ func (e *ended) Is(target error) bool { return target == svid.ErrFolderEnded }
 func (j *Journal) end(why error) error {
 	if j.broken == nil || j.broken == errUnread {
 		j.broken = &ended{why}
+		j.moved.Store(errors.Is(why, ErrMoved))
 	}
 	return j.broken
 }
+
+// Moved says whether nothing can be appended any more since the path of the folder leads elsewhere (ErrMoved). Append, Snapshot
+// and Room see that. It waits for no disk.
+func (j *Journal) Moved() bool { return j.moved.Load() }
 
 // Snapshot replaces the snapshot by what write writes, and then drops the journals that are older than the call. Each Write is
 // whole messages, and at most svid.MaxPayload bytes.
@@ -608,6 +616,11 @@ func (j *Journal) makeCalls(write func(io.Writer) error) error {
 		call, number, err := j.core.Due()
 		if err != nil {
 			return fmt.Errorf("journal: %w", err)
+		}
+		if err := j.sys.there(nil); err != nil { // What is there now may be another one's.
+			j.write.Lock()
+			defer j.write.Unlock()
+			return j.end(err)
 		}
 		switch call {
 		case svid.NoCall:

@@ -75,15 +75,19 @@ func mustOpen(t *testing.T, dir string) *opened {
 
 // openWith opens a folder by other calls of the system, and reads it.
 func openWith(dir string, wrap func(system) system) (*opened, error) {
-	f, err := openFolder(dir)
-	if err != nil {
+	f := &folder{dir: dir}
+	sys := wrap(f)
+	if err := makeFolder(sys); err != nil {
+		return nil, err
+	}
+	if err := f.open(); err != nil {
 		return nil, err
 	}
 	lock, err := f.hold()
 	if err != nil {
 		return nil, err
 	}
-	j, err := openBy(wrap(f), dir)
+	j, err := openBy(sys, dir)
 	if err != nil {
 		f.Close()
 		lock.Close()
@@ -93,13 +97,39 @@ func openWith(dir string, wrap func(system) system) (*opened, error) {
 	return load(j, nil)
 }
 
-// begin opens a folder of a model of a disk, and reads it.
-func begin(d *disk) (*opened, error) { return load(openBy(d, "disk")) }
+// begin opens the folder of a model of a disk, and reads it.
+func begin(d *disk) (*opened, error) {
+	if err := makeFolder(d); err != nil {
+		return nil, err
+	}
+	return load(openBy(d, "disk"))
+}
 
 // A watched system asks before each call that changes something, and lets it fail with what it is answered.
 type watched struct {
 	system
 	before func(call, name string) error
+}
+
+func (w *watched) mkdir() error {
+	if err := w.before("mkdir", ""); err != nil {
+		return err
+	}
+	return w.system.mkdir()
+}
+
+func (w *watched) rmdir() error {
+	if err := w.before("rmdir", ""); err != nil {
+		return err
+	}
+	return w.system.rmdir()
+}
+
+func (w *watched) syncAbove() error {
+	if err := w.before("sync above", ""); err != nil {
+		return err
+	}
+	return w.system.syncAbove()
 }
 
 func (w *watched) create(name string) (file, error) {
@@ -446,7 +476,7 @@ func TestATornTailIsNotRead(t *testing.T) {
 	want := func(content []byte, good int) {
 		t.Helper()
 		d := newDisk()
-		d.others[placeName] = id
+		d.here, d.id = settled(true), settled(atRest(id))
 		d.snapshot = settled(atRest(snapshot))
 		*d.journal(2) = journalOnDisk{atRest(content), settled(true)}
 		before := d.journal(2).file.String()
@@ -1248,7 +1278,7 @@ func TestTheNameOfANewFolderLasts(t *testing.T) {
 // Any call that fails at a start is an error, and the next start goes on.
 func TestEachFailedCallOfAStartIsAnError(t *testing.T) {
 	for number, last := 0, false; !last; number++ {
-		dir := t.TempDir()
+		dir := filepath.Join(t.TempDir(), "state")
 		f := &fuse{}
 		f.from(number)
 		j, err := openWith(dir, func(s system) system { return &watched{s, f.before} })

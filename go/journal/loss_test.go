@@ -10,6 +10,7 @@ import (
 	"math/rand"
 	"os"
 	"sort"
+	"strings"
 	"syscall"
 	"testing"
 )
@@ -58,6 +59,12 @@ func (h *history) life(calls, faults int) (lost bool) {
 	j, err := begin(h.disk)
 	h.did = append(h.did, fmt.Sprintf("start: %v", err))
 	if err != nil {
+		if strings.Contains(err.Error(), "remove this folder") && !h.lost { // As someone does who reads that.
+			here := h.disk.here
+			here.leads(false)
+			h.disk = newDisk()
+			h.disk.here = here
+		}
 		if damaged := new(damage); errors.As(err, &damaged) || calls < 0 && faults == 0 {
 			h.fail("a start is refused: %v", err)
 		}
@@ -233,11 +240,14 @@ func TestALossOfPowerOverAnOldFolder(t *testing.T) {
 			}
 			losses(t, share(5000), func() *disk {
 				d := newDisk()
+				d.here = settled(true)
 				for file, content := range files {
 					if n, is := numberOf(file); is {
 						*d.journal(n) = journalOnDisk{atRest(content), settled(true)}
 					} else if file == snapshotName {
 						d.snapshot = settled(atRest(content))
+					} else if file == placeName {
+						d.id = settled(atRest(content))
 					} else {
 						d.others[file] = content
 					}

@@ -29,7 +29,7 @@ var (
 // NewModel returns a disk with an empty folder, but for the ID of a validator.
 func NewModel(id svid.ValidatorID) *Model {
 	d := newDisk()
-	d.others[placeName] = []byte(id.String() + "\n")
+	d.here, d.id = settled(true), settled(atRest([]byte(id.String()+"\n")))
 	return &Model{d}
 }
 
@@ -49,6 +49,9 @@ func (m *Model) Crash(r *rand.Rand) *Model { return &Model{m.disk.crash(r)} }
 
 // Open opens the folder. The journal has no timer: nothing happens to it but by its calls.
 func (m *Model) Open() (*Journal, error) {
+	if err := makeFolder(m.disk); err != nil {
+		return nil, err
+	}
 	j, err := openBy(m.disk, "disk")
 	if err == nil {
 		j.quiet, j.growth = 0, 256
@@ -58,13 +61,16 @@ func (m *Model) Open() (*Journal, error) {
 
 // A disk is a model of one with one folder: what each call does, and what a crash may leave. Names, lengths and blocks come to
 // it by themselves, each on its own, in any order; only a sync says what is there. It is the model of the proofs
-// (crates/svid_journal/specs/Disk.antt), and TestTheModelOfADisk holds it to that. The lock and the validator ID, of which the proofs
-// do not speak, are the files of a disk that keeps all.
+// (crates/svid_journal/specs/Disk.antt), and TestTheModelOfADisk holds it to that. The proofs do not speak of the folder's own name,
+// which is as the others. Nor do they speak of the lock and of what an older version left: a disk keeps all of these files.
 type disk struct {
 	mu       sync.Mutex
+	here     nameOf[bool] // the folder itself
 	journals map[uint64]*journalOnDisk
 	snapshot nameOf[*fileOnDisk] // nil where there is none
 	beside   *fileOnDisk
+	id       nameOf[*fileOnDisk]
+	idBeside *fileOnDisk
 	others   map[string][]byte
 
 	// before is asked before each call that changes something, and may let it fail. For a write that fails, it says how many
@@ -93,9 +99,12 @@ type journalOnDisk struct {
 
 func newDisk() *disk {
 	return &disk{
+		here:     settled(false),
 		journals: map[uint64]*journalOnDisk{},
 		snapshot: settled[*fileOnDisk](nil),
 		beside:   &fileOnDisk{},
+		id:       settled[*fileOnDisk](nil),
+		idBeside: &fileOnDisk{},
 		others:   map[string][]byte{},
 		before:   func(string, string, int) (int, error) { return 0, nil },
 	}
@@ -162,6 +171,39 @@ func (d *disk) journal(n uint64) *journalOnDisk {
 
 func (d *disk) path(name string) string { return filepath.Join("disk", name) }
 
+func (d *disk) mkdir() error {
+	d.mu.Lock()
+	defer d.mu.Unlock()
+	if d.here.now {
+		return &os.PathError{Op: "mkdir", Path: "disk", Err: syscall.EEXIST}
+	}
+	if _, err := d.before("mkdir", "", 0); err != nil {
+		return err
+	}
+	d.here.leads(true)
+	return nil
+}
+
+func (d *disk) rmdir() error {
+	d.mu.Lock()
+	defer d.mu.Unlock()
+	if _, err := d.before("rmdir", "", 0); err != nil {
+		return err
+	}
+	d.here.leads(false)
+	return nil
+}
+
+func (d *disk) syncAbove() error {
+	d.mu.Lock()
+	defer d.mu.Unlock()
+	_, err := d.before("sync of the folder above", "", 0)
+	if err != ErrLost && err != ErrGone {
+		d.here.named(err == nil)
+	}
+	return err
+}
+
 func (d *disk) names() ([]string, error) {
 	d.mu.Lock()
 	defer d.mu.Unlock()
@@ -179,6 +221,9 @@ func (d *disk) names() ([]string, error) {
 	}
 	if d.snapshot.now != nil {
 		all = append(all, snapshotName)
+	}
+	if d.id.now != nil {
+		all = append(all, placeName)
 	}
 	sort.Strings(all)
 	return all, nil
@@ -202,6 +247,9 @@ func (d *disk) read(name string) ([]byte, error) {
 	if name == snapshotName && d.snapshot.now != nil {
 		content, there = d.snapshot.now.seen, true
 	}
+	if name == placeName && d.id.now != nil {
+		content, there = d.id.now.seen, true
+	}
 	if !there {
 		return nil, absent("open", name)
 	}
@@ -214,17 +262,20 @@ func (d *disk) create(name string) (file, error) {
 	if _, err := d.before("create", name, 0); err != nil {
 		return nil, err
 	}
-	f := &openFile{disk: d, name: name}
+	f := &openFile{disk: d, name: name, file: &fileOnDisk{}}
 	if n, is := numberOf(name); is {
 		j := d.journal(n)
-		j.file = &fileOnDisk{}
+		j.file = f.file
 		j.here.leads(true)
-		f.file = j.file
-	} else if name == snapshotName+unfinished {
-		d.beside = &fileOnDisk{}
-		f.file = d.beside
-	} else {
-		d.others[name] = nil
+		return f, nil
+	}
+	switch name {
+	case snapshotName + unfinished:
+		d.beside = f.file
+	case placeName + unfinished:
+		d.idBeside = f.file
+	default:
+		d.others[name], f.file = nil, nil
 	}
 	return f, nil
 }
@@ -237,6 +288,10 @@ func (d *disk) rename(from, to string) error {
 	}
 	if from == snapshotName+unfinished && to == snapshotName {
 		d.snapshot.leads(d.beside.copied())
+		return nil
+	}
+	if from == placeName+unfinished && to == placeName {
+		d.id.leads(d.idBeside.copied())
 		return nil
 	}
 	content, there := d.others[from]
@@ -263,11 +318,14 @@ func (d *disk) remove(name string) error {
 		return nil
 	}
 	if _, there := d.others[name]; !there {
-		return absent("remove", name) // (the file beside has no name in the model: it is made anew)
+		return absent("remove", name) // (a file beside has no name in the model: it is made anew)
 	}
 	delete(d.others, name)
 	return nil
 }
+
+// Its path leads nowhere else.
+func (d *disk) there(*svid.ValidatorID) error { return nil }
 
 func (d *disk) sync() error {
 	d.mu.Lock()
@@ -280,6 +338,7 @@ func (d *disk) sync() error {
 		j.here.named(err == nil)
 	}
 	d.snapshot.named(err == nil)
+	d.id.named(err == nil)
 	return err
 }
 
@@ -330,6 +389,9 @@ func (d *disk) crash(r *rand.Rand) *disk {
 	d.mu.Lock()
 	defer d.mu.Unlock()
 	after := newDisk()
+	if after.here = settled(oneOf(r, d.here.may)); !after.here.now {
+		return after // and nothing in it
+	}
 	for name, content := range d.others {
 		after.others[name] = content
 	}
@@ -350,6 +412,10 @@ func (d *disk) crash(r *rand.Rand) *disk {
 		after.snapshot = settled(there.left(r, stale))
 	}
 	after.beside = d.beside.left(r, stale)
+	if there := oneOf(r, d.id.may); there != nil {
+		after.id = settled(there.left(r, stale))
+	}
+	after.idBeside = d.idBeside.left(r, stale)
 	return after
 }
 

@@ -8,7 +8,8 @@ import (
 // leastRoom is how many bytes of room a journal must have, or find on the disk, for what is appended next: some hundred uses.
 const leastRoom = 16 << 10
 
-// Room returns nil if the folder takes what is appended next: nothing has ended it, and the disk has room for some hundred uses.
+// Room returns nil if the folder takes what is appended next: nothing has ended it, it is still at its path with the validator's ID, and
+// the disk has room for some hundred uses.
 // It puts zeros after the journal where that has less room, so what it finds stays there for the next Append.
 //
 // It waits as Append does: until the disk has answered to the writes before it, or ctx ends. Its error is what Append would
@@ -33,6 +34,9 @@ func (j *Journal) makeRoom() error {
 		return j.broken
 	case j.old:
 		return errOld
+	}
+	if err := j.sys.there(&j.id); err != nil {
+		return j.end(err)
 	}
 	_, at := j.core.Growing()
 	if j.room-at >= j.least {

@@ -31,10 +31,22 @@ func TestEachAllocationOfACheckRefused(t *testing.T) {
 				read.Close()
 				return v.CheckToken(now, read)
 			},
-			"Judge":      func(read *Token, yes []Question) (Accepted, error) { return v.Judge(now, read.text, yes) },
+			"Judge": func(read *Token, yes []Question) (Accepted, error) { return v.Judge(now, read.text, yes) },
+			"CheckToken by a key that was named": func(read *Token, _ []Question) (Accepted, error) {
+				by := read.found.by
+				read.VerifiedBy(nil)
+				read.VerifiedBy(by)
+				return v.CheckToken(now, read)
+			},
 			"JudgeToken": func(read *Token, _ []Question) (Accepted, error) { return v.JudgeToken(now, read) },
 			"JudgeToken of a closed token": func(read *Token, _ []Question) (Accepted, error) {
 				read.Close()
+				return v.JudgeToken(now, read)
+			},
+			"JudgeToken by a key that was named": func(read *Token, _ []Question) (Accepted, error) {
+				by := read.found.by
+				read.VerifiedBy(nil)
+				read.VerifiedBy(by)
 				return v.JudgeToken(now, read)
 			},
 		} {

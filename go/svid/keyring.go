@@ -346,7 +346,7 @@ func (k *Keyring) verifyToken(t *Token) (made, error) {
 	for {
 		made, err := k.tried(r, t)
 		if err != nil || made.by == nil || k.has(made.keys) {
-			t.by = made.by
+			t.found = r.signing.found(made.by)
 			return made, err
 		}
 	}

@@ -155,6 +155,7 @@ func TestEachCallOfAValidatorHoldsItsLock(t *testing.T) {
 		"WalkAnswer":   func() { _, _ = v.WalkAnswer(summary, 1000) },
 		"WalkSummary":  func() { _, _ = v.WalkSummary(0) },
 		"Withdraw":     func() { _, _ = v.Withdraw(now, judged.Use.Key, now+300) },
+		"WithdrawOnce": func() { _, _ = v.WithdrawOnce(now, judged.Use.Key, now+300) },
 	}
 	methods(t, v, calls)
 	v.mu.Lock()

@@ -35,6 +35,14 @@ func (v *Validator) SetBundles(bundles []byte) error {
 	return v.renew(&b, bundles)
 }
 
+// CheckBundles returns nil if these trust bundles can be read, and else the error of NewKeyring. It keeps nothing.
+func CheckBundles(bundles []byte) error {
+	var b C.svid_bundles
+	var told C.svid_told
+	defer freed(&b, len(bundles))
+	return failure(C.svid_bundles_open(&b, start(bundles), C.size_t(len(bundles)), &told), &told)
+}
+
 // Renew replaces the trust bundles of the validator and of its keyring as one: no
 // token is verified by the ones and judged by the others, except those that are
 // verified just then. On an error both keep the old bundles. The bundles are read
@@ -68,6 +76,7 @@ func openRenewal(text []byte) (*renewal, error) {
 	if err := failure(C.svid_bundles_open(r.bundles, start(text), C.size_t(len(text)), told), told); err != nil {
 		return nil, err
 	}
+	trim(len(text)) // The askers may be read by another thread, which would not find that room.
 	var err error
 	if r.askers, err = openAskers(text); err != nil {
 		freed(r.bundles, len(text))
@@ -95,6 +104,11 @@ func (r *renewal) of(v *Validator, k *Keyring) error {
 // read large bundles.)
 func freed(b *C.svid_bundles, size int) {
 	C.svid_bundles_close(b)
+	trim(size)
+}
+
+// trim gives back what it took to read bundles of so many bytes.
+func trim(size int) {
 	if size > trimmedBundles {
 		C.trim()
 	}

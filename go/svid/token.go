@@ -8,11 +8,20 @@ _Static_assert(offsetof(svid_token, word) == 0 && offsetof(svid_validator, word)
 static uint32_t read_token(uint64_t *t, _GoString_ token, svid_told *told) {
     return svid_token_open((svid_token *)t, (const uint8_t *)_GoStringPtr(token), _GoStringLen(token), told);
 }
-static uint32_t check_token(uint64_t *v, uint64_t now, _GoString_ key, uint64_t *t, uint8_t *out, size_t out_len, svid_use *used, svid_told *told) {
-    return svid_validator_check_token((svid_validator *)v, now, (const uint8_t *)_GoStringPtr(key), _GoStringLen(key), (svid_token *)t, out, out_len, used, told);
+static uint32_t check_token(uint64_t *v, uint64_t now, _GoString_ key, _GoString_ input, const uint8_t *signature, size_t signature_len,
+                            uint64_t *t, uint8_t *out, size_t out_len, svid_use *used, svid_told *told) {
+    return svid_validator_check_token((svid_validator *)v, now, (const uint8_t *)_GoStringPtr(key), _GoStringLen(key),
+                                      (const uint8_t *)_GoStringPtr(input), _GoStringLen(input), signature, signature_len,
+                                      (svid_token *)t, out, out_len, used, told);
 }
-static uint32_t judge_token(uint64_t *v, uint64_t now, _GoString_ key, uint64_t *t, uint8_t *out, size_t out_len, svid_use *used, svid_told *told) {
-    return svid_validator_judge_token((svid_validator *)v, now, (const uint8_t *)_GoStringPtr(key), _GoStringLen(key), (svid_token *)t, out, out_len, used, told);
+static uint32_t judge_token(uint64_t *v, uint64_t now, _GoString_ key, _GoString_ input, const uint8_t *signature, size_t signature_len,
+                            uint64_t *t, uint8_t *out, size_t out_len, svid_use *used, svid_told *told) {
+    return svid_validator_judge_token((svid_validator *)v, now, (const uint8_t *)_GoStringPtr(key), _GoStringLen(key),
+                                      (const uint8_t *)_GoStringPtr(input), _GoStringLen(input), signature, signature_len,
+                                      (svid_token *)t, out, out_len, used, told);
+}
+static uint32_t token_signature(_GoString_ token, svid_signed *over, uint8_t *out, size_t out_len, svid_told *told) {
+    return svid_token_signature((const uint8_t *)_GoStringPtr(token), _GoStringLen(token), over, out, out_len, told);
 }
 static void close_token(uint64_t *t) { svid_token_close((svid_token *)t); }
 */
@@ -26,9 +35,34 @@ import "errors"
 // it was given to a call, and Close it.
 type Token struct {
 	text   string
-	by     *Key // that made the signature, where one is known to have
+	found  finding
 	handle C.svid_token
 	isRead bool // The handle is open.
+}
+
+// A finding of a verifier: the key made this signature over this text. The library
+// compares all three with the token that it checks, so a finding of another token is
+// no answer.
+type finding struct {
+	by        *Key // nil where no key is known to have made the signature
+	text      string
+	signature []byte // nil where VerifiedBy named the key
+}
+
+// found is the finding that this key made the signature, or that none did.
+func (s *signing) found(by *Key) finding {
+	if by == nil {
+		return finding{}
+	}
+	return finding{by, s.text, append([]byte(nil), s.signature...)}
+}
+
+// key is the JSON of the key, and empty where there is none.
+func (f *finding) key() string {
+	if f.by == nil {
+		return ""
+	}
+	return f.by.text
 }
 
 // NewToken returns a token of this text. Nothing reads it yet.
@@ -39,8 +73,14 @@ func (t *Token) Text() string { return t.text }
 
 // VerifiedBy says that this key made the token's signature, as Keyring.VerifyToken
 // found for the same text before. The validator accepts the token only if it has
-// that key at the moment. nil says that no key is known to have made it.
-func (t *Token) VerifiedBy(key *Key) { t.by = key }
+// that key at the moment. nil says that no key is known to have made it. It is you
+// who answers for that: what VerifyToken finds is compared with the token, but a key
+// alone says nothing of a token.
+func (t *Token) VerifiedBy(key *Key) {
+	if t.found.by != key {
+		t.found = finding{by: key}
+	}
+}
 
 // Close frees what the library has read of the token. A later call reads it again.
 func (t *Token) Close() {
@@ -64,12 +104,19 @@ func (t *Token) read(told *C.svid_told) error {
 	return err
 }
 
-// key is the JSON of the key that made the signature, and empty where none is known to have.
-func (t *Token) key() string {
-	if t.by == nil {
-		return ""
+// complete takes what the key of VerifiedBy signed from the token, which can be read. The error is ErrNoMemory.
+func (t *Token) complete() error {
+	if t.found.by == nil || t.found.signature != nil {
+		return nil
 	}
-	return t.by.text
+	var over C.svid_signed
+	var told C.svid_told
+	room := make([]byte, len(t.text))
+	if err := failure(C.token_signature(t.text, &over, start(room), C.size_t(len(room)), &told), &told); err != nil {
+		return err
+	}
+	t.found.text, t.found.signature = t.text[:over.len], room[:told.len]
+	return nil
 }
 
 // isRefused says whether the token is refused by itself. Else it is read, or the error is ErrNoMemory.
@@ -93,9 +140,13 @@ func (v *Validator) CheckToken(now uint64, t *Token) (Accepted, error) {
 	} else if err != nil {
 		return Accepted{}, err
 	}
+	if err := t.complete(); err != nil {
+		return Accepted{}, err
+	}
 	v.mu.Lock()
 	defer v.mu.Unlock()
-	status := C.check_token(&v.handle.word, C.uint64_t(now), t.key(), &t.handle.word, start(v.id[:]), C.size_t(len(v.id)), &v.used, &v.told)
+	f := &t.found
+	status := C.check_token(&v.handle.word, C.uint64_t(now), f.key(), f.text, start(f.signature), C.size_t(len(f.signature)), &t.handle.word, start(v.id[:]), C.size_t(len(v.id)), &v.used, &v.told)
 	return v.accepted(status)
 }
 
@@ -107,8 +158,12 @@ func (v *Validator) JudgeToken(now uint64, t *Token) (Accepted, error) {
 	} else if err != nil {
 		return Accepted{}, err
 	}
+	if err := t.complete(); err != nil {
+		return Accepted{}, err
+	}
 	v.mu.Lock()
 	defer v.mu.Unlock()
-	status := C.judge_token(&v.handle.word, C.uint64_t(now), t.key(), &t.handle.word, start(v.id[:]), C.size_t(len(v.id)), &v.used, &v.told)
+	f := &t.found
+	status := C.judge_token(&v.handle.word, C.uint64_t(now), f.key(), f.text, start(f.signature), C.size_t(len(f.signature)), &t.handle.word, start(v.id[:]), C.size_t(len(v.id)), &v.used, &v.told)
 	return v.accepted(status)
 }

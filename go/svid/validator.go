@@ -271,6 +271,24 @@ func (v *Validator) Withdraw(now uint64, key TokenKey, exp uint64) (Use, error) 
 	return v.use(true), nil
 }
 
+// WithdrawOnce does so unless the record has a withdrawal of the token: then nothing is added, and the error is Withdrawn. So a
+// withdrawal that is heard many times, as from a store, stands in the record once.
+func (v *Validator) WithdrawOnce(now uint64, key TokenKey, exp uint64) (Use, error) {
+	if err := v.judgeUse(now, key, exp); err == Withdrawn || err == ErrJump || err == ErrClosed {
+		return Use{}, err
+	}
+	return v.Withdraw(now, key, exp)
+}
+
+// judgeUse is nil, Expired, Withdrawn or Replayed, by the use alone.
+func (v *Validator) judgeUse(now uint64, key TokenKey, exp uint64) error {
+	v.mu.Lock()
+	defer v.mu.Unlock()
+	*(*TokenKey)(unsafe.Pointer(&v.key)) = key
+	status := C.svid_validator_judge_again(&v.handle, C.uint64_t(now), &v.key, C.uint64_t(exp), &v.told)
+	return failure(status, &v.told)
+}
+
 // Tick advances the record to now, and drops what has expired by then.
 // Errors: ErrJump.
 func (v *Validator) Tick(now uint64) error {

@@ -55,5 +55,5 @@ func ExampleProtect() {
 	// Output:
 	// 200  hello spiffe://example.org/web
 	// 401 Bearer error="invalid_token", error_description="Replayed" {"reason":"Replayed","result":"refused"}
-	// 401 Bearer {"reason":"NoToken","result":"refused"}
+	// 401 Bearer realm="svid" {"reason":"NoToken","result":"refused"}
 }

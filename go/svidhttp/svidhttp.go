@@ -76,7 +76,7 @@ type Denial struct {
 	Result string // "refused" or "unavailable"
 	Reason string // NoToken, NotBearer, NotAllowed, the name of a svid.Refusal, or why there is no answer
 
-	code string // the error code of RFC 6750, section 3.1; "" where no token was given
+	code string // the error code of RFC 6750, section 3.1; "" where the client tried no bearer token, of which section 3 wants none
 }
 
 // DenialOf returns the answer for an error of svid.BearerToken or of Checker.Check.
@@ -86,6 +86,8 @@ func DenialOf(err error) Denial {
 	switch {
 	case errors.As(err, &none) && none == svid.BearerAbsent:
 		return Denial{Status: http.StatusUnauthorized, Result: "refused", Reason: "NoToken"}
+	case errors.As(err, &none) && none == svid.BearerScheme:
+		return Denial{Status: http.StatusUnauthorized, Result: "refused", Reason: "NotBearer"}
 	case errors.As(err, &none):
 		return Denial{http.StatusUnauthorized, "refused", "NotBearer", "invalid_request"}
 	case errors.Is(err, ErrNotAllowed):
@@ -96,6 +98,9 @@ func DenialOf(err error) Denial {
 	return Denial{Status: http.StatusServiceUnavailable, Result: "unavailable", Reason: "NotJudged"}
 }
 
+// noTokenTried is a challenge without an error. RFC 6750, section 3, wants one parameter at least.
+const noTokenTried = `Bearer realm="svid"`
+
 // Write answers with the status, a challenge as RFC 6750 has it or Retry-After, and a JSON body with Result and Reason.
 func (d Denial) Write(w http.ResponseWriter) {
 	body := jsontext.Append([]byte(`{"reason":`), d.Reason)
@@ -104,7 +109,7 @@ func (d Denial) Write(w http.ResponseWriter) {
 	case d.Status == http.StatusServiceUnavailable:
 		w.Header().Set("Retry-After", "1")
 	case d.code == "":
-		w.Header().Set("WWW-Authenticate", "Bearer")
+		w.Header().Set("WWW-Authenticate", noTokenTried)
 	default:
 		w.Header().Set("WWW-Authenticate", `Bearer error="`+d.code+`", error_description="`+d.Reason+`"`)
 	}

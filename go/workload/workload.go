@@ -20,6 +20,7 @@ import (
 	"time"
 
 	"golang.org/x/net/http2"
+	"svid.example/go/v2/internal/brief"
 	"svid.example/go/v2/internal/protowire"
 )
 
@@ -114,7 +115,7 @@ func (c *Client) watch(ctx context.Context, late *time.Timer, give func(bundles 
 	}
 	defer answer.Body.Close()
 	if kind := answer.Header.Get("Content-Type"); answer.StatusCode != http.StatusOK || !strings.HasPrefix(kind, "application/grpc") {
-		return fmt.Errorf("it answers %s with %q: no gRPC is served there", answer.Status, kind)
+		return fmt.Errorf("it answers %s with %q: no gRPC is served there", brief.Text(answer.Status, brief.Most), brief.Text(kind, brief.Most))
 	}
 	for {
 		message, err := readMessage(answer.Body, func() { late.Reset(c.limit) })
@@ -176,6 +177,7 @@ func ending(answer *http.Response) error {
 	if err != nil {
 		why = status.Get("Grpc-Message")
 	}
+	why = brief.Text(why, brief.Most)
 	code, err := strconv.Atoi(status.Get("Grpc-Status"))
 	switch {
 	case err != nil:

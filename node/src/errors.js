@@ -50,9 +50,6 @@ export class BadMessages extends SvidError {
   }
 }
 
-/** Nobody accepts the token: the log of the group did not keep its claim in time. It may be used up all the same. */
-export class Unavailable extends SvidError {}
-
 /** The platform's WebCrypto, or a verifier of your own, could not say whether a key made a signature. Nothing was accepted. */
 export class Unverifiable extends SvidError {
   constructor(options) {
@@ -74,15 +71,9 @@ export class Stopped extends SvidError {
   }
 }
 
-/** The log may lose values while they live. The message says why, and what to change. */
-export class UnfitLog extends SvidError {}
-
-/** The log is another one than was read so far: values that were read may be gone. */
-export class OtherLog extends SvidError {}
-
 // (each by its own text, since tools that make scripts shorter change the names of classes)
 for (const [name, kind] of Object.entries({
-  SvidError, Closed, Jump, Gone, TooFar, BadBundles, BadMessages, Unavailable, Unverifiable, OutOfMemory, Stopped, UnfitLog, OtherLog,
+  SvidError, Closed, Jump, Gone, TooFar, BadBundles, BadMessages, Unverifiable, OutOfMemory, Stopped,
 })) {
   Object.defineProperty(kind.prototype, "name", { value: name, configurable: true, writable: true });
 }

@@ -4,6 +4,7 @@ import { Refusal } from "./errors.js";
 
 const HEADER = "authorization";
 const NOT_ALLOWED = 'Bearer error="insufficient_scope", error_description="NotAllowed"';
+const NO_TOKEN = 'Bearer realm="svid"';
 const NOT_BEARER = 'Bearer error="invalid_request", error_description="NotBearer"';
 
 /**
@@ -29,7 +30,7 @@ export function protect(validator, handler, { onError = () => {}, allow } = {}) 
 
 // The patterns of who may call, once each of them is one. Undefined for all callers, which an empty list is not.
 function wanted(validator, allow) {
-  if (typeof validator?.check !== "function" || typeof validator?.bearer !== "function") throw new TypeError("a Validator or a Member is wanted");
+  if (typeof validator?.check !== "function" || typeof validator?.bearer !== "function") throw new TypeError("a Validator is wanted");
   if (allow === undefined) return undefined;
   const patterns = typeof allow === "string" ? [allow] : [...allow];
   if (!patterns.length) throw new RangeError("allow is empty: name who may call, or leave it out to let all call");
@@ -41,8 +42,8 @@ function wanted(validator, allow) {
 async function admitted(validator, req, res, onError, patterns) {
   try {
     delete req.svid;
-    const { token, spelling } = validator.bearer(valuesOf(req));
-    if (token === undefined) return answer(res, 401, spelling ? NOT_BEARER : "Bearer");
+    const { token, several, spelling } = validator.bearer(valuesOf(req));
+    if (token === undefined) return answer(res, 401, several || spelling ? NOT_BEARER : NO_TOKEN);
     if (patterns && !patterns.some((it) => validator.allows(it, validator.says(token).spiffeId))) {
       await validator.judge(token);
       return answer(res, 403, NOT_ALLOWED);

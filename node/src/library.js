@@ -1,11 +1,11 @@
 // The library svid as a WebAssembly module: the calls of include/svid.h that this package makes.
 //
-// Pointers, lengths, times and positions are BigInts, as they have 64 bits; a status is a number. A handle has an instance of the module for
+// Pointers, lengths and times are BigInts, as they have 64 bits; a status is a number. A handle has an instance of the module for
 // itself, so that one that stops, or that has no memory left, takes no other with it.
 
 import { ofBundles, ofDocuments, ofStatus, wordsOf, Closed, OutOfMemory, Stopped } from "./errors.js";
 
-const OK = 0, TOO_SHORT = 1, NO_MEMORY = 2, NO_LOG = 19, BEARER_SPELLING = 84, NOT_ALLOWED = 91, FIRST_MESSAGE_FAULT = 11, LAST_MESSAGE_FAULT = 18;
+const OK = 0, TOO_SHORT = 1, NO_MEMORY = 2, BEARER_SEVERAL = 82, BEARER_SPELLING = 84, NOT_ALLOWED = 91;
 const FIRST_REFUSAL = 101, TOO_LONG = 101;
 const SPKI_ROOM = 2100;
 /** How many bytes the message of a use has: the least that `parts` is given. */
@@ -14,18 +14,13 @@ const MOST_CANDIDATES = 3n;
 const MAJOR = 2;
 /** No limit, of seconds. */
 export const ANY = 2n ** 64n - 1n;
-/** What becomes of a use that stands in a log; other fates are those of a status. */
-export const FATE_ACCEPTED = 0, FATE_WITHDRAWAL = 2, FATE_TOO_FAR_AHEAD = 8;
-const ORDER_GAP = 2n;
 /** How many bits an RSA key may have: unless an option says more, at the least, and at the most. */
 export const USUAL_RSA_BITS = 4096, LEAST_RSA_BITS = 2048, MOST_RSA_BITS = 16384;
 /** What `open` is to open. */
 export const VALIDATOR = "validator", BUNDLES = "bundles";
 
 // The sizes of the header's structures, in bytes.
-const TOLD = 40, TERMS = 40, SETTING = 32, USE = 64, HANDLE = 16, DIGEST = 32, VALIDATOR_ID = 16, WORD = 8, PART = 88, FATE = 72, DOCUMENT = 24;
-// How many uses of a value are read at once.
-const FATES = 64;
+const TOLD = 40, TERMS = 40, SETTING = 32, HANDLE = 16, DIGEST = 32, VALIDATOR_ID = 16, WORD = 8, PART = 88, DOCUMENT = 24;
 
 // Room that each instance has from its beginning, and where it stands: no call on a token needs more, but for long rows. A token that has
 // more bytes than its room is too long for the library however many those are, so the rest is not lent.
@@ -37,8 +32,7 @@ const NEEDS = [
   "room", "free_room", "svid_version", "svid_id_parse", "svid_key_spki", "svid_bearer_token", "svid_token_says", "svid_token_signature", "svid_id_allows", "svid_batch_of", "svid_report",
   "svid_validator_open_by_lengths", "svid_validator_close", "svid_validator_bundles", "svid_validator_ask", "svid_validator_check",
   "svid_validator_judge", "svid_validator_withdraw", "svid_validator_tick", "svid_validator_take", "svid_validator_parts",
-  "svid_validator_size", "svid_validator_summary", "svid_validator_answer", "svid_validator_log", "svid_validator_read",
-  "svid_validator_mark", "svid_validator_go_on", "svid_validator_beside", "svid_bundles_open", "svid_bundles_close", "svid_bundles_ask",
+  "svid_validator_size", "svid_validator_summary", "svid_validator_answer", "svid_bundles_open", "svid_bundles_close", "svid_bundles_ask",
   "svid_bundles_question", "svid_bundles_judge", "svid_bundles_join",
 ];
 
@@ -101,11 +95,6 @@ export class Library {
     this.#handle = this.#lend(HANDLE);
     this.#look();
     this.#bytes.fill(0, Number(this.#handle), Number(this.#handle) + HANDLE);
-  }
-
-  /** Whether it is closed. */
-  get isClosed() {
-    return this.#calls === null;
   }
 
   // -- Handles
@@ -295,12 +284,12 @@ export class Library {
     });
   }
 
-  /** The one bearer token of a request: `{ token }`, or `{ spelling }` where it has none, which says whether one is misspelt. */
+  /** The one bearer token of a request: `{ token }`, or `{ several, spelling }` where it has none: whether there are several fields, or one is misspelt. */
   bearer(count, value) {
     return this.#within(({ lend }) => {
       const status = this.#run("svid_bearer_token", BigInt(count), ...lend(value), this.#at(SMALL));
       if (status === TOO_LONG) throw ofStatus(status);
-      if (status !== OK) return { spelling: status === BEARER_SPELLING };
+      if (status !== OK) return { several: status === BEARER_SEVERAL, spelling: status === BEARER_SPELLING };
       const [at, length] = this.#words(this.#at(SMALL), 2).map(Number);
       return { token: value.slice(at, at + length) };
     });
@@ -388,59 +377,6 @@ export class Library {
     });
   }
 
-  // -- A log
-
-  /** Lets a validator read a log: `mark` has `passed` and `deaf`. */
-  log({ passed, deaf }, ready, lasts, beside) {
-    this.#within(({ lend, room }) => {
-      const mark = room(24);
-      this.#setWords(mark, [passed, 0n, deaf]);
-      const status = this.#call("svid_validator_log", this.#handle, mark, ready, lasts, ...lend(beside));
-      if (status !== OK) throw this.#fault(status);
-    });
-  }
-
-  /**
-   * Reads uses of the value at a position: `fates` of the uses, whether it `isWhole` (else it is to be read again), whether it
-   * `lacksMemory`, whether it `isBehindGap`, and the `fault` of a value that is no messages.
-   */
-  read(now, position, value) {
-    return this.#within(({ lend, room }) => {
-      const out = room(FATE * FATES), reading = room(24);
-      const status = this.#call("svid_validator_read", this.#handle, now, position, ...lend(value), out, BigInt(FATES), reading);
-      const isFault = status >= FIRST_MESSAGE_FAULT && status <= LAST_MESSAGE_FAULT;
-      const why = status === OK ? null : this.#fault(status);
-      if (why && !isFault && status !== TOO_SHORT && status !== NO_MEMORY) throw why;
-      const [order, , count] = this.#words(reading, 3);
-      const fates = [];
-      for (let at = out; at < out + count * BigInt(FATE); at += BigInt(FATE)) {
-        fates.push({ use: this.#use(at), fate: Number(this.#word(at + BigInt(USE))) });
-      }
-      const isLeft = status === TOO_SHORT || status === NO_MEMORY;
-      return { fates, order, isWhole: !isLeft, lacksMemory: status === NO_MEMORY, isBehindGap: order === ORDER_GAP, fault: isFault ? why : null };
-    });
-  }
-
-  /** Where it is in its log: `passed`, `deaf`, and whether it `accepts` claims. Null where it reads none. */
-  mark() {
-    const status = this.#call("svid_validator_mark", this.#handle, this.#at(SMALL));
-    if (status === NO_LOG) return null;
-    if (status !== OK) throw this.#fault(status);
-    const [passed, , deaf] = this.#words(this.#at(SMALL), 3);
-    return { passed, deaf, accepts: this.#told().more === 1 };
-  }
-
-  /** Lets it accept claims though it has missed values that may live. */
-  goOn() {
-    const status = this.#call("svid_validator_go_on", this.#handle);
-    if (status !== OK) throw this.#fault(status);
-  }
-
-  /** The claims beside the record, as messages. */
-  beside() {
-    return this.#text(() => this.#written("svid_validator_beside", this.#handle));
-  }
-
   // -- Calls
 
   // Makes a call that tells.
@@ -484,8 +420,8 @@ export class Library {
 
   // What a call told beside its status.
   #told() {
-    const [length, input, message, offset, more] = this.#words(this.#at(TOLD_AT), TOLD / WORD).map(Number);
-    return { length, input, message, offset, more };
+    const [length, input, message, offset] = this.#words(this.#at(TOLD_AT), TOLD / WORD).map(Number);
+    return { length, input, message, offset };
   }
 
   // The length that a call told.

@@ -7,9 +7,11 @@ import { Verifier } from "./signatures.js";
 
 const NO_SIGNATURE = "BadSignature";
 const PIECE = 1_048_576;
+const NO_LOG = "log is no option: this package has no members of a group. To accept a token once in a whole group, let the sidecar `svidd --replay strict` " +
+  "or Go's package check it: they claim it in the group's store";
 
-/** What an acceptance is, for callers. */
-export function acceptedOf({ spiffeId, trustDomain, path, use }) {
+// What an acceptance is, for callers.
+function acceptedOf({ spiffeId, trustDomain, path, use }) {
   return { spiffeId, trustDomain, path, expires: use.expires, use };
 }
 
@@ -38,18 +40,14 @@ async function opened(open) {
 
 /** Checks JWT-SVIDs, and remembers which were used. Documentation of all of it stands in index.d.ts. */
 export class Validator {
-  /** The handle of the library; for subclasses. */
-  _library;
+  #library;
   #verifier;
   #editions = 0; // how often the bundles were replaced
 
   /** Opens a validator whose record is empty. */
   static async open(options) {
-    return new this(await Validator._ready(options));
-  }
-
-  /** What the constructor is given. */
-  static async _ready(options) {
+    // (left out in silence, it would let each process accept the token)
+    if (options.log !== undefined) throw new TypeError(NO_LOG);
     const own = audiences(options.audiences), bundles = bundlesOf(options.bundles);
     const terms = {
       longest: limit("longest", options.longest),
@@ -57,52 +55,47 @@ export class Validator {
       step: limit("step", options.step),
       validatorId: await validatorId(options.validatorId),
     };
-    return opened((library) => {
+    const ready = await opened((library) => {
       const verifier = verifierOf(library, options);
       library.openValidator(terms, own, bundles);
-      return { library, verifier, terms };
+      return { library, verifier };
     });
+    return new this(ready);
   }
 
   /** Takes what `open` has made: call that instead. */
   constructor(ready) {
     if (!ready?.library) throw new TypeError("call `await Validator.open(..)`");
-    this._library = ready.library;
+    this.#library = ready.library;
     this.#verifier = ready.verifier;
-  }
-
-  /** How often the bundles were replaced; for subclasses. */
-  get _edition() {
-    return this.#editions;
   }
 
   /** Frees the record and the bundles. Closing twice does nothing. */
   close() {
-    this._library.close();
+    this.#library.close();
   }
 
   /** Accepts a token, once. */
   async check(token, now) {
-    return (await this._judged("check", token, now)).accepted;
+    return this.#judged("check", token, now);
   }
 
   /** Answers what `check` would, and uses nothing up. */
   async judge(token, now) {
-    return (await this._judged("judge", token, now)).accepted;
+    return this.#judged("judge", token, now);
   }
 
-  /** What `check` or `judge` answers, and by which edition of the bundles; for subclasses. It ends in the same step as the library's call. */
-  async _judged(name, given, now) {
+  // What `check` or `judge` answers. It ends in the same step as the library's call.
+  async #judged(name, given, now) {
     const token = tokenOf(given);
     if (now !== undefined) seconds(now);
     for (;;) {
-      const edition = this.#editions, asked = this._library.ask(token);
+      const edition = this.#editions, asked = this.#library.ask(token);
       const found = asked ? await this.#verifier.first(asked) : {};
       // (the question may be of a key that is not there any more)
       if (edition !== this.#editions) continue;
       try {
-        const accepted = this._library[name](seconds(now), token, found.row?.question ?? null);
-        return { accepted: acceptedOf(accepted), edition };
+        return acceptedOf(this.#library[name](seconds(now), token, found.row?.question ?? null));
       } catch (why) {
         throw why instanceof Refusal && why.name === NO_SIGNATURE && found.unverifiable ? found.unverifiable : why;
       }
@@ -111,45 +104,45 @@ export class Validator {
 
   /** Withdraws a token until it expires. */
   async withdraw(token, now) {
-    const { key, expires } = this._library.says(tokenOf(token));
+    const { key, expires } = this.#library.says(tokenOf(token));
     return this.withdrawKey(key, expires, now);
   }
 
   /** Withdraws the token with this key, which expires then. */
   async withdrawKey(key, expires, now) {
-    const use = this._library.withdraw(seconds(now), keyOf(key), expiryOf(expires));
+    const use = this.#library.withdraw(seconds(now), keyOf(key), expiryOf(expires));
     return { ...use, message: await withdrawalOf(use) };
   }
 
   /** What a token says. Nobody has vouched for it. */
   says(token) {
-    return this._library.says(tokenOf(token));
+    return this.#library.says(tokenOf(token));
   }
 
   /** Whether a pattern allows a SPIFFE ID. */
   allows(pattern, spiffeId) {
-    return this._library.allows(nameOf("pattern", pattern), nameOf("spiffeId", spiffeId));
+    return this.#library.allows(nameOf("pattern", pattern), nameOf("spiffeId", spiffeId));
   }
 
-  /** The one bearer token of a request: `{ token }`, or `{ spelling }` where it has none. */
+  /** The one bearer token of a request: `{ token }`, or `{ several, spelling }` where it has none. */
   bearer(values) {
-    return this._library.bearer(values.length, values.length ? bytesOfHeader(values[0]) : new Uint8Array());
+    return this.#library.bearer(values.length, values.length ? bytesOfHeader(values[0]) : new Uint8Array());
   }
 
   /** Advances the record, and drops what has expired. */
   tick(now) {
-    this._library.tick(seconds(now));
+    this.#library.tick(seconds(now));
   }
 
   /** Takes messages of other validators, or a record that was saved. */
   take(messages, now) {
-    this._library.take(seconds(now), bytesOf("messages", messages));
+    this.#library.take(seconds(now), bytesOf("messages", messages));
   }
 
   /** The record as messages, in pieces. */
   parts(size = PIECE) {
     if (!Number.isInteger(size) || size < BATCH) throw new RangeError(`size is a number of bytes from ${BATCH} on`);
-    return this._library.parts(size);
+    return this.#library.parts(size);
   }
 
   /** The whole record as messages. */
@@ -159,27 +152,27 @@ export class Validator {
 
   /** The moment of the record, and how many uses it has. */
   size() {
-    return this._library.size();
+    return this.#library.size();
   }
 
   /** A message of 8,205 bytes, for a validator that is to `answer` what is missing here. */
   summary() {
-    return this._library.summary();
+    return this.#library.summary();
   }
 
   /** Answers the summary of another validator. */
   answer(summary, now) {
-    return this._library.answer(seconds(now), bytesOf("summary", summary));
+    return this.#library.answer(seconds(now), bytesOf("summary", summary));
   }
 
   /** What the record holds, as `svid report` prints it. */
   report() {
-    return this._library.report(this.record());
+    return this.#library.report(this.record());
   }
 
   /** Replaces the bundles. The record stays. */
   renew(bundles) {
-    this._library.renew(bundlesOf(bundles));
+    this.#library.renew(bundlesOf(bundles));
     this.#editions += 1;
     this.#verifier.forget();
   }
@@ -233,7 +226,7 @@ export class Bundles {
     return this.#library.says(tokenOf(token));
   }
 
-  /** The one bearer token of a request: `{ token }`, or `{ spelling }` where it has none. */
+  /** The one bearer token of a request: `{ token }`, or `{ several, spelling }` where it has none. */
   bearer(values) {
     return this.#library.bearer(values.length, values.length ? bytesOfHeader(values[0]) : new Uint8Array());
   }
@@ -259,8 +252,8 @@ async function withdrawalOf({ at, key, expires, validatorId: by }) {
   }
 }
 
-/** Bytes, one directly after the other. */
-export function joined(pieces) {
+// Bytes, one directly after the other.
+function joined(pieces) {
   const all = new Uint8Array(pieces.reduce((sum, it) => sum + it.length, 0));
   let at = 0;
   for (const it of pieces) {

@@ -12,16 +12,13 @@ const TYPES = { js: "text/javascript", wasm: "application/wasm" };
 test("a token is accepted once, in Chromium too", async () => {
   const one = issuer(), given = JSON.stringify({ bundles: one.bundles, tokens: [token(one), token(one)], other: token(issuer()) });
   const page = `<!doctype html><title>svid</title><script type="module">
-    import { Member, MemoryLog, Validator } from "./index.js";
+    import { Validator } from "./index.js";
     const { bundles, tokens, other } = ${given};
     const name = (call) => call.then((it) => it.spiffeId, (why) => why.name);
     const said = [];
     const validator = await Validator.open({ audiences: "ledger", bundles });
     for (const it of [tokens[0], tokens[0], other, "a.b"]) said.push(await name(validator.check(it)));
     said.push((await Promise.all([1, 2, 3].map(() => name(validator.check(tokens[1]))))).sort().join());
-    const member = await Member.open({ audiences: "ledger", bundles, longest: 3600, wait: 60, log: new MemoryLog() });
-    for (const it of [tokens[0], tokens[0]]) said.push(await name(member.check(it)));
-    await member.close();
     validator.close();
     document.title = said.join(" ");
   </script>`;
@@ -50,7 +47,7 @@ test("a token is accepted once, in Chromium too", async () => {
     const read = browser.send("Runtime.evaluate", { expression, awaitPromise: true, returnByValue: true }, sessionId);
     const { result } = await Promise.race([read, failed]);
     const id = "spiffe://example.org/billing/api";
-    assert.equal(result.value, [id, "Replayed", "BadSignature", "NotThreeParts", `Replayed,Replayed,${id}`, id, "Replayed"].join(" "));
+    assert.equal(result.value, [id, "Replayed", "BadSignature", "NotThreeParts", `Replayed,Replayed,${id}`].join(" "));
   } finally {
     await browser.close();
     server.close();

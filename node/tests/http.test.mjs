@@ -6,7 +6,7 @@ import { createRequire } from "node:module";
 import { test } from "node:test";
 import { imported, issuer, now, token } from "./making.mjs";
 
-const { Member, MemoryLog, Validator, guard, protect } = await imported();
+const { Validator, guard, protect } = await imported();
 // (Debian's packages stand where only `require` looks)
 const express = createRequire("/usr/share/nodejs/")("express");
 
@@ -59,9 +59,9 @@ for (const [name, listener] of Object.entries(SERVERS)) {
       [`Bearer ${token(one, { exp: now() - 1 })}`], [`Bearer ${another}`],
     ]);
     const invalid = (why) => [401, `Bearer error="invalid_token", error_description="${why}"`];
-    const misspelt = [401, 'Bearer error="invalid_request", error_description="NotBearer"'];
+    const misspelt = [401, 'Bearer error="invalid_request", error_description="NotBearer"'], none = [401, 'Bearer realm="svid"'];
     const hello = [200, "hello spiffe://example.org/billing/api"];
-    assert.deepEqual(said, [hello, invalid("Replayed"), [401, "Bearer"], [401, "Bearer"], misspelt, misspelt, [401, "Bearer"], invalid("Expired"), hello]);
+    assert.deepEqual(said, [hello, invalid("Replayed"), none, none, misspelt, misspelt, misspelt, invalid("Expired"), hello]);
     validator.close();
   });
 
@@ -89,20 +89,17 @@ for (const [name, listener] of Object.entries(SERVERS)) {
       throw new Error("no logger");
     };
     const validator = await Validator.open({ ...terms, verify: () => Promise.reject(new Error("no such key")) });
-    const log = new MemoryLog(), member = await Member.open({ ...terms, longest: 3600, log, wait: 0.05, onWarning: () => {} });
-    log.append = () => Promise.reject(new Error("no route"));
-    for (const it of [validator, member]) assert.deepEqual(await answers(listener(it, { onError }), [[`Bearer ${token(one)}`]]), [[503, ""]]);
+    assert.deepEqual(await answers(listener(validator, { onError }), [[`Bearer ${token(one)}`]]), [[503, ""]]);
     validator.close();
     assert.deepEqual(await answers(listener(validator, { onError }), [[`Bearer ${token(one)}`]]), [[503, ""]]);
-    assert.deepEqual(told, [["Unverifiable", "string"], ["Unavailable", "string"], ["Closed", "string"]]);
-    await member.close();
+    assert.deepEqual(told, [["Unverifiable", "string"], ["Closed", "string"]]);
   });
 
-  test(`${name}: a member lets a token in once, however many send it at once`, async () => {
-    const member = await Member.open({ ...terms, longest: 3600, wait: 60, log: new MemoryLog() }), text = token(one);
-    const said = (await Promise.all([1, 2, 3, 4].map(() => answers(listener(member), [[`Bearer ${text}`]])))).flat();
+  test(`${name}: a token is let in once, however many send it at once`, async () => {
+    const validator = await Validator.open(terms), text = token(one);
+    const said = (await Promise.all([1, 2, 3, 4].map(() => answers(listener(validator), [[`Bearer ${text}`]])))).flat();
     assert.deepEqual(said.map(([status]) => status).sort(), [200, 401, 401, 401]);
-    await member.close();
+    validator.close();
   });
 }
 

@@ -51,18 +51,6 @@ export function counted(list) {
   return found;
 }
 
-/** For how many milliseconds a test waits for what must come. node/wrong/run sets it. */
-const PATIENCE = 1000 * Number(process.env.SVID_TEST_PATIENCE ?? 180);
-
-/** Waits until something is so: looks again as often as the loop turns. */
-export async function until(isSo, what = "it") {
-  for (const end = performance.now() + PATIENCE; ; ) {
-    if (await isSo()) return;
-    if (performance.now() > end) throw new Error(`waited for ${PATIENCE / 1000} seconds, and ${what} is not so`);
-    await new Promise((resolve) => setTimeout(resolve, 2));
-  }
-}
-
 export const digest = (bytes) => createHash("sha256").update(bytes).digest("hex");
 
 /** What a call opens, and the exports of the instance that it started last. */

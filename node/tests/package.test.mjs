@@ -33,26 +33,24 @@ test("the archive is the same each time, and works by itself where it is unpacke
   const quiet = ["--offline", "--silent", "--no-audit", "--no-fund", "--no-update-notifier", "--cache", join(room, "cache")];
   await run("npm", ["install", ...quiet, archives[0]], { cwd: elsewhere });
   const files = (await run("tar", ["-tzf", archives[0]])).stdout.trim().split("\n").map((it) => it.replace("package/", "")).sort();
-  const src = ["errors", "given", "http", "library", "member", "memory-log", "signatures", "validator"].map((it) => `src/${it}.js`);
-  const lua = ["append", "glance", "make", "trim"].map((it) => `lua/${it}.lua`);
-  assert.deepEqual(files, ["README.md", "index.d.ts", "index.js", ...lua, "package.json", "redis.d.ts", "redis.js", ...src, "svid.wasm"].sort());
+  const src = ["errors", "given", "http", "library", "signatures", "validator"].map((it) => `src/${it}.js`);
+  assert.deepEqual(files, ["README.md", "index.d.ts", "index.js", "package.json", ...src, "svid.wasm"].sort());
   await Promise.all(["bundles.json", "token.txt"].map((it) => copyFile(`${TOP}/examples/${it}`, join(elsewhere, it))));
   const program = `import { readFileSync } from "node:fs";
     import { Validator } from "svid";
-    import { RedisLog } from "svid/redis";
     const validator = await Validator.open({ audiences: "ledger", bundles: readFileSync("bundles.json") });
     const token = readFileSync("token.txt", "utf8").trim();
     for (let n = 0; n < 2; n++) console.log(await validator.check(token).then((it) => it.spiffeId, (why) => why.name));
-    console.log(typeof RedisLog, typeof require);`;
+    console.log(typeof require);`;
   const words = [...NODE, "--input-type=module", "--eval", program];
   const { stdout } = await run(process.execPath, words, { cwd: elsewhere });
-  assert.equal(stdout, "spiffe://example.org/billing/api\nReplayed\nfunction undefined\n");
+  assert.equal(stdout, "spiffe://example.org/billing/api\nReplayed\nundefined\n");
 });
 
 test("the types compile under strict, and say what is wrong", async () => {
   const folder = join(room, "types");
   await mkdir(join(folder, "node_modules/svid/src"), { recursive: true });
-  for (const it of ["package.json", "index.d.ts", "redis.d.ts"]) await copyFile(`${PACKAGE}/${it}`, join(folder, "node_modules/svid", it));
+  for (const it of ["package.json", "index.d.ts"]) await copyFile(`${PACKAGE}/${it}`, join(folder, "node_modules/svid", it));
   await copyFile(`${TOP}/node/tests/types.ts`, join(folder, "types.mts"));
   const compilerOptions = {
     strict: true, noEmit: true, target: "es2022", module: "nodenext", moduleResolution: "nodenext", lib: ["es2022", "dom"], types: [],
@@ -67,7 +65,7 @@ test("the types compile under strict, and say what is wrong", async () => {
 test("no name in the package is unknown or unused", async () => {
   const options = ["--allowJs", "--checkJs", "--noEmit", "--target", "es2022", "--module", "nodenext", "--moduleResolution", "nodenext", "--lib",
     "es2022,dom", "--noUnusedLocals", "--noUnusedParameters"];
-  const ran = await run("tsc", [...options, "index.js", "redis.js"], { cwd: PACKAGE }).catch((why) => why);
+  const ran = await run("tsc", [...options, "index.js"], { cwd: PACKAGE }).catch((why) => why);
   // (2304: there is no such name; 2305: a module exports no such name; 6133, 6138, 6192 and 6196: it is never used)
   const found = ran.stdout.split("\n").filter((it) => /error TS(2304|2305|2552|6133|6138|6192|6196)/.test(it) && !/'(Buffer|process)'/.test(it));
   assert.deepEqual(found, []);
@@ -77,7 +75,7 @@ test("the types have what the package has", async () => {
   const types = read("node/index.d.ts"), svid = await imported();
   const declared = [...types.matchAll(/^export (?:class|function|const) (\w+)/gm)].map(([, name]) => name);
   assert.deepEqual(declared.sort(), Object.keys(svid).sort());
-  for (const name of ["Validator", "Bundles", "Member", "MemoryLog"]) {
+  for (const name of ["Validator", "Bundles"]) {
     const body = types.match(new RegExp(`^export class ${name}\\b[^]*?^}`, "m"))[0];
     const said = [...body.matchAll(/^ {2}(?:static |readonly )?(\w+)[(:]/gm)].map(([, it]) => it).filter((it) => it !== "constructor");
     const { constructor: _, ...own } = Object.getOwnPropertyDescriptors(svid[name].prototype);
@@ -85,22 +83,18 @@ test("the types have what the package has", async () => {
     const missing = said.filter((it) => !(it in svid[name].prototype) && !(it in svid[name]));
     assert.deepEqual(missing, [], name);
     const more = has.filter((it) => !it.startsWith("_") && !["length", "name", "prototype"].includes(it) && !said.includes(it));
-    // (a member has a withdrawal of its own, which is that of a validator in words)
-    assert.deepEqual(more, name === "Member" ? ["withdrawKey"] : [], name);
+    assert.deepEqual(more, [], name);
   }
 });
 
 test("everything public is documented", () => {
-  for (const name of ["index.d.ts", "redis.d.ts"]) {
-    const lines = read(`node/${name}`).split("\n");
-    for (const [n, line] of lines.entries()) {
-      if (!/^export (class|interface|type|function|const) |^ {2}(static |readonly )?\w+\??[(:]/.test(line) || /constructor|\boff: /.test(line)) continue;
-      const isOfLog = /^ {2}(bounds|append|read)\(/.test(line); // (documented once, at `Log`)
-      const isOfOutgoing = /^ {2}(statusCode|setHeader|end|duplicate)\b/.test(line);
-      const isParameter = /^ {2}(validator|options\?|handler): /.test(line);
-      const before = lines[n - 1] ?? "";
-      const isListed = before.includes("lists:begin");
-      assert.ok(isOfLog || isOfOutgoing || isParameter || isListed || before.trim().endsWith("*/"), `${name}:${n + 1}: ${line}`);
-    }
+  const lines = read("node/index.d.ts").split("\n");
+  for (const [n, line] of lines.entries()) {
+    if (!/^export (class|interface|type|function|const) |^ {2}(static |readonly )?\w+\??[(:]/.test(line) || /constructor|\boff: /.test(line)) continue;
+    const isOfOutgoing = /^ {2}(statusCode|setHeader|end)\b/.test(line);
+    const isParameter = /^ {2}(validator|options\?|handler): /.test(line);
+    const before = lines[n - 1] ?? "";
+    const isListed = before.includes("lists:begin");
+    assert.ok(isOfOutgoing || isParameter || isListed || before.trim().endsWith("*/"), `index.d.ts:${n + 1}: ${line}`);
   }
 });

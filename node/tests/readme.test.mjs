@@ -8,8 +8,7 @@ import { tmpdir } from "node:os";
 import { join } from "node:path";
 import { after, before, test } from "node:test";
 import { promisify } from "node:util";
-import { PACKAGE, TOP, read, until } from "./making.mjs";
-import { heldPort } from "./port.mjs";
+import { PACKAGE, TOP, read } from "./making.mjs";
 
 const MOST_LINES = 15;
 const text = read("node/README.md");
@@ -22,7 +21,7 @@ before(async () => {
   room = await mkdtemp(join(tmpdir(), "svid-readme-"));
   await mkdir(join(room, "node_modules"));
   await cp(PACKAGE, join(room, "node_modules/svid"), { recursive: true });
-  for (const it of ["express", "redis"]) await symlink(`/usr/share/nodejs/${it}`, join(room, "node_modules", it));
+  await symlink("/usr/share/nodejs/express", join(room, "node_modules/express"));
   await symlink(`${TOP}/examples`, join(room, "examples"));
 });
 
@@ -66,24 +65,9 @@ function answer(port, authorization) {
 }
 
 test("its blocks print what stands below them", async () => {
-  const { port, release } = await heldPort();
-  const redis = spawn("redis-server", ["--port", String(port), "--bind", "127.0.0.1", "--dir", room, "--appendonly", "yes", "--appendfsync",
-    "always", "--maxmemory-policy", "noeviction"], { stdio: "ignore" });
-  const ended = new Promise((resolve) => redis.once("exit", resolve));
-  try {
-    const { createConnection } = await import("node:net");
-    await until(() => new Promise((resolve) => {
-      const it = createConnection(port, "127.0.0.1", () => resolve(true)).on("error", () => resolve(false)).on("connect", () => it.end());
-    }), "redis answers");
-    const parts = blocks.filter((it) => it.kind === "js" && it.body !== service).map((it) => it.body.replace("redis://localhost", `redis://127.0.0.1:${port}`));
-    const last = "assert.ok(member.isReady);\nawait member.close();\nawait log.close();\n";
-    await writeFile(join(room, "all.mjs"), `import assert from "node:assert";\n${parts.join("\n")}\n${last}`);
-    const words = [...process.execArgv.filter((it) => !it.startsWith("--test")), "all.mjs"];
-    const { stdout } = await promisify(execFile)(process.execPath, words, { cwd: room });
-    assert.equal(stdout, blocks.filter((it) => it.kind === "text").map((it) => it.body).join(""));
-  } finally {
-    redis.kill();
-    await ended;
-    release();
-  }
+  const parts = blocks.filter((it) => it.kind === "js" && it.body !== service).map((it) => it.body);
+  await writeFile(join(room, "all.mjs"), parts.join("\n"));
+  const words = [...process.execArgv.filter((it) => !it.startsWith("--test")), "all.mjs"];
+  const { stdout } = await promisify(execFile)(process.execPath, words, { cwd: room });
+  assert.equal(stdout, blocks.filter((it) => it.kind === "text").map((it) => it.body).join(""));
 });

@@ -1,8 +1,7 @@
 // What TypeScript makes of the package, under strict: tests/package.test.mjs compiles this.
 
-import { Bundles, Member, MemoryLog, OtherLog, REFUSALS, Refusal, SvidError, UnfitLog, Validator, guard, protect } from "svid";
-import type { Accepted, Log, RefusalName, Use, Verify } from "svid";
-import { RedisLog } from "svid/redis";
+import { Bundles, REFUSALS, Refusal, SvidError, Validator, guard, protect } from "svid";
+import type { Accepted, RefusalName, Use, Verify } from "svid";
 
 const validator: Validator = await Validator.open({ audiences: ["ledger"], bundles: { "example.org": "{}", "other.org": { keys: [] } }, longest: 60n });
 const accepted: Accepted = await validator.check("a.b.c", 1_767_225_600);
@@ -10,6 +9,8 @@ const id: string = accepted.spiffeId, expires: bigint = accepted.expires, messag
 
 // @ts-expect-error (bundles are wanted)
 await Validator.open({ audiences: "ledger" });
+// @ts-expect-error (there is no log of a group)
+await Validator.open({ audiences: "ledger", bundles: "{}", log: {} });
 // @ts-expect-error (audiences are texts)
 await Validator.open({ audiences: [1], bundles: "{}" });
 // @ts-expect-error (a validator is opened, and not made)
@@ -45,30 +46,9 @@ bundles[Symbol.dispose]();
 // @ts-expect-error (bundles use nothing up)
 bundles.check("a.b.c");
 
-class OwnLog implements Log {
-  async bounds(): Promise<[bigint, bigint]> {
-    throw new UnfitLog("set appendonly");
-  }
-  async append(value: Uint8Array) {
-    throw new OtherLog(`lost ${value.length}`, { cause: 1 });
-  }
-  async read(after: bigint, wait: number) {
-    return wait ? [[after + 1n, new Uint8Array()] as const] : [];
-  }
-}
-const terms = { audiences: "ledger", bundles: "{}", longest: 3600 };
-for (const log of [new OwnLog(), new MemoryLog(), new RedisLog({ duplicate: () => 0 }, { longest: 3600 })]) {
-  const member: Member = await Member.open({ ...terms, log, onWarning: (text: string) => console.warn(text) });
-  const isReady: boolean = member.isReady, until: bigint = member.deafUntil;
-  await member[Symbol.asyncDispose]();
-  void [isReady, until];
-}
-// @ts-expect-error (a member has a log)
-await Member.open(terms);
-
 const middleware = guard(validator, { onError: (why, req) => console.error(why, req.rawHeaders) });
 const listener = protect(validator, (req: { rawHeaders: string[]; svid: Accepted }, res: { statusCode: number; setHeader(name: string, value: string): void; end(text?: string): void }) => res.end(req.svid.spiffeId));
 const bearer = validator.bearer(["Bearer a"]);
 if (bearer.token) await validator.check(bearer.token);
-else console.log(bearer.spelling);
+else console.log(bearer.several || bearer.spelling);
 void [id, expires, message, early, moment, uses, names, middleware, listener];

@@ -283,6 +283,13 @@ test("options that can't be are refused", async () => {
   assert.throws(() => new Bundles(), TypeError);
 });
 
+test("a log of a group is refused, and the error says who accepts a token once in a group", async () => {
+  for (const log of [{}, null]) {
+    const due = { name: "TypeError", message: /^log is no option: .* let the sidecar `svidd --replay strict` or Go's package check it/ };
+    await assert.rejects(Validator.open({ ...terms, log }), due);
+  }
+});
+
 test("audiences may have any characters", async () => {
   for (const name of ["a\nb", "\u0000", "ü", " ledger "]) {
     const validator = await Validator.open({ ...terms, audiences: [name, "other"] });
@@ -454,7 +461,7 @@ test("a module of another build is refused by name", async () => {
 });
 
 test("JavaScript names nothing of tokens, keys and messages", () => {
-  const files = ["index.js", "redis.js", ...["errors", "given", "http", "library", "member", "memory-log", "signatures", "validator"].map((it) => `src/${it}.js`)];
+  const files = ["index.js", ...["errors", "given", "http", "library", "signatures", "validator"].map((it) => `src/${it}.js`)];
   // (what the library answers is written in errors.js by tools/lists, in sentences; an example of an ID is no rule)
   const code = files.map((it) => read(`node/${it}`).replace(/lists:begin[^]*?lists:end/g, "").replace(/(^|\s)\/\/.*|\/\*[^]*?\*\//gm, "")).join("\n");
   for (const it of [/\bkty\b/, /\bcrv\b/, /\bkid\b/, /\bjti\b/, /\baud\b/, /\bexp\b/, /\bnbf\b/, /jwt-svid/, /base64url/, /\bJSR\b/, /spiffe:(?!\/\/(example\.org|DOMAIN))/, /"jwk"/]) {

@@ -5,13 +5,10 @@ import { test } from "node:test";
 import { bytesOf, hex, imported, listed, read } from "./making.mjs";
 
 const { BadBundles, BadMessages, Bundles, Refusal, SvidError, Validator, guard } = await imported();
-const { Library } = await imported("src/library.js");
 const { LISTED } = await listed();
 
 const ANY = 2n ** 64n - 1n;
 const READER = "python";
-const FATES = { 0: "Accepted", 1: "First", 2: "Withdrawal", 8: "TooFarAhead", 118: "Expired", 124: "Withdrawn", 125: "Replayed" };
-const ORDERS = ["Again", "Next", "Gap"];
 
 function vectorsOf(name) {
   const file = JSON.parse(read(`vectors/${name}.json`));
@@ -155,7 +152,8 @@ test("headers", async () => {
       await guard(atOneTime)(req, res, () => (isLetIn = true));
       if (vector.answer === "refused") {
         assert.deepEqual([isLetIn, res.statusCode, answer.ended], [false, 401, true], vector.name);
-        assert.match(answer["WWW-Authenticate"], /^Bearer\b/, vector.name);
+        assert.match(answer["WWW-Authenticate"], /^Bearer \w+=/, vector.name);
+        if (vector.challenge) assert.equal(answer["WWW-Authenticate"], vector.challenge, vector.name);
       } else {
         assert.equal(req.svid?.spiffeId, vector.answer.split(" ")[1], vector.name);
         assert.ok(isLetIn);
@@ -200,46 +198,6 @@ test("summaries", async () => {
       if (vector.call === "summary") assert.equal(hex(validator.summary()), vector.summary, vector.name);
       else if (vector.fault) assert.throws(() => validator.answer(summary, 0), { name: "BadMessages", reason: vector.fault }, vector.name);
       else assert.equal(hex(validator.answer(summary, 0)), vector.answer, vector.name);
-    });
-  }
-});
-
-// What each call on a log answers.
-const ANSWERS = { read: ["order", "fates", "fault"], mark: ["passed", "deaf", "accepts"], beside: ["messages"], go_on: [] };
-
-function readOn(library, call) {
-  switch (call.call) {
-    case "read": {
-      const read = library.read(BigInt(call.now), BigInt(call.position), bytesOf(call.value));
-      assert.ok(read.isWhole && !read.lacksMemory);
-      const fault = read.fault ? { fault: `${read.fault.reason} ${read.fault.offset}` } : {};
-      return { order: ORDERS[Number(read.order)], fates: read.fates.map((it) => FATES[it.fate]), ...fault };
-    }
-    case "mark": {
-      const { passed, deaf, accepts } = library.mark();
-      return { passed: Number(passed), deaf: Number(deaf), accepts };
-    }
-    case "beside":
-      return { messages: hex(library.beside()) };
-    default:
-      library.goOn();
-      return {};
-  }
-}
-
-test("logs", async () => {
-  const file = vectorsOf("logs"), { setting } = file;
-  for (const vector of file.vectors) {
-    await using(Library.start(), (library) => {
-      const terms = { longest: ANY, ahead: BigInt(setting.ahead), step: ANY, validatorId: bytesOf(setting.validator_id) };
-      library.openValidator(terms, ["ledger"], Buffer.from("{}"));
-      library.tick(BigInt(setting.now));
-      const { passed, ready, lasts, deaf, beside } = vector.log;
-      library.log({ passed: BigInt(passed), deaf: BigInt(deaf) }, BigInt(ready), BigInt(lasts), bytesOf(beside));
-      for (const call of vector.calls) {
-        const want = Object.fromEntries(ANSWERS[call.call].filter((it) => it in call).map((it) => [it, call[it]]));
-        assert.deepEqual(readOn(library, call), want, `${vector.name}: ${call.call}`);
-      }
     });
   }
 });

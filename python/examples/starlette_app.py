@@ -1,14 +1,9 @@
 """A web service by Starlette that knows who calls it: the SPIFFE ID of the bearer token.
 
-    SVID_BUNDLES=bundles SVID_LOG=redis://localhost \\
-        gunicorn -k uvicorn.workers.UvicornWorker -w 4 starlette_app:app
-
-SVID_LOG is the URL of a server of Redis or PostgreSQL. There the worker processes share a log, so
-that all of them together accept a token once. Without it, run one process:
-
     SVID_BUNDLES=bundles uvicorn starlette_app:app
 
-Where SVID_STATE names a folder, that keeps the record of one process over restarts.
+Run one process: each would accept a token once. Where SVID_STATE names a folder, that keeps the
+record over restarts.
 """
 
 from __future__ import annotations
@@ -24,15 +19,8 @@ from starlette.routing import Route
 import svid
 from svid.asgi import SvidMiddleware
 
-bundles = os.environ["SVID_BUNDLES"]
-if "SVID_LOG" in os.environ:
-    log = os.environ["SVID_LOG"]
-    validator: svid.Validator = svid.Member(
-        log=log, audiences="ledger", bundles=bundles, longest=3600
-    )
-else:
-    state = os.environ.get("SVID_STATE")
-    validator = svid.Validator(audiences="ledger", bundles=bundles, longest=3600, state=state)
+bundles, state = os.environ["SVID_BUNDLES"], os.environ.get("SVID_STATE")
+validator = svid.Validator(audiences="ledger", bundles=bundles, longest=3600, state=state)
 
 
 async def hello(request: Request) -> PlainTextResponse:
@@ -40,9 +28,7 @@ async def hello(request: Request) -> PlainTextResponse:
 
 
 async def health(_: Request) -> PlainTextResponse:
-    """Whether this worker accepts tokens. (Who asks that has none.)"""
-    if isinstance(validator, svid.Member) and not validator.is_ready:
-        return PlainTextResponse("not ready", 503)
+    """Whether this process answers. (Who asks that has no token.)"""
     return PlainTextResponse("ready")
 
 

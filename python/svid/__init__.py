@@ -11,9 +11,9 @@
         print("refused:", why)
 
 `Validator` is the whole of it for one process, and `Validator(state=..)` keeps its record over
-restarts. Several processes are each a `Member` of one log, in Redis or PostgreSQL. `Refused` has a
-subclass for each of the 25 reasons to refuse a token. `svid.asgi` and `svid.wsgi` are middlewares
-for web services.
+restarts. Several processes tell each other by messages, or have the sidecar svidd in front of them.
+`Refused` has a subclass for each of the 25 reasons to refuse a token. `svid.asgi` and `svid.wsgi`
+are middlewares for web services.
 """
 
 from __future__ import annotations
@@ -21,7 +21,6 @@ from __future__ import annotations
 from ._allow import allows
 from ._bundles import Bundle, Bundles, from_workload_api
 from ._journal import Journal
-from ._log import Log, OtherLog, UnfitLog
 from ._member import Member
 from ._signatures import Verifies
 from ._validator import Validator
@@ -87,15 +86,12 @@ __all__ = [
     "Held",
     "Journal",
     "Jump",
-    "Log",
     "Member",
     "OtherFormat",
-    "OtherLog",
     "Refused",
     "Report",
     "TooFar",
     "Unavailable",
-    "UnfitLog",
     "Use",
     "Validator",
     "Verifies",

@@ -9,7 +9,6 @@ from typing import Any, NamedTuple, Union
 
 from . import _library as lib
 from ._allow import may_call, patterns
-from ._member import Member
 from ._paths import Paths
 from ._validator import Validator
 from .errors import Refused, TooLong, Unavailable
@@ -30,7 +29,7 @@ class Admission(NamedTuple):
     """The header WWW-Authenticate of that answer, where it has one."""
 
 
-_NO_TOKEN = Admission(None, HTTPStatus.UNAUTHORIZED, "Bearer")
+_NO_TOKEN = Admission(None, HTTPStatus.UNAUTHORIZED, 'Bearer realm="svid"')
 _NOT_BEARER = Admission(
     None,
     HTTPStatus.UNAUTHORIZED,
@@ -94,15 +93,7 @@ class Terms:
         """Does the same, and lets the event loop go on while the check waits."""
         if reuses or not self._validator.waits:
             return self.admit(authorization, reuses)
-        if not isinstance(self._validator, Member):
-            return await asyncio.to_thread(self.admit, authorization, reuses)
-        try:
-            token = self._may_call(authorization)
-            if isinstance(token, Admission):
-                return token
-            return Admission(await self._validator.check_soon(token))
-        except (Refused, Unavailable) as why:
-            return _turned_away(why)
+        return await asyncio.to_thread(self.admit, authorization, reuses)
 
     def _may_call(self, authorization: Sequence[bytes]) -> bytes | Admission:
         """The token of a caller that may call, or the answer to another one."""
@@ -118,7 +109,7 @@ def _token(authorization: Sequence[bytes]) -> bytes | Admission:
     found = lib.Bearer()
     lent = (len(authorization), value, len(value), lib.address(found))
     status = lib.library.svid_bearer_token(*lent)
-    if status == lib.BEARER_SPELLING:
+    if status in (lib.BEARER_SEVERAL, lib.BEARER_SPELLING):
         return _NOT_BEARER
     if status == lib.TOO_LONG:
         raise TooLong()

@@ -3,6 +3,7 @@
 from __future__ import annotations
 
 import datetime
+import errno
 import fcntl
 import os
 import pathlib
@@ -38,15 +39,12 @@ class Folder:
     def __init__(self, path: Path) -> None:
         """Makes the folder where it is not there, and locks it. Raises Held."""
         self.path = pathlib.Path(path)
-        try:
-            os.mkdir(self.path, 0o700)
-            _sync_folder(self.path.parent)
-        except FileExistsError:
-            pass
+        self._make()
         self._own: list[int] = []
         try:
             self._own.append(os.open(self.path, os.O_RDONLY | os.O_DIRECTORY))
             self._own.append(self._held())
+            self._is = [_identity(os.fstat(it)) for it in self._own]
         except BaseException:
             self.close()
             raise
@@ -82,6 +80,17 @@ class Folder:
         """Forces the names of the folder to the disk."""
         os.fsync(self._own[0])
 
+    def stand(self) -> None:
+        """Raises OSError unless the path leads to this folder, with the lock that is held.
+
+        Somebody may have removed or moved it, or mounted another one over it. The lock keeps no
+        other process from what is there now. It makes two calls, and reads no disk.
+        """
+        for path, own in zip((self.path, self.path / LOCK), self._is):
+            if _identity(os.stat(path)) != own:
+                why = "It is another file than the one that was opened"
+                raise OSError(errno.ESTALE, why, str(path))
+
     def folder_id(self) -> bytes | None:
         """The ID of the folder, 16 bytes; None where it has none. Raises ValueError."""
         try:
@@ -96,9 +105,19 @@ class Folder:
             )
         return bytes.fromhex(found[1].decode())
 
-    def make_folder_id(self) -> bytes:
-        """Makes an ID at random, and keeps it: whole or not at all."""
-        folder_id = os.urandom(16)
+    def keep_folder_id(self, folder_id: bytes) -> None:
+        """Keeps the ID, before anything is kept that can't be read without it.
+
+        A start that failed or was killed may have left a file that has it, and the folder itself:
+        no later sync vouches for a name whose sync failed. So the file is made anew.
+        """
+        try:
+            _sync_folder(self.path.parent)
+        except OSError as why:
+            # (Who may not read the folder above has not made this one. Where that folder is only
+            # read, it may have no sync.)
+            if why.errno not in (errno.EACCES, errno.EPERM, errno.EINVAL):
+                raise self._unsure(why) from why
         file = self.create(ID_FILE + UNFINISHED)
         try:
             write(file, folder_id.hex().encode() + b"\n", 0)
@@ -107,7 +126,32 @@ class Folder:
             os.close(file)
         self.rename(ID_FILE + UNFINISHED, ID_FILE)
         self.sync()
-        return folder_id
+
+    def _make(self) -> None:
+        """Makes the folder where it is not there, so that its name lasts.
+
+        Where the sync of the folder above fails, no later sync vouches for the name. So the folder
+        is removed, and the next start makes it anew.
+        """
+        try:
+            os.mkdir(self.path, 0o700)
+        except FileExistsError:
+            return
+        try:
+            _sync_folder(self.path.parent)
+        except OSError as why:
+            try:
+                os.rmdir(self.path)
+            except OSError:
+                raise self._unsure(why) from why
+            raise
+
+    def _unsure(self, why: OSError) -> OSError:
+        return OSError(
+            why.errno,
+            f"the name of {self.path} may not last ({why}): mend the disk, remove this folder, "
+            "which keeps nothing yet, and start again",
+        )
 
     def _held(self) -> int:
         """The lock file, locked, with the name of this process."""
@@ -134,6 +178,10 @@ def write(file: int, data: bytes, at: int) -> None:
     while rest:
         written = os.pwrite(file, rest, at)
         rest, at = rest[written:], at + written
+
+
+def _identity(of: os.stat_result) -> tuple[int, int]:
+    return of.st_dev, of.st_ino
 
 
 def _regular(path: pathlib.Path, how: int) -> int:

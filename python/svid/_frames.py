@@ -4,7 +4,6 @@ from __future__ import annotations
 
 import threading
 from collections.abc import Callable
-from typing import NamedTuple
 
 from . import _library as lib
 from ._folder import ID_FILE, Folder
@@ -12,31 +11,11 @@ from ._words import no_memory
 from .errors import Damaged, OtherFormat, Unavailable
 
 
-class LogPosition(NamedTuple):
-    """Where a member is in the log of its group."""
-
-    passed: int
-    """The position of the last value that it has read whole."""
-    begun: int
-    """How many uses of the value after that one it has read."""
-    deaf: int
-    """Before this moment, in seconds, it accepts nothing, since values are missing."""
-
-    def text(self) -> bytes:
-        """What a payload of the state folder begins with."""
-        mark, room, told = lib.Mark(*self), bytearray(lib.LOG_POSITION), lib.Told()
-        lent = (lib.address(mark), lib.address(room), len(room), lib.address(told))
-        _judge(lib.library.svid_journal_position(*lent))
-        return bytes(room)
-
-
-def borne(payload: bytes) -> tuple[LogPosition | None, bytes]:
-    """What a payload bears: where a member was in its log, if it says so, and its messages."""
+def messages_of(payload: bytes) -> bytes:
+    """The messages of a payload. Another writer may put a position before them."""
     bears = lib.Bears()
     lib.library.svid_journal_bears(payload, len(payload), lib.address(bears))
-    mark = bears.mark
-    position = LogPosition(mark.passed, mark.begun, mark.deaf) if bears.marked else None
-    return position, payload[bears.messages :]
+    return payload[bears.messages :]
 
 
 class Numbers:
@@ -119,7 +98,6 @@ class File:
         self.name = str(folder.path / name)
         self.number = number
         self.messages: list[bytes] = []
-        self.log_position: LogPosition | None = None  # as the last payload says that has one
         content = folder.read(name)
         status = self._read(content, bytes(16) if folder_id is None else folder_id)
         ends = (lib.FILE_END, lib.FILE_OTHER)
@@ -155,9 +133,7 @@ class File:
         raise RuntimeError(f"libsvid answered {status}, which include/svid.h does not explain")
 
     def _take(self, payload: bytes) -> None:
-        position, messages = borne(payload)
-        if position is not None:
-            self.log_position = position
+        messages = messages_of(payload)
         if messages:
             self.messages.append(messages)
 

@@ -8,11 +8,10 @@ import struct
 import threading
 import weakref
 from collections.abc import Callable, Iterator
-from typing import Any, NamedTuple
+from typing import Any
 
 from . import _library as lib
 from ._bundles import bundle_words
-from ._frames import LogPosition
 from ._signatures import Verifies
 from ._trust import Trust, first
 from .errors import (
@@ -44,37 +43,6 @@ Calls = tuple[_Call, _Call]
 _ASK: _Call = lib.quick.svid_validator_ask
 CHECK: Calls = (lib.quick.svid_validator_check, lib.library.svid_validator_check)
 JUDGE: Calls = (lib.quick.svid_validator_judge, lib.library.svid_validator_judge)
-
-
-_FATE = struct.Struct("=QQ32s16sQ")
-_FATES = 64
-"""How many uses of a value are read at once: the claims among them end then."""
-
-
-class Read(NamedTuple):
-    """What was read of a value of a log."""
-
-    fates: list[tuple[Use, int]]
-    """Uses of it, each with what becomes of it: a number of a fate, or of a refusal."""
-    is_whole: bool
-    """Whether nothing is left of the value. Else it is to be read again."""
-    lacks_memory: bool
-    """Whether what is left is left for want of memory."""
-    is_behind_gap: bool
-    """Whether values before it are missing."""
-    fault: Exception | None
-    """Why the value is no messages, and has no uses."""
-
-
-class State(NamedTuple):
-    """Where a validator is in its log."""
-
-    position: int
-    """That of the last value that it has read whole."""
-    deaf: int
-    """Before this moment it accepts nothing, since values are missing that may live."""
-    accepts: bool
-    """Whether it accepts claims: it has read what the log had at first, and is not deaf."""
 
 
 class _LeftBehind:
@@ -112,7 +80,6 @@ class Handle:
         self._room = bytearray(_ROOM)
         self._view = memoryview(self._room)
         self._used = bytearray(_USE.size)
-        self._edition = 0
         self._at = lib.address(self._words)
         self._told_at = lib.address(self._told)
         self._room_at = lib.address(self._room)
@@ -144,11 +111,6 @@ class Handle:
         if isinstance(self._lock, _LeftBehind):
             raise Forked
 
-    @property
-    def edition(self) -> int:
-        """How often the bundles were replaced."""
-        return self._edition
-
     def renew(self, bundles: bytes) -> None:
         """Replaces the bundles. Raises BadBundles, and then the old ones stay.
 
@@ -162,15 +124,12 @@ class Handle:
                 if status != lib.OK:
                     raise self._fault(status)
                 asked, self._trust = self._trust, asked
-                self._edition += 1
         finally:
             asked.close()
             judged.close()
 
-    def check(
-        self, calls: Calls, now: int, token: bytes, verifies: Verifies
-    ) -> tuple[Accepted, int]:
-        """Judges a token by CHECK or JUDGE, and gives the edition of the bundles. Raises Refused.
+    def check(self, calls: Calls, now: int, token: bytes, verifies: Verifies) -> Accepted:
+        """Judges a token by CHECK or JUDGE. Raises Refused.
 
         The lock is free while a signature is verified, and while a long token is read.
         """
@@ -189,8 +148,7 @@ class Handle:
                     raise self._fault(status)
                 subject = self._room[: self._told.len].decode()
                 expires, moment, key, validator_id = _USE.unpack(self._used)
-                edition = self._edition
-            return Accepted(subject, Use(expires, key, validator_id, moment)), edition
+            return Accepted(subject, Use(expires, key, validator_id, moment))
 
     def _short(self, token: bytes, size: Any, verifies: Verifies) -> tuple[Trust, bytes]:
         """The question that a token's signature answers, or nothing, and the bundles it is of.
@@ -229,64 +187,6 @@ class Handle:
                 raise self._fault(status)
             expires, at, key, validator_id = _USE.unpack(self._used)
         return Use(expires, key, validator_id, at, withdrawn=True)
-
-    def log(self, passed: int, ready: int, lasts: int, deaf: int, beside: bytes) -> None:
-        """Lets it read a log from now on: the values after the position `passed`."""
-        mark = lib.Mark(passed, 0, deaf)
-        lent = (lib.address(mark), ready, lasts, beside, len(beside))
-        self._run(lib.library.svid_validator_log, *lent)
-
-    def beside(self) -> bytes:
-        """The claims beside the record, as messages for `log`."""
-        return self._written(lib.library.svid_validator_beside)
-
-    def read(self, now: int, position: int, value: bytes, edition: int) -> Read | None:
-        """Reads uses of the value at this position. None where the bundles are of another edition.
-
-        Nothing happens then.
-        """
-        reading, room = lib.Reading(), bytearray(_FATE.size * _FATES)
-        lent = (lib.address(room), _FATES, lib.address(reading), self._told_at)
-        with self._lock:
-            if edition != self._edition:
-                return None
-            call = lib.library.svid_validator_read
-            status = call(self._at, now, position, value, len(value), *lent)
-            why = None if status == lib.OK else self._fault(status)
-        if why and status not in (lib.TOO_SHORT, lib.NO_MEMORY, *lib.MESSAGE_FAULTS):
-            raise why
-        rows = _FATE.iter_unpack(room[: _FATE.size * reading.count])
-        return Read(
-            [_fated(*it) for it in rows],
-            status not in (lib.TOO_SHORT, lib.NO_MEMORY),
-            status == lib.NO_MEMORY,
-            reading.order == lib.ORDER_GAP,
-            why if status in lib.MESSAGE_FAULTS else None,
-        )
-
-    def state(self) -> State:
-        """Where it is in its log."""
-        mark = lib.Mark()
-        with self._lock:
-            status = lib.library.svid_validator_mark(self._at, lib.address(mark), self._told_at)
-            if status != lib.OK:
-                raise self._fault(status)
-            return State(mark.passed, mark.deaf, self._told.more == 1)
-
-    def log_position(self) -> LogPosition | None:
-        """Where it is in its log, as a state folder keeps it. None where it reads none."""
-        mark = lib.Mark()
-        with self._lock:
-            status = lib.library.svid_validator_mark(self._at, lib.address(mark), self._told_at)
-            if status == lib.NO_LOG:
-                return None
-            if status != lib.OK:
-                raise self._fault(status)
-            return LogPosition(mark.passed, mark.begun, mark.deaf)
-
-    def go_on(self) -> None:
-        """Lets it accept claims though it has missed values that may live."""
-        self._run(lib.library.svid_validator_go_on)
 
     def tick(self, now: int) -> None:
         """Advances the record."""
@@ -341,10 +241,6 @@ class Handle:
 
     def _fault(self, status: int) -> Exception:
         return fault(status, self._told)
-
-
-def _fated(expires: int, at: int, key: bytes, validator_id: bytes, fate: int) -> tuple[Use, int]:
-    return Use(expires, key, validator_id, at, fate == lib.FATE_WITHDRAWAL), fate
 
 
 def fault(status: int, told: lib.Told) -> Exception:

@@ -8,7 +8,6 @@ and tells the library how they went.
 from __future__ import annotations
 
 import contextlib
-import itertools
 import logging
 import os
 import threading
@@ -19,7 +18,7 @@ from collections.abc import Callable, Iterable
 from . import _library as lib
 from ._bundles import Path
 from ._folder import FRAMES, ID_FILE, SNAPSHOT, UNFINISHED, Folder, journal_name, write
-from ._frames import File, LogPosition, Numbers
+from ._frames import File, Numbers
 from .errors import Closed, Error, Forked, Unavailable
 
 _LOG = logging.getLogger("svid")
@@ -27,8 +26,6 @@ _GROWTH = bytes(262_144)
 """What a journal grows by: to force a new length to the disk takes longer than the bytes."""
 _QUIET = 1.0
 """How many seconds nobody appends until a mark is worth its write."""
-_AGE = 1.0
-"""How many seconds old a position in the log is when the next write says it anew."""
 _MANY_JOURNALS = 8
 """So many journals of starts are worth a snapshot."""
 _SMALL = 8 * 2**20
@@ -38,11 +35,10 @@ _PAUSE = 60.0
 _PIECE = 2**20
 """How many bytes of messages are taken at once, where payloads are shorter."""
 
-_MOST = lib.PAYLOAD_MOST - lib.LOG_POSITION
+_MOST = lib.PAYLOAD_MOST
 """The most bytes of messages that one write takes."""
 
 _Parts = Callable[[], Iterable[bytes]]
-_Bears = Callable[[], "LogPosition | None"]
 
 
 class Journal:
@@ -61,7 +57,9 @@ class Journal:
     svidd writes the same files (docs/FORMATS.md, "The state folder"), so either can go on with the
     folder of the other one. One process holds a folder at a time, and any number of its threads
     may use the journal. Each method raises Closed after `close`, and Forked in a process that was
-    forked from the one that opened the folder.
+    forked from the one that opened the folder. Once somebody removes or moves the folder, or mounts
+    another one over it, another process may have begun at its path: each append raises Unavailable
+    from then on.
     """
 
     def __init__(self, folder: Path) -> None:
@@ -85,21 +83,6 @@ class Journal:
         return self._keeper.torn
 
     @property
-    def log_position(self) -> LogPosition | None:
-        """Where the validator was in its log when the folder was written last, if it says so."""
-        return self._keeper.log_position
-
-    def bear(self, position: _Bears) -> None:
-        """Lets the folder say from now on where the validator is in its log, as `position` does.
-
-        The first write of each journal and each snapshot says it, each write by which `deaf` is
-        another one, and else one a second, with what is appended then; and the last position once
-        nobody appends for a second, and at the end. `position` gives None where there is no log.
-        Threads of the journal call it.
-        """
-        self._keeper.bears = position
-
-    @property
     def wants_snapshot(self) -> bool:
         """Whether a snapshot is due: there is none, or the journals are many or long."""
         return self._keeper.wants_snapshot
@@ -114,8 +97,7 @@ class Journal:
         Raises Unavailable if that fails, or takes more than `wait` seconds: then the disk may have
         them now, or later, or never. After a write that failed (the disk is full) a later one may
         succeed. After a sync that failed nothing is kept, until the folder is opened anew.
-        At most 16,777,187 bytes. No messages are fine where `bear` was called: then the disk has
-        where the validator is in its log, whenever it was said last.
+        At most 16,777,215 bytes.
         """
         self._keeper.append(bytes(messages), wait)
 
@@ -147,7 +129,6 @@ class _Commit:
         self.parts: list[bytes] = []
         self.len = 0
         self.is_soon = False  # somebody waits for none of it
-        self.asks = False  # somebody wants the position in the log to be said
         self.done = threading.Event()
         self.why: Exception | None = None
 
@@ -157,8 +138,6 @@ class _Keeper:
 
     folder_id: bytes
     torn: tuple[str, ...]
-    log_position: LogPosition | None
-    bears: _Bears | None = None
 
     def __init__(self, folder: Folder) -> None:
         self._folder = folder
@@ -169,13 +148,11 @@ class _Keeper:
         self._kept = 0  # how many bytes the snapshot has
         self._pause = 0.0  # until when none is due
         self._next = -1  # the journal that is to grow
-        self._writing = threading.Lock()  # held over a write; guards the seven below
+        self._writing = threading.Lock()  # held over a write; guards the five below
         self._file = -1  # the journal that grows
         self._room = 0  # its length
         self._older = 0  # how many bytes of frames older journals have
         self._marked = True  # its last frame is a mark, or it has none
-        self._said: LogPosition | None = None  # the last position in the log that it says
-        self._said_at = 0.0
         self._broken: Exception | None = None  # why nothing is kept any more
         self._gate = threading.Condition()  # guards what follows
         self._commit: _Commit | None = None  # what the next write takes
@@ -285,9 +262,9 @@ class _Keeper:
             self._wants = True
         self.torn = tuple(it.name for it in files if it.is_torn)
         self._found = [messages for it in files for messages in it.messages]
-        positions = [it.log_position for it in files if it.log_position is not None]
-        self.log_position = positions[-1] if positions else None
-        self.folder_id = folder.make_folder_id() if folder_id is None else folder_id
+        self.folder_id = os.urandom(16) if folder_id is None else folder_id
+        if folder_id is None or not files:
+            folder.keep_folder_id(self.folder_id)
         return Numbers(self.folder_id, min(journals, default=1), max(journals, default=0))
 
     def _make_calls(self, parts: _Parts | None) -> None:
@@ -295,6 +272,7 @@ class _Keeper:
         beside = -1
         try:
             while (due := self._numbers.due())[0] != lib.CALL_NOTHING:
+                self._stay()
                 call, journal = due
                 try:
                     if call == lib.CALL_CREATE_JOURNAL:
@@ -324,6 +302,18 @@ class _Keeper:
             unused, self._next = self._next, -1
             _close(unused)
 
+    def _stay(self) -> None:
+        """Raises Unavailable, from now on, if the folder is no longer at its path.
+
+        What is there now may be the folder of another process.
+        """
+        try:
+            self._folder.stand()
+        except OSError as why:
+            with self._writing:
+                self._numbers.failed()
+                raise self._end_moved(why) from why
+
     def _answer(self, call: int, why: BaseException | None) -> None:
         """Tells how a call went, and lets the next journal grow where that comes then."""
         with self._writing:
@@ -338,13 +328,12 @@ class _Keeper:
                     self._older = 0
                 done, self._file, self._next = self._file, self._next, -1
                 _close(done)  # (all of it is on the disk)
-                self._room, self._marked, self._said = 0, True, None
+                self._room, self._marked = 0, True
 
     def _write_pieces(self, file: int, parts: _Parts) -> None:
-        """Writes a snapshot: where the validator is in its log, each part, and a mark."""
+        """Writes a snapshot: each part, and a mark."""
         at = 0
-        position = self._log_position()
-        for part in itertools.chain([b"" if position is None else position.text()], parts()):
+        for part in parts():
             if part:
                 at += self._write_piece(file, part, at)
         self._kept = at + self._write_piece(file, b"", at)
@@ -363,21 +352,10 @@ class _Keeper:
             with self._gate:
                 self._snapshots -= 1
 
-    def _log_position(self) -> LogPosition | None:
-        return None if self.bears is None else self.bears()
-
-    def _due(self, commit: _Commit) -> LogPosition | None:
-        """Where the validator is in its log, if the write of a commit is to say that."""
-        position, said = self._log_position(), self._said
-        if position is None or said is None:
-            return position
-        late = commit.asks or position.deaf != said.deaf or time.monotonic() - self._said_at >= _AGE
-        return position if late and position != said else None
-
     def _join(self, messages: bytes, is_soon: bool = False) -> _Commit:
         """Adds messages to what the next write takes."""
         if len(messages) > _MOST:
-            raise ValueError("messages have at most 16,777,187 bytes")
+            raise ValueError("messages have at most 16,777,215 bytes")
         with self._gate:
             if self._closing:
                 raise Closed
@@ -390,7 +368,6 @@ class _Keeper:
             commit.parts.append(messages)
             commit.len += len(messages)
             commit.is_soon = commit.is_soon or is_soon
-            commit.asks = commit.asks or not messages
             return commit
 
     def _work(self) -> None:
@@ -421,26 +398,16 @@ class _Keeper:
             self._folder.close()
 
     def _mark(self) -> None:
-        """Ends the journal by a mark, by which damage before it is seen.
-
-        Before it comes where the validator is in its log, if the journal does not say that.
-        """
-        if self._broken is None:  # (nobody waits for it: where that fails, there is none)
-            last = _Commit()
-            last.asks = True
-            if self._put_commit(last) is None and not self._marked:
-                self._put(b"")
+        """Ends the journal by a mark, by which damage before it is seen."""
+        if self._broken is None and not self._marked:
+            self._put(b"")  # (nobody waits for it: where that fails, there is none)
 
     def _put_commit(self, commit: _Commit) -> Exception | None:
         try:
-            position = self._due(commit)
-            payload = b"".join([b"" if position is None else position.text(), *commit.parts])
-        except (Error, MemoryError) as why:
+            payload = b"".join(commit.parts)
+        except MemoryError as why:
             return why
-        why_not = self._put(payload) if payload else None
-        if position is not None and why_not is None:
-            self._said, self._said_at = position, time.monotonic()
-        return why_not
+        return self._put(payload) if payload else None
 
     def _put(self, payload: bytes) -> Exception | None:
         """Takes a payload to the disk, and gives why that failed."""
@@ -460,6 +427,11 @@ class _Keeper:
         except OSError as why:
             self._numbers.failed()
             return self._end(why)
+        try:
+            self._folder.stand()
+        except OSError as why:
+            self._numbers.failed()
+            return self._end_moved(why)
         self._numbers.synced()
         self._marked = not payload
         return None
@@ -480,6 +452,14 @@ class _Keeper:
         """From now on nothing is kept."""
         self._broken = Unavailable(
             f"the disk does not say what it holds ({why}): mend it, and start the service again"
+        )
+        return self._broken
+
+    def _end_moved(self, why: OSError) -> Exception:
+        """From now on nothing is kept: another process may have begun at the path."""
+        self._broken = Unavailable(
+            f"the state folder is no longer at its path ({why}): put it back there, and start the "
+            "service again"
         )
         return self._broken
 

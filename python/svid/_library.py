@@ -40,18 +40,10 @@ MESSAGE_FAULTS = {
 # lists:end
 """Why bytes are no messages, by status."""
 
+BEARER_SEVERAL = 82
 BEARER_SPELLING = 84
 NOT_ALLOWED = 91
 TOO_LONG = 101
-
-HAS_LOG = 10
-NO_LOG = 19
-FATE_ACCEPTED = 0
-FATE_FIRST = 1
-FATE_WITHDRAWAL = 2
-FATE_TOO_FAR_AHEAD = 8
-"""The other fates are refusals, by their numbers."""
-ORDER_GAP = 2
 
 # lists:begin folder (written by tools/lists from lists/statuses.toml)
 FOLDER_FAULTS = {
@@ -107,8 +99,6 @@ PAYLOAD_MOST = 16_777_215
 """The most bytes that one frame of a state folder bears."""
 FRAME_MORE = 39
 """How many bytes a frame has at most beside its payload."""
-LOG_POSITION = 28
-"""How many bytes say where a validator is in its log, before a payload."""
 
 
 class Told(ctypes.Structure):
@@ -208,28 +198,15 @@ class Part(ctypes.Structure):
 
 
 class Mark(ctypes.Structure):
-    """`svid_mark`: where a validator is in a log."""
+    """`svid_mark`: what a payload says that is not of a record."""
 
     _fields_ = [("passed", c_uint64), ("begun", c_size_t), ("deaf", c_uint64)]
-    passed: int
-    begun: int
-    deaf: int
-
-
-class Reading(ctypes.Structure):
-    """`svid_reading`: what a call did that read a value of a log."""
-
-    _fields_ = [("order", c_uint64), ("from", c_size_t), ("count", c_size_t)]
-    order: int
-    count: int
 
 
 class Bears(ctypes.Structure):
     """`svid_bears`: what a payload bears."""
 
     _fields_ = [("mark", Mark), ("marked", c_size_t), ("messages", c_size_t)]
-    mark: Mark
-    marked: int
     messages: int
 
 
@@ -296,7 +273,6 @@ _CALLS = {
     "svid_journal_failed": _FOLDER,
     "svid_journal_open": [*_FOLDER, c_uint64, c_uint64],
     "svid_journal_piece": [*_FOLDER, *_FOLDER_ID, *_LENT, *_OUT, *_TOLD],
-    "svid_journal_position": [c_void_p, *_OUT, *_TOLD],
     "svid_journal_put": [*_FOLDER, *_FOLDER_ID, *_LENT, *_OUT, *_TOLD],
     "svid_journal_read": [*_FOLDER_ID, c_uint64, *_LENT, c_void_p, c_void_p],
     "svid_journal_synced": _FOLDER,
@@ -305,14 +281,9 @@ _CALLS = {
     "svid_token_says": [*_LENT, c_void_p, *_OUT, *_OUT, *_TOLD],
     "svid_report": [*_LENT, *_NOW, *_OUT, *_TOLD],
     "svid_validator_answer": [*_VALIDATOR, *_NOW, *_LENT, *_OUT, *_TOLD],
-    "svid_validator_beside": [*_VALIDATOR, *_OUT, *_TOLD],
-    "svid_validator_go_on": [*_VALIDATOR, *_TOLD],
-    "svid_validator_log": [*_VALIDATOR, c_void_p, c_uint64, c_uint64, *_LENT, *_TOLD],
-    "svid_validator_mark": [*_VALIDATOR, c_void_p, *_TOLD],
     "svid_validator_open_by_lengths": [*_VALIDATOR, c_void_p, *_LENT, *_OUT, *_LENT, *_TOLD],
     "svid_validator_renew_by": [*_VALIDATOR, *_VALIDATOR, *_TOLD],
     "svid_validator_parts": [*_VALIDATOR, c_void_p, *_OUT, *_TOLD],
-    "svid_validator_read": [*_VALIDATOR, *_NOW, c_uint64, *_LENT, *_OUT, c_void_p, *_TOLD],
     "svid_validator_summary": [*_VALIDATOR, *_OUT, *_TOLD],
     "svid_validator_take": [*_VALIDATOR, *_NOW, *_LENT, *_TOLD],
     "svid_validator_tick": [*_VALIDATOR, *_NOW, *_TOLD],

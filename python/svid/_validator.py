@@ -136,7 +136,7 @@ class Validator:
 
     @property
     def waits(self) -> bool:
-        """Whether `check` waits for a disk, or for others: an event loop needs a thread for it."""
+        """Whether `check` waits for a disk: an event loop needs a thread for it."""
         return self._journal is not None
 
     def close(self) -> None:
@@ -150,14 +150,13 @@ class Validator:
 
         With `state` it returns once the disk has the use, and raises Unavailable where that fails.
         """
-        accepted, _ = self._checked(CHECK, token, now)
+        accepted = self._checked(CHECK, token, now)
         self._keep(accepted.use)
         return accepted
 
     def judge(self, token: Token, now: float | None = None) -> Accepted:
         """Answers what `check` would, but the record gains no use: `check` may still accept it."""
-        accepted, _ = self._checked(JUDGE, token, now)
-        return accepted
+        return self._checked(JUDGE, token, now)
 
     def withdraw(self, token: Token, now: float | None = None) -> Use:
         """Withdraws a token until it expires: from now on it is refused as Withdrawn.
@@ -296,8 +295,8 @@ class Validator:
         if self._journal.wants_snapshot:
             self._journal.snapshot_soon(self.parts)
 
-    def _checked(self, calls: Calls, token: Token, now: float | None) -> tuple[Accepted, int]:
-        """What `check` or `judge` answers by these calls, and the edition of the bundles."""
+    def _checked(self, calls: Calls, token: Token, now: float | None) -> Accepted:
+        """What `check` or `judge` answers by these calls."""
         if self._stamp and time.monotonic() >= self._look_at:
             self._look()
         return self._handle.check(calls, _seconds(now), _bytes(token), self._verifies)

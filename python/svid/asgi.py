@@ -25,8 +25,7 @@ class SvidMiddleware:
     `scope["svid.accepted"]` the `svid.Accepted`, with the token's expiry and key. Any other request
     is answered with status 401, and any other websocket is closed before it is accepted. Where a
     check is Unavailable, the status is 503. A check runs on the event loop: it takes little more
-    than to verify one signature. The loop goes on while a `Member` waits for its log. A check that
-    waits for a disk runs in a thread.
+    than to verify one signature. A check that waits for a disk runs in a thread.
 
     `allow` are patterns of the SPIFFE IDs that may call (`svid.allows`). Another one with a good
     token is answered with status 403, and the token is not used up. Left out, all may call; an
@@ -46,8 +45,8 @@ class SvidMiddleware:
     Raises ValueError for what is no pattern, and for what is no path.
 
     A `Validator` belongs to one process: a server with several workers accepts a token once in
-    each. With a `Member` of one log in each worker, all workers together accept a token once. So do
-    all services behind the sidecar svidd (docs/SIDECAR.md).
+    each. Run one process with several threads, or put the sidecar svidd in front of the service:
+    all workers behind it together accept a token once (docs/SIDECAR.md).
     """
 
     def __init__(

@@ -96,7 +96,7 @@ class BadMessages(Error, ValueError):
 
 
 class Unavailable(Error):
-    """Nobody accepts the token: the disk, or the group's log, did not keep its use in time.
+    """Nobody accepts the token: the disk did not keep its use in time.
 
     Answer with status 503. The token may be used up all the same, and its client needs a new one.
     """

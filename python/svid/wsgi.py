@@ -41,8 +41,8 @@ class SvidMiddleware:
     Raises ValueError for what is no pattern, and for what is no path.
 
     A `Validator` belongs to one process: a server with several workers accepts a token once in
-    each. With a `Member` of one log in each worker, all workers together accept a token once. So do
-    all services behind the sidecar svidd (docs/SIDECAR.md).
+    each. Run one process with several threads, or put the sidecar svidd in front of the service:
+    all workers behind it together accept a token once (docs/SIDECAR.md).
     """
 
     def __init__(

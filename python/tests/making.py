@@ -140,6 +140,14 @@ def verdict(checks, text, now=NOW):
         return f"refused {why.name}"
 
 
+def until(true):
+    """Waits until something is true, and looks again and again."""
+    end = time.monotonic() + PATIENCE
+    while not true():
+        assert time.monotonic() < end, "it does not come to be"
+        time.sleep(0.005)
+
+
 @contextlib.contextmanager
 def no_logger():
     """The handler of the logger "svid" fails, as one whose server is away."""

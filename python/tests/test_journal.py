@@ -4,6 +4,7 @@ import contextlib
 import errno
 import gc
 import hashlib
+import itertools
 import logging
 import os
 import pathlib
@@ -21,7 +22,6 @@ import pytest
 import svid
 from making import PATIENCE, SUBJECT, fresh, no_logger, validator
 from svid import _folder, _journal
-from svid._frames import LogPosition
 
 BEGUN = int(time.time())
 FRAME = 120  # bytes of a frame with one use
@@ -572,82 +572,29 @@ def test_a_folder_of_another_format(tmp_path):
         assert f"has format {form}" in str(raised.value)
 
 
-def position_text(*numbers):
-    """By an own writer of the format (docs/FORMATS.md)."""
-    return b"JSL\x01" + struct.pack(">QQQ", *numbers)
+def test_a_position_before_the_messages(tmp_path):
+    """Another writer may put one there (docs/FORMATS.md): the messages after it are read."""
+    folder_id, position = b"f" * 16, b"JSL\x01" + struct.pack(">QQQ", 3, 1, 2**40)
+    (tmp_path / "place").write_text(folder_id.hex())
+    payloads = [position + use(1).message, position, use(2).message, b""]
+    (tmp_path / "journal.1").write_bytes(frames(b"svidjnl", 1, folder_id, *payloads))
+    assert found(tmp_path) == {1, 2}
 
 
-def test_the_folder_says_where_the_validator_is_in_its_log(tmp_path, monkeypatch):
-    monkeypatch.setattr(_journal, "_AGE", 3600.0)
-    payloads, at = [], None
+def test_the_most_that_one_append_takes(tmp_path):
+    with contextlib.closing(svid.Journal(tmp_path)) as journal:
+        with pytest.raises(ValueError, match="at most 16,777,215 bytes"):
+            journal.append(bytes(16_777_216))
+        journal.append(bytes(16_777_215), PATIENCE)
 
-    def writes(messages, says, soon=False):
-        if soon:
-            journal.append_soon(messages)
-        else:
-            journal.append(messages)
-        payloads.append((position_text(*at) if says else b"") + messages)
-        until(lambda: journal._keeper._numbers._folder.count == len(payloads))
 
+def test_no_messages_are_not_written(tmp_path):
     with contextlib.closing(svid.Journal(tmp_path)) as journal:
         folder_id = journal.validator_id
-        journal.bear(lambda: at)
-        assert journal.log_position is None
-        journal.append(b"")  # (there is nothing to keep)
-        at = LogPosition(2, 1, 0)
-        writes(use(1).message, says=True)
-        writes(use(2).message, says=False)
-        at = LogPosition(3, 0, 0)
-        writes(use(3).message, says=False)
-        writes(b"", says=True)
-        journal.append(b"")  # (the disk has it)
-        at = LogPosition(3, 0, 2**64 - 1)
-        writes(use(4).message, says=True, soon=True)
-        at = LogPosition(4, 0, 7)
-        writes(use(5).message, says=True)
-        at = LogPosition(4, 1, 7)
-        writes(use(6).message, says=False)
-        monkeypatch.setattr(_journal, "_AGE", 0.0)
-        writes(use(7).message, says=True)
-        writes(use(8).message, says=False)
-    file = (tmp_path / "journal.1").read_bytes()
-    assert file.rstrip(b"\0") == frames(b"svidjnl", 1, folder_id, *payloads, b"").rstrip(b"\0")
-    with contextlib.closing(svid.Journal(tmp_path)) as journal:
-        assert journal.log_position == at
-        journal.bear(lambda: LogPosition(3, 0, 5))
-        append(journal, 1)
-        journal.snapshot(lambda: [use(1).message])
-        append(journal, 2)
-    snapshot = frames(b"svidsnp", 0, folder_id, position_text(3, 0, 5), use(1).message, b"")
-    assert (tmp_path / "snapshot").read_bytes() == snapshot
-    # The next journal says it anew, since the one that said it is gone.
-    payloads = [position_text(3, 0, 5) + use(2).message, b""]
-    file = (tmp_path / "journal.3").read_bytes()
-    assert file.rstrip(b"\0") == frames(b"svidjnl", 3, folder_id, *payloads).rstrip(b"\0")
-    assert found(tmp_path) == {1, 2}
-    with contextlib.closing(svid.Journal(tmp_path)) as journal:
-        assert journal.log_position == (3, 0, 5)
-        journal.bear(lambda: LogPosition(4, 0, 0))
         journal.append(b"")
-    with contextlib.closing(svid.Journal(tmp_path)) as journal:
-        assert journal.log_position == (4, 0, 0)
-
-
-def test_a_position_in_the_log_that_was_not_written_is_said_by_the_next_write(
-    tmp_path, monkeypatch
-):
-    def no_room(*_):
-        raise OSError(errno.ENOSPC, "no space")
-
-    with contextlib.closing(svid.Journal(tmp_path)) as journal:
-        journal.bear(lambda: LogPosition(1, 0, 44))
-        with monkeypatch.context() as patch:
-            patch.setattr(_journal, "write", no_room)
-            with pytest.raises(svid.Unavailable):
-                append(journal, 1)
-        append(journal, 2)
-    with contextlib.closing(svid.Journal(tmp_path)) as journal:
-        assert journal.log_position == (1, 0, 44)
+        append(journal, 1)
+    file = (tmp_path / "journal.1").read_bytes()
+    assert file.rstrip(b"\0") == frames(b"svidjnl", 1, folder_id, use(1).message, b"").rstrip(b"\0")
 
 
 def test_what_is_kept_behind_an_answer_may_fail(tmp_path, monkeypatch, caplog):
@@ -731,34 +678,54 @@ class Disk:
     """The calls of the system that change a disk, as `os` of the modules under test.
 
     Before each of them `before` is called with its number. It knows what the disk surely has: the
-    bytes of each file at its last sync, and the names at the last sync of the folder.
+    folder itself, the bytes of each file at its last sync, and the names at the last sync of the
+    folder. No later sync vouches for a name whose sync failed, until the name changes again.
     """
 
     def __init__(self, folder, before):
-        self._folder, self._before, self.calls = folder, before, 0
+        self._folder, self.before, self.calls = folder, before, 0
         self._synced, self.sure = {}, {}  # by inode: bytes; by name: inode
+        self._stuck = set()  # names
+        self.is_there = self._is_stuck = False  # the folder itself
 
     def __getattr__(self, name):
         return getattr(os, name)
 
     def _call(self, name, *given, **more):
-        self._before(self.calls, name)
+        self.before(self.calls, name)
         self.calls += 1
-        return getattr(os, name)(*given, **more)
+        # (it knows of each sync, so nothing need go to the disk under the test)
+        return None if name.endswith("sync") else getattr(os, name)(*given, **more)
+
+    def _changed(self, path):
+        self._stuck.discard(pathlib.Path(path).name)
+
+    def mkdir(self, path, mode):
+        if os.path.exists(path):
+            raise FileExistsError
+        self._call("mkdir", path, mode)
+        self.is_there = self._is_stuck = False
+
+    def rmdir(self, path):
+        self._call("rmdir", path)
 
     def open(self, path, how, *mode):
-        if how & os.O_CREAT:
-            return self._call("open", path, how, *mode)
-        return os.open(path, how, *mode)
+        if not how & os.O_CREAT:
+            return os.open(path, how, *mode)
+        file = self._call("open", path, how, *mode)
+        self._changed(path)
+        return file
 
     def pwrite(self, *given):
         return self._call("pwrite", *given)
 
-    def rename(self, *given):
-        return self._call("rename", *given)
+    def rename(self, old, new):
+        self._call("rename", old, new)
+        self._changed(new)
 
-    def unlink(self, *given):
-        return self._call("unlink", *given)
+    def unlink(self, path):
+        self._call("unlink", path)
+        self._changed(path)
 
     def fdatasync(self, file):
         self._call("fdatasync", file)
@@ -766,23 +733,50 @@ class Disk:
         self._synced[os.stat(path).st_ino] = pathlib.Path(path).read_bytes()
 
     def fsync(self, file):
-        self._call("fsync", file)
-        self.sure = {it.name: it.stat().st_ino for it in self._folder.iterdir()}
+        is_above = os.readlink(f"/proc/self/fd/{file}") != str(self._folder)
+        now = {it.name: it.stat().st_ino for it in self._folder.iterdir()}
+        unsure = {it for it in {*now, *self.sure} if now.get(it) != self.sure.get(it)}
+        try:
+            self._call("fsync", file)
+        except OSError:
+            if is_above:
+                self._is_stuck = not self.is_there
+            else:
+                self._stuck |= unsure
+            raise
+        if is_above:
+            self.is_there = self.is_there or not self._is_stuck
+        else:
+            old = {name: it for name, it in self.sure.items() if name in self._stuck}
+            new = {name: it for name, it in now.items() if name not in self._stuck}
+            self.sure = {**old, **new}
 
     def lost(self, to):
-        """A folder with what a loss of power surely leaves."""
-        to.mkdir()
-        for name, inode in self.sure.items():
-            if name != "lock":
-                (to / name).write_bytes(self._synced.get(inode, b""))
+        """A folder with what a loss of power surely leaves, or none."""
+        if self.is_there:
+            to.mkdir()
+            for name, inode in self.sure.items():
+                if name != "lock":
+                    (to / name).write_bytes(self._synced.get(inode, b""))
         return to
+
+
+class Killed(BaseException):
+    """The process is killed, and makes no call after this one."""
+
+
+def removed(folder, why):
+    """Does what someone does who reads that."""
+    if "remove this folder" in str(why):
+        shutil.rmtree(folder)
 
 
 def run(folder, kept):
     """What a process does with a folder. `kept` gains each number that it is told to be kept."""
     try:
         journal = svid.Journal(folder)
-    except OSError:
+    except OSError as why:
+        removed(folder, why)
         return
     try:
         for number in range(8):
@@ -802,7 +796,6 @@ def disk(tmp_path, monkeypatch):
     """Makes a disk under the folder `state`."""
 
     def made(before):
-        (tmp_path / "state").mkdir()
         it = Disk(tmp_path / "state", before)
         monkeypatch.setattr(_folder, "os", it)
         monkeypatch.setattr(_journal, "os", it)
@@ -830,7 +823,8 @@ def test_a_loss_of_power_at_each_call_loses_no_acceptance(tmp_path, disk, monkey
     def before(number, name):
         outcomes.append((number, set(kept)))
         made.lost(tmp_path / f"lost {number}")
-        crashed(tmp_path / "state", tmp_path / f"killed {number}")
+        if (tmp_path / "state").exists():
+            crashed(tmp_path / "state", tmp_path / f"killed {number}")
 
     made = disk(before)
     run(tmp_path / "state", kept)
@@ -853,14 +847,93 @@ def test_each_call_that_fails_loses_no_acceptance(tmp_path, disk, monkeypatch):
             if number == failing:
                 raise OSError(errno.EIO, f"{name} fails")
 
-        disk(before)
+        made = disk(before)
         run(tmp_path / "state", kept)
         end = count <= failing
+        made.before = lambda number, name: None
+        run(tmp_path / "state", kept)
         monkeypatch.undo()
-        assert kept <= found(tmp_path / "state"), failing
-        shutil.rmtree(tmp_path / "state")
+        assert kept == set(range(8)), failing
+        for folder in tmp_path / "state", made.lost(tmp_path / f"lost {failing}"):
+            assert kept <= found(folder), (failing, folder)
+            shutil.rmtree(folder)
         failing += 1
     assert failing > 40
+
+
+def test_a_new_folder_whose_first_starts_end_anywhere(tmp_path, disk, monkeypatch):
+    """Its own name lasts, and that of its ID: nothing that it keeps can be read without it."""
+    state, lost = tmp_path / "state", tmp_path / "lost"
+
+    def ends(made, at, why):
+        """Whether a start ends by the call of this number."""
+        count = itertools.count()
+
+        def before(number, name):
+            if next(count) == at:
+                raise why
+
+        made.before = before
+        try:
+            svid.Journal(state).close()
+            return False
+        except OSError as error:
+            removed(state, error)
+        except Killed:
+            pass
+        return True
+
+    for first in Killed(), OSError(errno.EIO, "no disk"):
+        for at in range(100):
+            for next_at in range(100):
+                made = disk(lambda number, name: None)
+                is_over = not ends(made, at, first)
+                is_next_over = not ends(made, next_at, OSError(errno.EIO, "no disk"))
+                made.before = lambda number, name: None
+                with contextlib.closing(svid.Journal(state)) as journal:
+                    append(journal, 1)
+                monkeypatch.undo()
+                assert found(made.lost(lost)) == {1}, (first, at, next_at)
+                shutil.rmtree(lost)
+                shutil.rmtree(state)
+                if is_next_over:
+                    break
+            if is_over:
+                break
+        assert at > 10
+
+
+def test_the_folder_above_is_synced_while_nothing_is_kept(tmp_path, monkeypatch):
+    real, synced, why = os.fsync, [], 0
+
+    def fsync(file):
+        if os.readlink(f"/proc/self/fd/{file}") == str(tmp_path):
+            synced.append(file)
+            if why:
+                raise OSError(why, os.strerror(why))
+        real(file)
+
+    monkeypatch.setattr(os, "fsync", fsync)
+    why = errno.EIO
+    with pytest.raises(OSError, match="Input/output error"):
+        svid.Journal(tmp_path / "made")
+    assert not (tmp_path / "made").exists()
+    folder = tmp_path / "found"
+    folder.mkdir()
+    with pytest.raises(OSError, match=f"name of {folder} may not last .* remove this folder"):
+        svid.Journal(folder)
+    assert "place" not in names(folder)
+    synced.clear()
+    # (another user may have made it, or it is mounted where nothing can be made)
+    why = errno.EACCES
+    svid.Journal(folder).close()
+    assert len(synced) == 1
+    why = errno.EIO
+    svid.Journal(folder).close()
+    assert len(synced) == 1  # it has a journal now
+    for number, why in enumerate((errno.EPERM, errno.EINVAL)):
+        (tmp_path / str(number)).mkdir()
+        svid.Journal(tmp_path / str(number)).close()
 
 
 def test_nothing_is_kept_behind_a_sync_that_failed(tmp_path, monkeypatch):
@@ -882,6 +955,81 @@ def test_nothing_is_kept_behind_a_sync_that_failed(tmp_path, monkeypatch):
             with pytest.raises(svid.Unavailable, match="start the service again"):
                 journal.snapshot(lambda: [use(1).message])
     assert {1} <= found(tmp_path) <= {1, 2}
+
+
+def emptied(folder):
+    for it in folder.iterdir():
+        it.unlink()
+
+
+def mounted_over(folder):
+    other = folder.with_name("other")
+    other.mkdir()
+    subprocess.run(["mount", "--bind", other, folder], check=True)
+
+
+MOVES = {
+    "removed": shutil.rmtree,
+    "moved": lambda folder: folder.rename(folder.with_name("old")),
+    "emptied": emptied,
+    "without its lock": lambda folder: (folder / "lock").unlink(),
+    "mounted over": mounted_over,
+}
+
+
+@pytest.mark.parametrize("how", MOVES)
+def test_a_folder_that_is_moved_keeps_nothing(tmp_path, how):
+    """Another process may have begun at its path: no acceptance is told, and its files stay."""
+    folder = tmp_path / "state"
+    with contextlib.closing(svid.Journal(folder)) as journal:
+        append(journal, 1)
+        MOVES[how](folder)
+        try:
+            with contextlib.closing(svid.Journal(folder)) as other:
+                append(other, 2)
+                before = names(folder)
+                with pytest.raises(svid.Unavailable, match="put it back there, and start"):
+                    append(journal, 2)
+                with pytest.raises(svid.Unavailable, match="start the service again"):
+                    append(journal, 3)
+                with pytest.raises(svid.Unavailable, match="start the service again"):
+                    journal.snapshot(lambda: [use(1).message])
+                assert names(folder) == before
+                append(other, 4)
+            assert {2, 4} <= found(folder)
+        finally:
+            if how == "mounted over":
+                subprocess.run(["umount", "--lazy", folder], check=True)
+
+
+def test_a_snapshot_of_a_folder_that_is_moved_changes_no_other_one(tmp_path):
+    folder = tmp_path / "state"
+    with contextlib.closing(svid.Journal(folder)) as journal:
+        append(journal, 1)
+        folder.rename(tmp_path / "old")
+        with contextlib.closing(svid.Journal(folder)) as other:
+            append(other, 2)
+            before = {it.name: it.read_bytes() for it in folder.iterdir()}
+            with pytest.raises(svid.Unavailable, match="put it back there, and start"):
+                journal.snapshot(lambda: [use(1).message])
+            assert {it.name: it.read_bytes() for it in folder.iterdir()} == before
+        with pytest.raises(svid.Unavailable, match="start the service again"):
+            append(journal, 3)
+        shutil.rmtree(folder)
+        (tmp_path / "old").rename(folder)
+        with pytest.raises(svid.Unavailable, match="start the service again"):
+            append(journal, 3)  # (it is back, and others may have had its path)
+    assert found(folder) == {1}
+
+
+def test_a_token_is_accepted_by_one_of_two_processes_at_a_path(tmp_path):
+    folder, token = tmp_path / "state", fresh(jti="both")
+    with contextlib.closing(validator(state=folder)) as first:
+        folder.rename(tmp_path / "old")
+        with contextlib.closing(validator(state=folder)) as second:
+            assert second.check(token).spiffe_id == SUBJECT
+            with pytest.raises(svid.Unavailable, match="no longer at its path"):
+                first.check(token)
 
 
 def test_want_of_memory_is_a_passing_fault(tmp_path, monkeypatch):

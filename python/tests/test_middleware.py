@@ -51,7 +51,7 @@ REFUSED = [
 def challenge(name):
     """What the header WWW-Authenticate says of a refusal, or of no token."""
     if name == "Bearer":
-        return name
+        return 'Bearer realm="svid"'
     error = "invalid_request" if name == "NotBearer" else "invalid_token"
     return f'Bearer error="{error}", error_description="{name}"'
 

@@ -432,6 +432,16 @@ def test_a_save_of_a_full_batch(tmp_path):
         assert b.report().uses == tuple(uses)
 
 
+def test_uses_as_messages():
+    """Those of one moment are one batch, in which they rise."""
+    uses = [svid.Use(9, bytes([key]) * 32, bytes(16), at) for key, at in ((2, 1), (3, 2), (1, 1))]
+    with svid.Validator(audiences="a", bundles=b"{}") as checks:
+        messages = svid.records.batches(uses)
+        assert len(messages) == 2 * 17 + 3 * 65 and svid.records.batches([]) == b""
+        checks.take(messages, 5)
+        assert set(checks.report().uses) == set(uses)
+
+
 @pytest.mark.parametrize("cut", [0, 1, 81, 4_259_857, 4_259_938])
 def test_a_save_that_is_cut_off_behind_a_full_batch(tmp_path, cut):
     """What is whole is taken, and the error says that the rest is not."""

@@ -52,11 +52,8 @@ def test_what_is_in_it(wheel):
     with zipfile.ZipFile(wheel) as file:
         names = {name for name in file.namelist() if ".dist-info/" not in name}
         library = file.read("svid/libsvid.so")
-    folders = PYTHON / "svid", PYTHON / "svid" / "logs"
-    files = [it for folder in folders for it in folder.iterdir() if it.is_file()]
-    sources = {str(it.relative_to(PYTHON)) for it in files}
+    sources = {str(it.relative_to(PYTHON)) for it in (PYTHON / "svid").iterdir() if it.is_file()}
     assert names == sources | {"svid/libsvid.so"}
-    assert {"svid/logs/append.lua", "svid/logs/schema.sql"} < names
     assert "svid/py.typed" in names
     assert library == pathlib.Path(os.environ["LIBSVID"]).read_bytes()
 
@@ -118,7 +115,6 @@ def test_a_source_distribution_has_the_library_too(tmp_path):
     [made] = tmp_path.glob("*.whl")
     with zipfile.ZipFile(made) as file:
         assert file.read("svid/libsvid.so") == library
-        assert {"svid/logs/append.lua", "svid/logs/schema.sql"} < set(file.namelist())
 
 
 def test_the_library_of_the_system(tmp_path):

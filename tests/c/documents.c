@@ -18,6 +18,12 @@ typedef struct { const char *name, *text; uint64_t keys; } given;
 typedef struct { const char *what; given documents[MOST]; uint32_t status; size_t input, offset; const char *text; } row;
 
 #define SET "{\"keys\":[]}"
+#define L4 "[[[["
+#define R4 "]]]]"
+#define L31 L4 L4 L4 L4 L4 L4 L4 "[[["
+#define R31 R4 R4 R4 R4 R4 R4 R4 "]]]"
+/* 124 lists in one another. */
+#define DEEP L31 L31 L31 L31 R31 R31 R31 R31
 #define KEY "{\"kid\":\"k\",\"kty\":\"EC\"}"
 /* The answers are those of SPIFFE Trust Domain and Bundle, section 4, of SPIFFE Workload API, section 6.2.2, and of docs/FORMATS.md. */
 static const row ROWS[] = {
@@ -30,6 +36,15 @@ static const row ROWS[] = {
       "{\"a\":{\"keys\":[{\"kid\":\"k\",\"kty\":\"EC\",\"use\":\"jwt-svid\"},{\"use\":\"x509-svid\"},3]}}" },
     { "keys by any other number than 0", { { "a", "{\"keys\":[{}]}", UINT64_MAX } }, SVID_OK, 0, 0, "{\"a\":{\"keys\":[{\"use\":\"jwt-svid\"}]}}" },
     { "documents in each form", { { "c", SET, 0 }, { "", "{\"b\":" SET "}", 0 }, { "a", SET, 1 } }, SVID_OK, 0, 0, "{\"a\":" SET ",\"b\":" SET ",\"c\":" SET "}" },
+    { "a bundle with null for its keys", { { "a", "{\"keys\":null}", 0 } }, SVID_OK, 0, 0, "{\"a\":{\"keys\":null}}" },
+    { "keys with null for their list", { { "a", "{\"keys\":null,\"more\":1}", 1 } }, SVID_OK, 0, 0, "{\"a\":" SET "}" },
+    { "a bundle that nests 126 deep", { { "a", "{\"keys\":[" DEEP "]}", 0 } }, SVID_OK, 0, 0, "{\"a\":{\"keys\":[" DEEP "]}}" },
+    { "a bundle that nests 127 deep", { { "a", "{\"keys\":[[" DEEP "]]}", 0 } }, SVID_BUNDLES_NOT_OBJECT, 1, 0, NULL },
+    { "keys that nest 127 deep", { { "a", "{\"keys\":[[" DEEP "]]}", 1 } }, SVID_BUNDLES_NOT_OBJECT, 1, 0, NULL },
+    { "keys beside what nests 127 deep", { { "a", "{\"keys\":[],\"more\":[[" DEEP "]]}", 1 } }, SVID_OK, 0, 0, "{\"a\":" SET "}" },
+    { "keys beside what nests 128 deep", { { "a", "{\"keys\":[],\"more\":[[[" DEEP "]]]}", 1 } }, SVID_BUNDLES_NOT_OBJECT, 1, 0, NULL },
+    { "an object that nests 127 deep", { { "", "{\"a\":{\"keys\":[" DEEP "]}}", 0 } }, SVID_OK, 0, 0, "{\"a\":{\"keys\":[" DEEP "]}}" },
+    { "an object that nests 128 deep", { { "", "{\"a\":{\"keys\":[[" DEEP "]]}}", 0 } }, SVID_BUNDLES_NOT_OBJECT, 1, 0, NULL },
     { "what is no JSON", { { "a", "{", 0 } }, SVID_BUNDLES_NOT_OBJECT, 1, 0, NULL },
     { "what is no object", { { "", "{}", 0 }, { "", "[]", 0 } }, SVID_BUNDLES_NOT_OBJECT, 2, 0, NULL },
     { "no text", { { "a", "", 0 } }, SVID_BUNDLES_NOT_OBJECT, 1, 0, NULL },
@@ -128,6 +143,7 @@ static void refused(void) {
         go(&ROWS[i], ROOM, &due);
         is_due(&ROWS[i], &due);
         long all = asked;
+        size_t count = lay_out(&ROWS[i]), reads = 0;
         holds(standing == 0, "memory is held");
         for (long n = 1; n <= all; n++, tried++) {
             asked = 0, refused_at = n;
@@ -136,8 +152,11 @@ static void refused(void) {
             holds(standing == 0, "memory is held");
             if (got.status != SVID_NO_MEMORY) { holds(!memcmp(&got, &due, sizeof due), "the answer differs"); continue; }
             holds(got.told.len == 0 && got.told.message == 0 && got.told.offset == 0 && got.told.more == 0, "want of memory tells more");
+            holds(got.told.input <= count && (got.told.input >= reads || got.told.input == 0), "want of memory names another document");
+            if (got.told.input > 0) reads = got.told.input;
             is_unwritten(&got);
         }
+        holds(ROWS[i].status != SVID_OK || reads == count, "want of memory names no document");
     }
     printf("%ld allocations refused", tried);
 }

@@ -5,6 +5,7 @@
  *   tokens nulls      NULL for each input of no bytes, and for a room of none: the answer is that of another pointer
  *   tokens answers    what is read once is answered as what each call reads, good or not, and a closed handle does nothing
  *   tokens renewed    a token at two validators, whose keys of one name differ
+ *   tokens mixed      what was verified of one token is no answer for another, in whole or in part
  *   tokens stack      each call on a painted stack, which tells how much of it the call needs */
 #include "harness.h"
 
@@ -18,11 +19,27 @@ typedef struct { uint32_t status; svid_told told; svid_use used; uint8_t out[819
 static uint8_t key[FILE_MOST];
 static size_t key_len;
 
+/* The signature of a token, and over how many of its bytes it is made; none of what can't be read. */
+static uint8_t signature[SVID_SIGNATURE_ROOM];
+static size_t signature_len, input_len;
+static void find_signature(void) {
+    svid_signed over;
+    svid_told told;
+    signature_len = input_len = 0;
+    if (svid_token_signature(token, token_len, &over, signature, sizeof signature, &told) == SVID_OK) signature_len = told.len, input_len = over.len;
+}
+
 /* What a call is lent. */
-typedef struct { const uint8_t *token; size_t token_len; const uint8_t *key; size_t key_len; svid_token *t; svid_validator *v; uint8_t *out; size_t room; svid_use *used; svid_told *told; } loan;
+typedef struct {
+    const uint8_t *token; size_t token_len;
+    const uint8_t *key; size_t key_len;
+    const uint8_t *input; size_t input_len;
+    const uint8_t *signature; size_t signature_len;
+    svid_token *t; svid_validator *v; uint8_t *out; size_t room; svid_use *used; svid_told *told;
+} loan;
 
 static loan lent(svid_token *t, svid_validator *v, answer *a) {
-    loan l = { token, token_len, key, key_len, t, v, a->out, sizeof a->out, &a->used, &a->told };
+    loan l = { token, token_len, key, key_len, token, input_len, signature, signature_len, t, v, a->out, sizeof a->out, &a->used, &a->told };
     return l;
 }
 
@@ -30,8 +47,8 @@ static uint32_t call_with(int which, const loan *l) {
     switch (which) {
     case OPEN: return svid_token_open(l->t, l->token, l->token_len, l->told);
     case ASK: return svid_validator_ask_token(l->v, l->t, SVID_MOST_CANDIDATES, l->out, l->room, l->told);
-    case JUDGE: return svid_validator_judge_token(l->v, NOW, l->key, l->key_len, l->t, l->out, l->room, l->used, l->told);
-    default: return svid_validator_check_token(l->v, NOW, l->key, l->key_len, l->t, l->out, l->room, l->used, l->told);
+    case JUDGE: return svid_validator_judge_token(l->v, NOW, l->key, l->key_len, l->input, l->input_len, l->signature, l->signature_len, l->t, l->out, l->room, l->used, l->told);
+    default: return svid_validator_check_token(l->v, NOW, l->key, l->key_len, l->input, l->input_len, l->signature, l->signature_len, l->t, l->out, l->room, l->used, l->told);
     }
 }
 
@@ -57,16 +74,16 @@ static const uint8_t *row_of(size_t *at_row, size_t *len, const uint8_t **its_ke
 
 /* What svid_validator_ask_token is to answer, by what svid_token_signature and svid_validator_ask do. */
 static uint32_t ask_by_text(const loan *l) {
-    static uint8_t signature[SVID_SIGNATURE_ROOM];
+    static uint8_t made[SVID_SIGNATURE_ROOM];
     svid_signed over;
     svid_told told;
     uint32_t status = list_rows(l);
     memset(l->told, 0, sizeof *l->told);
     if (status != SVID_OK) return status;
-    holds(svid_token_signature(l->token, l->token_len, &over, signature, sizeof signature, &told) == SVID_OK, "a token that is read has no signature");
+    holds(svid_token_signature(l->token, l->token_len, &over, made, sizeof made, &told) == SVID_OK, "a token that is read has no signature");
     size_t len = put_number(l->out, over.len);
     len += put_number(l->out + len, told.len);
-    memcpy(l->out + len, signature, told.len);
+    memcpy(l->out + len, made, told.len);
     len += told.len;
     for (size_t from = 0, more, its_len; from < rows.len; len += more) {
         const uint8_t *its_key, *row = row_of(&from, &more, &its_key, &its_len);
@@ -95,7 +112,7 @@ static uint32_t call_by_text(int which, const loan *l) {
 static void find_key(void) {
     svid_validator v = SVID_VALIDATOR_CLOSED;
     svid_told told;
-    loan l = { token, token_len, NULL, 0, NULL, &v, NULL, 0, NULL, &told };
+    loan l = { token, token_len, NULL, 0, NULL, 0, NULL, 0, NULL, &v, NULL, 0, NULL, &told };
     at = "the key of the examples";
     answered = svid_validator_open(&v, &TERMS, (const uint8_t *)"ledger", 6, bundles, bundles_len, &told);
     holds(answered == SVID_OK && list_rows(&l) == SVID_OK, "no key");
@@ -119,6 +136,7 @@ static void begin(int which, svid_token *t, svid_validator *v) {
     static const svid_validator none = SVID_VALIDATOR_CLOSED;
     svid_told told;
     *t = closed, *v = none;
+    find_signature();
     holds(which == OPEN || svid_token_open(t, token, token_len, &told) == SVID_OK, "a token does not open");
     answered = svid_validator_open(v, &TERMS, (const uint8_t *)"ledger", 6, bundles, bundles_len, &told);
     holds(answered == SVID_OK, "a validator does not open");
@@ -197,6 +215,8 @@ static void guarded(void) {
             loan l = lent(&s, &w, &got);
             l.token = between(token, token_len, first);
             l.key = between(key, key_len, first);
+            l.input = between(token, input_len, first);
+            l.signature = between(signature, signature_len, first);
             l.t = between(&s, sizeof s, first);
             l.v = between(&w, sizeof w, first);
             l.out = between(got.out, rooms[i], first);
@@ -222,7 +242,7 @@ static void nulls(void) {
     answer *both[] = { &due, &got };
     for (int which = 0; which < CALLS; which++) {
         at = NAMES[which];
-        for (int input_of = 0; input_of < 3; input_of++) {
+        for (int input_of = 0; input_of < 5; input_of++) {
             for (int i = 0; i < 2; i++) {
                 svid_token t;
                 svid_validator v;
@@ -231,6 +251,8 @@ static void nulls(void) {
                 loan l = lent(&t, &v, both[i]);
                 if (input_of == 0) l.token = i ? NULL : nothing, l.token_len = 0;
                 else if (input_of == 1) l.key = i ? NULL : key, l.key_len = 0;
+                else if (input_of == 2) l.input = i ? NULL : nothing, l.input_len = 0;
+                else if (input_of == 3) l.signature = i ? NULL : nothing, l.signature_len = 0;
                 else l.out = i ? NULL : l.out, l.room = 0;
                 answered = both[i]->status = call_with(which, &l);
                 end(&t, &v);
@@ -362,6 +384,37 @@ static void renewed(void) {
     printf("a token at validators whose keys differ");
 }
 
+/* Two tokens of one issuer, which one key may have signed. What was verified of the other one is no answer for the first, whichever part of it is
+ * the other's, or is cut; what was verified of the first is. */
+static void mixed(void) {
+    static answer got;
+    static uint8_t other[FILE_MOST], other_signature[SVID_SIGNATURE_ROOM];
+    memcpy(other, token, token_len);
+    find_signature();
+    memcpy(other_signature, signature, signature_len);
+    other[input_len - 1] ^= 1, other_signature[0] ^= 1;
+    for (int which = JUDGE; which < CALLS; which++) {
+        for (int turn = 0; turn < 8; turn++) {
+            svid_token t;
+            svid_validator v;
+            at = NAMES[which];
+            begin(which, &t, &v);
+            clear(&got);
+            loan l = lent(&t, &v, &got);
+            if (turn == 1 || turn == 3) l.input = other;
+            if (turn == 2 || turn == 3) l.signature = other_signature;
+            if (turn == 4) l.input_len--;
+            if (turn == 5) l.signature_len--;
+            if (turn == 6) l.input = signature, l.input_len = signature_len, l.signature = token, l.signature_len = input_len;
+            if (turn == 7) l.input_len = l.signature_len = 0;
+            answered = call_with(which, &l);
+            holds(answered == (turn == 0 ? SVID_OK : SVID_BAD_SIGNATURE), "another answer");
+            end(&t, &v);
+        }
+    }
+    printf("what was verified of one token is no answer for another");
+}
+
 typedef struct { int which; svid_token *t; svid_validator *v; answer *a; } job;
 static void *run_job(void *given) {
     job *j = given;
@@ -395,7 +448,7 @@ static void stack(void) {
 }
 
 int main(int count, char **words) {
-    static const part parts[] = { { "refused", refused }, { "guarded", guarded }, { "nulls", nulls }, { "answers", answers }, { "renewed", renewed }, { "stack", stack } };
+    static const part parts[] = { { "refused", refused }, { "guarded", guarded }, { "nulls", nulls }, { "answers", answers }, { "renewed", renewed }, { "mixed", mixed }, { "stack", stack } };
     read_examples();
     find_key();
     return run_part(count, words, parts, COUNT(parts));

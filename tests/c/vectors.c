@@ -191,6 +191,36 @@ static void patterns(const json_t *it) {
     expect(it, said("%s%llu %llu", "", 9 + found.domain_len + found.path_len, found.offset), said("%s%llu %llu", "", id.len, 0));
 }
 
+/* A number of 64 bits, which the file has as a text. */
+static uint64_t digits(const json_t *object, const char *name) { return strtoull(words(object, name), NULL, 10); }
+
+static const char *claim(const json_t *it, const char *call) {
+    uint8_t out[32];
+    if (!strcmp(call, "owner_of_life")) {
+        svid_claim_owner(hex(it, "validator_id").bytes, hex(it, "life").bytes, digits(it, "exp"), out);
+        return hexed(out, 32);
+    }
+    if (!strcmp(call, "owner_of_caller")) {
+        svid_claim_owner_of_caller(hex(it, "caller").bytes, digits(it, "exp"), out);
+        return hexed(out, 32);
+    }
+    if (!strcmp(call, "validator_of")) {
+        svid_claim_validator(hex(it, "owner").bytes, out);
+        return hexed(out, 16);
+    }
+    if (!strcmp(call, "until")) return said("%s%llu", "", svid_claim_until(digits(it, "exp"), digits(it, "margin")), 0);
+    if (!strcmp(call, "deaf")) return said("%s%llu", "", svid_claim_deaf(digits(it, "time"), digits(it, "lasts"), digits(it, "before")), 0);
+    if (!strcmp(call, "moment")) return said("%s%llu", "", svid_claim_moment(digits(it, "now"), digits(it, "time"), digits(it, "ahead")), 0);
+    uint32_t status = svid_claim_outcome(hex(it, "owner").bytes, digits(it, "exp"), hex(it, "found").bytes, digits(it, "time"), digits(it, "deaf"),
+                                         digits(it, "lasts"), digits(it, "moment"));
+    return status == SVID_OK ? "Mine" : named(status, "CLAIM_");
+}
+
+static void claims(const json_t *it) {
+    const char *call = words(it, "call");
+    expect(it, claim(it, call), words(it, strncmp(call, "owner", 5) ? "answer" : "owner"));
+}
+
 static void messages(const json_t *it) {
     text given = hex(it, "messages");
     const json_t *fault = at(it, "fault");
@@ -281,7 +311,7 @@ static void files(const json_t *it) {
 /* Each file that has vectors for C, and what makes its calls. */
 static const struct { const char *name; void (*run)(const json_t *); } FILES[] = {
     { "keys", keys }, { "signatures", keys }, { "tokens", tokens }, { "bundles", bundles }, { "ids", ids }, { "patterns", patterns }, { "messages", messages },
-    { "summaries", summaries }, { "logs", logs }, { "files", files },
+    { "summaries", summaries }, { "claims", claims }, { "logs", logs }, { "files", files },
 };
 
 static void read_file(const char *folder, const char *name, void (*run)(const json_t *)) {

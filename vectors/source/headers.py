@@ -5,11 +5,18 @@ from .checks import accepted, token
 BEARER = "RFC 6750, section 2.1; RFC 9110, section 11.4"
 SCHEME = "RFC 9110, section 11.1: names of schemes have no case"
 
+# The challenge of a 401, for a request without a bearer token. RFC 6750, section 3: there is at least one parameter, and no error where the client tried
+# nothing or another scheme. Section 3.1: a malformed request is invalid_request.
+NOTHING_TRIED = 'Bearer realm="svid"'
+MALFORMED = 'Bearer error="invalid_request", error_description="NotBearer"'
+CHALLENGES = {"Absent": NOTHING_TRIED, "Scheme": NOTHING_TRIED, "Several": MALFORMED, "Spelling": MALFORMED}
+
 
 def row(name, values, answer, why=None, source=BEARER):
     """`why` says why the request has no bearer token; without it, `answer` is that of a check of its token. The page has a field for one header."""
     readers = {} if len(values) == 1 else {"readers": ["go", "python", "rust"]}
-    return {"name": name, "from": source, **readers, "values": values, "why": why, "answer": answer}
+    challenge = {"challenge": CHALLENGES[why]} if why else {}
+    return {"name": name, "from": source, **readers, "values": values, "why": why, "answer": answer, **challenge}
 
 
 def vectors():

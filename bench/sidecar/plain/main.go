@@ -1,11 +1,11 @@
-// Plain is what a service writes today to accept a JWT-SVID once: Go's HTTP server, and SET NX in Redis, or INSERT .. ON
-// CONFLICT DO NOTHING in PostgreSQL. Without the address of one of these it accepts a token as often as it comes, so it shows
+// Plain is what a service writes today to accept a JWT-SVID once: Go's HTTP server, and SET NX in Redis, INSERT .. ON CONFLICT DO
+// NOTHING in PostgreSQL, or kv.Create in NATS. Without the address of one of these it accepts a token as often as it comes, so it shows
 // what a request costs that is verified, and nothing else. bench/sidecar measures svidd beside it.
 //
 //	plain standard ADDRESS BUNDLE AUDIENCE [STORE]   verifies by the standard library, as little as will do
 //	plain jose ADDRESS BUNDLE AUDIENCE [STORE]       verifies by go-jose, in the steps of go-spiffe
 //
-// STORE is HOST:PORT of a Redis, or postgres://USER@HOST:PORT/DATABASE.
+// STORE is HOST:PORT of a Redis, postgres://USER@HOST:PORT/DATABASE, or nats://HOST:PORT.
 package main
 
 import (
@@ -71,6 +71,9 @@ type store interface {
 func newStore(address string) (store, error) {
 	if strings.HasPrefix(address, "postgres://") {
 		return newTable(address)
+	}
+	if strings.HasPrefix(address, "nats://") {
+		return newBucket(address)
 	}
 	return &pool{address: address, idle: make(chan *conn, 256)}, nil
 }

@@ -4,6 +4,7 @@ pub mod Answered
 pub mod Bearer
 pub mod Buckets
 pub mod Checked
+pub mod Claims
 pub mod Documents
 pub mod Entries
 pub mod Handle

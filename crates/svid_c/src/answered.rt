@@ -11,8 +11,13 @@ use svid_token::Alg;
 pub(crate) enum Answered<'a> {
     /// Yes to these questions, and to no others.
     Questions(&'a [[u8; 32]]),
-    /// Yes of the key of this text, and of no other. No key has the empty text.
-    Key(&'a [u8]),
+    /// This key, by its text, made this signature over these bytes. It says nothing of another key, text or signature. No key has the
+    /// empty text.
+    Finding {
+        key: &'a [u8],
+        input: &'a [u8],
+        signature: &'a [u8],
+    },
 }
 
 // Whether a question is one of these.
@@ -29,7 +34,14 @@ impl<'a> Verifier for Answered<'a> {
 
     fn verify(&self, key: &JwtKey, alg: Alg, input: &[u8], signature: &[u8]) -> bool {
         match *self {
-            Answered::Key(text) => !text.is_empty() && key.text().as_bytes() == text,
+            Answered::Finding {
+                key: text,
+                input: over,
+                signature: made,
+            } => {
+                !text.is_empty()
+                    && (key.text().as_bytes() == text && (input == over && signature == made))
+            }
             // (Where no question is answered yes, nothing is hashed.)
             Answered::Questions(yes) if yes.is_empty() => false,
             Answered::Questions(yes) => is_among(&question(key, alg, input, signature), yes),

@@ -17,6 +17,7 @@ mod bundles_judge;
 mod bundles_open;
 mod bundles_question;
 mod check;
+mod claim_outcome;
 mod entries;
 mod entries_read;
 mod entries_write;

@@ -2,7 +2,8 @@ ghost use Rattle.std.specs.Prelude.{◌≡◌, IfOk, IfErr, None, Some};
 ghost use Rattle.svid_token.specs.Rows.{Answers};
 ghost use Rattle.svid_replay.specs.Buckets.{raised_to};
 ghost use Rattle.svid_check.specs.Said.{RefusesForm};
-ghost use Rattle.svid_c.specs.Answered.{says_key, says_of, says_yes};
+ghost use Rattle.svid_check.specs.Verifiers.{finding_says};
+ghost use Rattle.svid_c.specs.Answered.{finding_of, says_of, says_yes};
 ghost use Rattle.svid_c.specs.Live.{Checks, ChecksAlone, HandleCallsAt, IsLeft, adds, adds_nothing, gained_by, verdict_at};
 ghost use Rattle.svid_c.specs.Subject.{KeepsForm, given_token, read_token, subject_of};
 ghost use Rattle.svid_c.specs.Token.{ReadsToken};
@@ -293,57 +294,74 @@ pub extern "C" fn svid_validator_judge(
     judge_held(alloc, v, now, yes, asked, out, used, told)
 }
 
-/// As [`svid_validator_check`], of the token of an open handle, which stays as it is. `key` is the key for which the caller's verifier
-/// said yes: its JSON, as [`svid_validator_ask_token`](crate::validator_ask::svid_validator_ask_token) lists it, or no bytes where there is none. It is
-/// compared with the keys that the validator has now, and the token is hashed for none of them. So 101 to 116 are no answers here, and 5 also says that the
-/// handle of the token is closed.
+/// As [`svid_validator_check`], of the token of an open handle, which stays as it is. `key`, `input` and `signature` are what the caller's
+/// verifier said yes to: the key, as JSON, that made this signature over these bytes, all as
+/// [`svid_validator_ask_token`](crate::validator_ask_token::svid_validator_ask_token) gives them. `key` has no bytes where there is none. They are
+/// compared with the keys that the validator has now, and with the token: of another token, or by a key that may not have signed this one,
+/// they are no answer (123). Nothing is hashed.
+///
+/// So 101 to 116 are no answers here, and 5 also says that the handle of the token is closed.
 #[unsafe(no_mangle)]
 pub extern "C" fn svid_validator_check_token(
     alloc: Global,
     v: &mut SvidValidator,
     now: u64,
     key: &[u8],
+    input: &[u8],
+    signature: &[u8],
     t: &mut SvidToken,
     out: &mut [u8],
     used: &mut SvidUse,
     told: &mut SvidTold,
 ) -> u32
     ensures { ReadsToken ((out.new ≡ out.old) × ((used.new ≡ used.old) × (v.new.handle.live ≡ v.old.handle.live)))
-        (λ said. HandleCallsAt now ((out.new ≡ out.old) × (used.new ≡ used.old)) (ChecksAlone now (says_key key.now) (read_token said) result told.new out.old out.new used.old used.new)
+        (λ said. HandleCallsAt now ((out.new ≡ out.old) × (used.new ≡ used.old)) (ChecksAlone now (finding_says (finding_of key.now input.now signature.now)) (read_token said) result told.new out.old out.new used.old used.new)
         result told.new v.old.handle.live v.new.handle.live)
         result told.new t.old.handle.read t.new.handle.read }
 {
     let Some(read) = t.take(alloc) else {
         return only(5, told);
     };
-    let (yes, asked) = (Answered::Key(key), Asked::Read(&read));
+    let yes = Answered::Finding {
+        key,
+        input,
+        signature,
+    };
+    let asked = Asked::Read(&read);
     let status = check_held(alloc, v, now, yes, asked, out, used, told);
     t.put(read);
     status
 }
 
-/// As [`svid_validator_judge`], of the token of an open handle, which stays as it is. `key` is as for [`svid_validator_check_token`]. So 101 to
-/// 116 are no answers here, and 5 also says that the handle of the token is closed.
+/// As [`svid_validator_judge`], of the token of an open handle, which stays as it is. `key`, `input` and `signature` are as for
+/// [`svid_validator_check_token`]. So 101 to 116 are no answers here, and 5 also says that the handle of the token is closed.
 #[unsafe(no_mangle)]
 pub extern "C" fn svid_validator_judge_token(
     alloc: Global,
     v: &mut SvidValidator,
     now: u64,
     key: &[u8],
+    input: &[u8],
+    signature: &[u8],
     t: &mut SvidToken,
     out: &mut [u8],
     used: &mut SvidUse,
     told: &mut SvidTold,
 ) -> u32
     ensures { ReadsToken ((out.new ≡ out.old) × ((used.new ≡ used.old) × (v.new.handle.live ≡ v.old.handle.live)))
-        (λ said. HandleCallsAt now ((out.new ≡ out.old) × (used.new ≡ used.old)) (Checks adds_nothing now (says_key key.now) (read_token said) result told.new out.old out.new used.old used.new)
+        (λ said. HandleCallsAt now ((out.new ≡ out.old) × (used.new ≡ used.old)) (Checks adds_nothing now (finding_says (finding_of key.now input.now signature.now)) (read_token said) result told.new out.old out.new used.old used.new)
         result told.new v.old.handle.live v.new.handle.live)
         result told.new t.old.handle.read t.new.handle.read }
 {
     let Some(read) = t.take(alloc) else {
         return only(5, told);
     };
-    let (yes, asked) = (Answered::Key(key), Asked::Read(&read));
+    let yes = Answered::Finding {
+        key,
+        input,
+        signature,
+    };
+    let asked = Asked::Read(&read);
     let status = judge_held(alloc, v, now, yes, asked, out, used, told);
     t.put(read);
     status

@@ -62,14 +62,14 @@ each_listed (x ∷ us) h = (
 )
 
 -- the uses of a set are in range
-abbrev AreUses : Uses → Type 0
+abbrev pub AreUses : Uses → Type 0
 AreUses s = (u : Use) → IsTrue (holds s u) → IsUse u
 
 bucket_fits : (b : ℕ) (s : Uses) → AreUses s → AllByRecursion IsUse (rising (bucket b s))
 bucket_fits b s fits = each_listed (rising (bucket b s)) (λ u listed. fits u (and_parts (holds s u) (bucket_of u == b) (sym (bucket_holds_its_uses b s u) ∙ (holds-rising use_cmp (bucket b s) u ∙ listed))).0)
 
 -- where a bucket has one text in two sets, its uses in the one are in the other
-same_bucket : (a t : Uses) (u : Use) → AreUses a → AreUses t → bucket_text (bucket_of u) a ≡ bucket_text (bucket_of u) t → IsTrue (holds t u) → IsTrue (holds a u)
+pub same_bucket : (a t : Uses) (u : Use) → AreUses a → AreUses t → bucket_text (bucket_of u) a ≡ bucket_text (bucket_of u) t → IsTrue (holds t u) → IsTrue (holds a u)
 same_bucket a t u fa ft e held =
     let b = bucket_of u in
     let lists : rising (bucket b a) ≡ rising (bucket b t) = same_uses (rising (bucket b a)) (rising (bucket b t)) (bucket_fits b a fa) (bucket_fits b t ft) e in
@@ -78,21 +78,21 @@ same_bucket a t u fa ft e held =
     (and_parts (holds a u) (bucket_of u == b) (sym (bucket_holds_its_uses b a u) ∙ mine)).0
 
 -- the number of a bucket
-bucket_below : (u : Use) → IsUse u → bucket_of u < 256
+pub bucket_below : (u : Use) → IsUse u → bucket_of u < 256
 bucket_below u fields = All-get_or (λ n. n < 256) u.key 0 0 (omega (arith, fields.key.size)) fields.key.each
 
 -- A search for a clash.
 
-abbrev is_same : List ℕ → List ℕ → Bool
+abbrev pub is_same : List ℕ → List ℕ → Bool
 is_same a b = is_eq (bytes_cmp a b)
 
-same_bytes : (a b : List ℕ) → is_same a b ≡ true → a ≡ b
+pub same_bytes : (a b : List ℕ) → is_same a b ≡ true → a ≡ b
 same_bytes a b h = slice_cmp-IsAntisymmetric nat_cmp-IsAntisymmetric a b (equal (bytes_cmp a b) h)
 
 tied_bytes : (a b : List ℕ) → a ≡ b → is_same a b ≡ true
 tied_bytes a b e = subst (λ (x : List ℕ). is_same a x ≡ true) e (ap is_eq (tied_itself nat_list_cmp_total a))
 
-other_bytes : (a b : List ℕ) → is_same a b ≡ false → a ≢ b
+pub other_bytes : (a b : List ℕ) → is_same a b ≡ false → a ≢ b
 other_bytes a b h e = false≢true (sym h ∙ tied_bytes a b e)
 
 last_is : (n b : ℕ) → b < suc n → n ≤ b → n ≡ b

@@ -26,5 +26,6 @@ pub mod SendsLemmas
 pub mod SoundLemmas
 pub mod VerdictLemmas
 pub mod VerifiersLemmas
+pub mod WalksLemmas
 pub mod WholeEventsLemmas
 pub mod WholeLemmas

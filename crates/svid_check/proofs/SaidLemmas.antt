@@ -14,7 +14,7 @@ use Rattle.svid_token.specs.Rows.{Refuses, first_row}
 use Rattle.svid_token.specs.Signature.{signature_of, signature_rows}
 use Rattle.svid_token.specs.declared.alg.Alg.{Alg}
 use Rattle.svid_token.specs.declared.refusal.Refusal.{Refusal}
-use Rattle.svid_check.specs.Said.{ReadTokensHaveTheirForm, Said, UnrefusedIsSaid, parts_rows, parts_say, reading_of, rows_if_three, said_by, said_of, token_rows}
+use Rattle.svid_check.specs.Said.{ReadTokensHaveTheirForm, UnrefusedIsSaid, parts_rows, parts_say, reading_of, rows_if_three, said_by, said_of, token_rows}
 use Rattle.svid_check.proofs.RowsLemmas.{judged-Err, judged-None, judged-Ok, judged-Some, none_of_both, passed, passes, read_there, refused_through, stops, there}
 
 -- of a token with three parts, these are judged

@@ -18,4 +18,5 @@ pub mod Table
 pub mod Told
 pub mod Verdict
 pub mod Verifiers
+pub mod Walks
 pub mod World

@@ -17,7 +17,8 @@ ghost use Rattle.svid_check.specs.Saves.{LaterGoesOn, SavesAddNothing, SavesLose
 ghost use Rattle.svid_check.specs.Table.{TableIsOneList};
 ghost use Rattle.svid_check.specs.Told.{BeginsAsGiven};
 ghost use Rattle.svid_check.specs.Verdict.{AcceptedAreJudgedAgain, AcceptsNoSilence, ReadTokensHaveTheirVerdict};
-ghost use Rattle.svid_check.specs.Verifiers.{TablesStand};
+ghost use Rattle.svid_check.specs.Verifiers.{FindingsStand, OtherFindingsAreNone, TablesStand};
+ghost use Rattle.svid_check.specs.Walks.{WalksTellAll};
 
 /// A token that nothing refuses by itself says all that must be there, so that no verdict is 'accepted'
 /// of a token that does not.
@@ -182,6 +183,13 @@ pub fn answers_tell_all()
     ensures { AnswersTellAll }
 {}
 
+/// So it is where a summary and its answer are made bucket by bucket, and both records change in between: whoever takes all that was written
+/// has each use that the answerer had when it began, while that is live, or two texts of a bucket have one digest. What the answerer's
+/// record gained since, it has or lacks.
+pub fn walks_tell_all()
+    ensures { WalksTellAll }
+{}
+
 /// A restart puts a log back with its record, as a save holds both: where a restart left the log as it
 /// was, a validator whose log has a whole record, or a summary and its whole answer, need not have been
 /// told what the other had been.
@@ -220,6 +228,14 @@ pub fn calls_stand_alone()
 /// just those whose signature the verifier says is good, the verdict by the table is the verdict by the verifier.
 pub fn tables_stand_for_verifiers()
     ensures { TablesStand }
+{}
+
+/// A finding (a key, the bytes that are signed, and the signature) stands for a verifier on the token that it is of: the verdict by it
+/// is the verdict by each verifier that says yes of that key. On any other token it is no answer, and neither is it where the key is no
+/// candidate, or has no text: the verdict is the one where no key made the signature.
+pub fn findings_stand_for_verifiers()
+    ensures stands { FindingsStand }
+    ensures other { OtherFindingsAreNone }
 {}
 
 /// A record that is saved piece by piece, with other calls in between, loses nothing of what it had at the first

@@ -1,8 +1,8 @@
 -- What a line has for the first of some bytes, and for the others.
-use Rattle.std.proofs.Common.{◌≡◌, ℕ, ◌+◌, ◌-◌, ◌<◌, ◌≤◌, ◌&&◌, ◌==◌, List, [], ◌∷◌, ◌++◌, length, get_or, drop, codes, Bool, true, false, nat_lt, if◌then◌else◌, Result, Ok, Err, IfOk, refl, sym, ap, ◌∙◌, append_assoc, append-nil, arith}
-use Rattle.std.proofs.lemmas.Bool.{and_from, and_parts, lt-ltb, ltb-true}
+use Rattle.std.proofs.Common.{◌≡◌, ℕ, ◌+◌, ◌-◌, ◌<◌, ◌≤◌, ◌&&◌, ◌==◌, List, [], ◌∷◌, ◌++◌, length, get_or, drop, codes, Bool, true, false, not, ◌||◌, nat_le, nat_lt, if◌then◌else◌, Result, Ok, Err, IfOk, refl, sym, ap, ◌∙◌, append_assoc, append-nil, arith}
+use Rattle.std.proofs.lemmas.Bool.{and_from, and_parts, eqb-true, le-ltb, leb-true, lt-ltb, ltb-true, ne_eqb}
 use Rattle.std.proofs.lemmas.List.{drop_all, drop_more}
-use Rattle.svid_cli.specs.Mistake.{hides_tokens, is_control, is_of_token, left_after, most_of_token, shown, shown_from}
+use Rattle.svid_cli.specs.Mistake.{HasWords, hides_tokens, is_control, is_of_token, is_one_line, left_after, mistake_text, most_of_token, shown, shown_from}
 
 shown_next : (line : List ℕ) (left byte : ℕ) (rest : List ℕ) → line ++ shown left byte ++ shown_from (left_after left byte) rest ≡ line ++ shown_from left (byte ∷ rest)
 unfolding shown_from
@@ -65,8 +65,72 @@ unfolding shown_from hides_tokens
 hides_shown left [] le = refl
 hides_shown left (byte ∷ rest) le = hides_first (is_of_token byte) (byte == 10) (is_control byte) left byte rest refl le (λ n within. hides_shown n rest within)
 
--- so does a line that is that, where there is one
+-- a byte between these is no control character
+no_control_between : (byte : ℕ) → 45 ≤ byte → byte ≤ 122 → is_control byte ≡ false
+no_control_between byte low high = rw (le-ltb byte 32 (omega (arith, low))) (rw (ne_eqb byte 127 (λ e. omega (arith, high, e))) refl)
+
+no_control_in : (byte low high : ℕ) → 45 ≤ low → high ≤ 122 → (nat_le low byte && nat_le byte high) ≡ true → is_control byte ≡ false
+no_control_in byte low high least most both =
+    let parts = and_parts (nat_le low byte) (nat_le byte high) both in
+    let above : low ≤ byte = leb-true low byte parts.0 in
+    let below : byte ≤ high = leb-true byte high parts.1 in
+    no_control_between byte (omega (arith, least, above)) (omega (arith, most, below))
+
+no_control_at : (byte at : ℕ) → 45 ≤ at → at ≤ 122 → (byte == at) ≡ true → is_control byte ≡ false
+no_control_at byte at least most same =
+    let is : byte ≡ at = eqb-true byte at same in
+    no_control_between byte (omega (arith, least, is)) (omega (arith, most, is))
+
+either : (byte : ℕ) (a b : Bool) → (a ≡ true → is_control byte ≡ false) → (b ≡ true → is_control byte ≡ false) → (a || b) ≡ true → is_control byte ≡ false
+either byte true b f g h = f refl
+either byte false b f g h = g h
+
+-- a byte of a token is no control character
+no_control : (byte : ℕ) → is_of_token byte ≡ true → is_control byte ≡ false
+no_control byte of =
+    let digit = nat_le 48 byte && nat_le byte 57 in
+    let large = nat_le 65 byte && nat_le byte 90 in
+    let small = nat_le 97 byte && nat_le byte 122 in
+    either byte (digit || large || small || (byte == 45) || (byte == 95)) (byte == 46)
+    (either byte (digit || large || small || (byte == 45)) (byte == 95)
+    (either byte (digit || large || small) (byte == 45)
+    (either byte (digit || large) small
+    (either byte digit large (no_control_in byte 48 57 (omega arith) (omega arith)) (no_control_in byte 65 90 (omega arith) (omega arith)))
+    (no_control_in byte 97 122 (omega arith) (omega arith)))
+    (no_control_at byte 45 (omega arith) (omega arith)))
+    (no_control_at byte 95 (omega arith) (omega arith)))
+    (no_control_at byte 46 (omega arith) (omega arith))
+    of
+
+-- what the line has for one byte, and behind it one line, is one line
+one_first : (of some ends controls : Bool) (byte : ℕ) (rest : List ℕ) → (of ≡ true → is_control byte ≡ false) → is_control byte ≡ controls → is_one_line rest ≡ true
+    → is_one_line ((if of then if some then byte ∷ [] else [] else if ends then codes "; " else if controls then [] else byte ∷ []) ++ rest) ≡ true
+unfolding is_one_line
+one_first true true ends controls byte rest free is one = rw (free refl) one
+one_first true false ends controls byte rest free is one = one
+one_first false some true controls byte rest free is one = one
+one_first false some false true byte rest free is one = one
+one_first false some false false byte rest free is one = rw is one
+
+-- what a line has for bytes is one line
+pub one_shown : (left : ℕ) (bytes : List ℕ) → is_one_line (shown_from left bytes) ≡ true
+unfolding shown_from is_one_line
+one_shown left [] = refl
+one_shown left (byte ∷ rest) = one_first (is_of_token byte) (nat_lt 0 left) (byte == 10) (is_control byte) byte (shown_from (left_after left byte) rest) (no_control byte) refl (one_shown (left_after left byte) rest)
+
+-- so are they of a line that is that, where there is one
 pub hides_line : {T E : Type 0} (items : T → List ℕ) (made : Result T E) (bytes : List ℕ)
     → IfOk made (λ line. items line ≡ shown_from most_of_token bytes) → IfOk made (λ line. hides_tokens most_of_token (items line) ≡ true)
 hides_line items (Ok line) bytes is = rw is (hides_shown most_of_token bytes (omega arith))
 hides_line items (Err e) bytes is = tt
+
+pub one_of_line : {T E : Type 0} (items : T → List ℕ) (made : Result T E) (bytes : List ℕ)
+    → IfOk made (λ line. items line ≡ shown_from most_of_token bytes) → IfOk made (λ line. is_one_line (items line) ≡ true)
+one_of_line items (Ok line) bytes is = rw is (one_shown most_of_token bytes)
+one_of_line items (Err e) bytes is = tt
+
+-- and it has the words that it was made of
+pub words_of_line : {T E : Type 0} (items : T → List ℕ) (made : Result T E) (bytes told help : List ℕ) → bytes ≡ mistake_text told help
+    → IfOk made (λ line. items line ≡ shown_from most_of_token bytes) → IfOk made (λ line. HasWords help (items line))
+words_of_line items (Ok line) bytes told help of is = (told, is ∙ ap (shown_from most_of_token) of)
+words_of_line items (Err e) bytes told help of is = tt

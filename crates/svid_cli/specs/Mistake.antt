@@ -1,7 +1,7 @@
 -- The line of a mistake on the command line.
-use Rattle.std.specs.Prelude.{ℕ, Bool, true, List, [], ◌∷◌, ◌++◌, ◌==◌, ◌&&◌, ◌||◌, ◌-◌, codes, nat_le, nat_lt, if◌then◌else◌}
+use Rattle.std.specs.Prelude.{◌≡◌, ℕ, Bool, true, not, List, [], ◌∷◌, ◌++◌, ◌==◌, ◌&&◌, ◌||◌, ◌-◌, codes, nat_le, nat_lt, if◌then◌else◌}
 
--- a control character (ECMA-48, section 5.3), a line end among them
+-- a control character of ASCII (ECMA-48, section 5.2), or DEL; a line end is one of them
 abbrev pub is_control : ℕ → Bool
 is_control byte = nat_lt byte 32 || (byte == 127)
 
@@ -38,3 +38,16 @@ shown_from left (byte ∷ rest) = shown left byte ++ shown_from (left_after left
 unfoldable pub hides_tokens : ℕ → List ℕ → Bool
 hides_tokens left [] = true
 hides_tokens left (byte ∷ rest) = if is_of_token byte then nat_lt 0 left && hides_tokens (left - 1) rest else hides_tokens most_of_token rest
+
+-- a line has no control character, so it is one line
+unfoldable pub is_one_line : List ℕ → Bool
+is_one_line [] = true
+is_one_line (byte ∷ rest) = not (is_control byte) && is_one_line rest
+
+-- what is wrong, and which help to ask for
+abbrev pub mistake_text : List ℕ → List ℕ → List ℕ
+mistake_text told help = codes "svid: " ++ (told ++ (codes "; see '" ++ (help ++ codes "'")))
+
+-- a line has what is shown of that
+abbrev pub HasWords : List ℕ → List ℕ → Type 0
+HasWords help line = (told : List ℕ) × (line ≡ shown_from most_of_token (mistake_text told help))

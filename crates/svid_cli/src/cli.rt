@@ -148,9 +148,18 @@ fn domain_of(alloc: Global, word: &str) -> Result<String, Failure> {
     }
 }
 
-// The trust bundles: those of the file, or of the one trust domain that is named, whose bundle the file has.
-fn trusted<'a>(rt: &'a HostRuntime, matches: &ArgMatches<'_>) -> Result<Input<'a>, Failure> {
-    let mut file = open(rt, matches.get_str("bundles").unwrap_or(""))?;
+// The file of trust bundles.
+fn open_bundles<'a>(rt: &'a HostRuntime, matches: &ArgMatches<'_>) -> Result<Input<'a>, Failure> {
+    open(rt, matches.get_str("bundles").unwrap_or(""))
+}
+
+// The trust bundles: those of the file, or of the one trust domain that is named, whose bundle the file has. This reads the
+// file, so all others are open by then.
+fn trusted<'a>(
+    rt: &'a HostRuntime,
+    matches: &ArgMatches<'_>,
+    mut file: Input<'a>,
+) -> Result<Input<'a>, Failure> {
     let Some(word) = matches.get_str("trust-domain") else {
         return Ok(file);
     };
@@ -220,7 +229,8 @@ fn answer(rt: &HostRuntime, matches: &ArgMatches<'_>) -> Result<u8, Failure> {
 }
 
 fn candidates(rt: &HostRuntime, matches: &ArgMatches<'_>) -> Result<u8, Failure> {
-    let mut bundles = trusted(rt, matches)?;
+    let file = open_bundles(rt, matches)?;
+    let mut bundles = trusted(rt, matches, file)?;
     let mut tokens = standard_input(rt);
     let mut out = Counted::new(io::writer(rt));
     let accepted = run_candidates(rt.alloc(), &mut bundles, &mut tokens, &mut out)?;
@@ -257,15 +267,29 @@ fn check_setting(rt: &HostRuntime, matches: &ArgMatches<'_>) -> Result<CheckSett
     })
 }
 
+// Lets the file that was to get the record be as it was.
+fn discard(kept: &mut Option<Kept<'_>>) {
+    if let Some(kept) = kept {
+        kept.discard();
+    }
+}
+
 fn check(rt: &HostRuntime, matches: &ArgMatches<'_>) -> Result<u8, Failure> {
     let given = check_setting(rt, matches)?;
-    let mut bundles = trusted(rt, matches)?;
+    let file = open_bundles(rt, matches)?;
     let mut table = open(rt, matches.get_str("table").unwrap_or(""))?;
     let mut tokens = standard_input(rt);
     let mut earlier = open_each(rt, matches.get_strs("record").unwrap_or(&[]))?;
     let mut kept = match matches.get_str("out") {
         Some(name) => Some(open_kept(rt, name)?),
         None => None,
+    };
+    let mut bundles = match trusted(rt, matches, file) {
+        Ok(bundles) => bundles,
+        Err(failure) => {
+            discard(&mut kept);
+            return Err(failure);
+        }
     };
     let mut out = Counted::new(io::writer(rt));
     let answer = run_check(
@@ -281,9 +305,7 @@ fn check(rt: &HostRuntime, matches: &ArgMatches<'_>) -> Result<u8, Failure> {
     match answer {
         Ok(accepted) => Ok(status_of(accepted)),
         Err(fault) => {
-            if let Some(kept) = &mut kept {
-                kept.discard();
-            }
+            discard(&mut kept);
             Err(failure_of(fault, earlier.as_slice(), 4))
         }
     }

@@ -1,6 +1,6 @@
 //! A mistake on the command line, told in one line.
 ghost use Rattle.std.specs.Prelude.{◌≡◌, ◌++◌, IfOk, true};
-ghost use Rattle.svid_cli.specs.Mistake.{hides_tokens, is_of_token, left_after, most_of_token, shown, shown_from};
+ghost use Rattle.svid_cli.specs.Mistake.{HasWords, hides_tokens, is_of_token, is_one_line, left_after, mistake_text, most_of_token, shown, shown_from};
 
 use crate::words::bytes_of_text;
 use std::alloc::{AllocError, Global};
@@ -98,13 +98,29 @@ fn shown_of(alloc: Global, bytes: &[u8]) -> Result<Vec<u8>, AllocError>
     Ok(line)
 }
 
-/// What the parser says of a mistake in several lines, as one: what is wrong, the nearest name where there is one, and
-/// which help to ask for. No word of the command line adds a line to it, and of a token it has no more than 20 bytes.
+// The line's bytes as they come: what is wrong, and which help to ask for.
+fn whole(alloc: Global, told: &[u8], help: &str) -> Result<Vec<u8>, AllocError>
+    ensures { IfOk result (λ line. line.items ≡ mistake_text told.now help.now) }
+{
+    let mut line = Vec::new(alloc);
+    line.extend_from_slice(b"svid: ")?;
+    line.extend_from_slice(told)?;
+    line.extend_from_slice(b"; see '")?;
+    line.extend_from_slice(help.as_bytes())?;
+    line.extend_from_slice(b"'")?;
+    Ok(line)
+}
+
+/// What the parser says of a mistake in several lines, as one: `svid: `, what is wrong, the nearest name where there is one, and
+/// which help to ask for. It has no control character of ASCII, so no word of the command line adds a line to it, or commands a
+/// terminal. Of a token it has no more than 20 bytes.
 pub fn one_line(alloc: Global, text: &str, help: &str) -> Result<Vec<u8>, AllocError>
-    ensures { IfOk result (λ line. hides_tokens most_of_token line.items ≡ true) }
+    ensures words { IfOk result (λ line. HasWords help.now line.items) }
+    ensures one { IfOk result (λ line. is_one_line line.items ≡ true) }
+    ensures hides { IfOk result (λ line. hides_tokens most_of_token line.items ≡ true) }
 {
     let told = joined(alloc, text)?;
-    let line = format!(in alloc; "svid: {told}; see '{help}'")?;
-    let bytes = bytes_of_text(alloc, line.as_str())?;
-    shown_of(alloc, &bytes)
+    let bytes = bytes_of_text(alloc, told.as_str())?;
+    let line = whole(alloc, &bytes, help)?;
+    shown_of(alloc, &line)
 }

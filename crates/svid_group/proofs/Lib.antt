@@ -9,5 +9,6 @@ pub mod ReadsLemmas
 pub mod ReportsLemmas
 pub mod SendsLemmas
 pub mod StandsLemmas
+pub mod TellsLemmas
 pub mod ToldLemmas
 pub mod VerdictsLemmas

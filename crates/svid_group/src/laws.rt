@@ -3,6 +3,7 @@
 ghost use Rattle.svid_group.specs.History.{EveryKindHappens, OwnClaimIsAccepted};
 ghost use Rattle.svid_group.specs.Once.{AcceptedIsFirst, AcceptedIsHeld, AcceptedIsUnrefused, AcceptedOnce, LaterInLogIsPast, OneUseOfAKey, OnlyClaimIsAccepted, OwnIsAccepted, PositionIsAcceptedOnce};
 ghost use Rattle.svid_group.specs.Reads.{ReadsAreEvents};
+ghost use Rattle.svid_group.specs.Tells.{ReadsTellFirstClaims, ReadsTellNothingElse, ReadsTellWithdrawals};
 ghost use Rattle.svid_group.specs.Told.{AcceptanceGoesAlong, AcceptedIsRefused, AnswersTellAll, ChainsTell, ChecksAreVerdicts, ClaimedIsRefused, EqualTellings, EventsLeaveLater, RecordsAreTold, ReportsAreExact, ReportsAreWhole, RestartsAbsorb, RestartsPutBack, SendsMakeEqual, SendsTellAll, ToldIsRefused, ToldWereMade, TwoValidatorsAreReported, WithMemoryVerdicts, WithdrawnAreRefused};
 ghost use Rattle.svid_group.specs.Verdicts.{ClaimsAreVerdicts, InputIsAcceptedOnce, JudgedAreVerdicts, RenewedAreVerdicts};
 
@@ -99,6 +100,15 @@ pub fn records_go_on()
 /// of which [`restarts_absorb`] speaks.
 pub fn reads_are_events()
     ensures { ReadsAreEvents }
+{}
+
+/// A read of a use that is neither early nor expired tells the validator a withdrawal; and a claim, where each use of its key has expired
+/// that the validator was told or that stands in front of the claim in the log. It tells no other use, and no claim while a use of its key
+/// is live that the validator was told.
+pub fn reads_tell()
+    ensures withdrawals { ReadsTellWithdrawals }
+    ensures claims { ReadsTellFirstClaims }
+    ensures only { ReadsTellNothingElse }
 {}
 
 /// A token whose claim is accepted is one that the definition accepts, at the moment and by the uses at which the claim is judged: if

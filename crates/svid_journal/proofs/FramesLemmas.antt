@@ -1,5 +1,5 @@
 -- A frame is known by its bytes.
-use Rattle.std.proofs.Common.{◌≡◌, ◌≢◌, ℕ, ◌+◌, ◌-◌, ◌*◌, ◌/◌, ◌%◌, ◌^◌, ◌<◌, List, [], ◌∷◌, ◌++◌, length, take, drop, replicate, refl, sym, ◌∙◌, ap, arith, append_assoc, length-append, drop-drop}
+use Rattle.std.proofs.Common.{◌≡◌, ◌≢◌, ℕ, ◌+◌, ◌-◌, ◌*◌, ◌/◌, ◌%◌, ◌^◌, ◌<◌, List, [], ◌∷◌, ◌++◌, length, take, drop, refl, sym, ◌∙◌, ap, arith, append_assoc, length-append, drop-drop}
 use Rattle.std.specs.List.{AllByRecursion}
 use Rattle.std.specs.Int.{to_be_bytes, from_be_bytes, w32, w64}
 use Rattle.std.proofs.lemmas.List.{take_at, take_all, drop_at, length-take, length-replicate, append-nil, take-append-drop}
@@ -7,7 +7,7 @@ use Rattle.std.proofs.lemmas.Nat.{from_be_bytes-to_be_bytes_4, from_be_bytes-to_
 use Rattle.std.proofs.Math.Seq.{take-append_seam, drop-append-add}
 use Rattle.sha2.specs.Sha256.{sha256}
 use Rattle.sha2.proofs.Facts256.{length-sha256}
-use Rattle.svid_journal.specs.Frames.{tag_of, numbers_of, sealed, head_of, gap, filler, frame_len, frame_in, frame_of, frames_of, IsFormat, IsPayload, BeginsWithNone}
+use Rattle.svid_journal.specs.Frames.{tag_of, numbers_of, sealed, head_of, gap, filler, frame_len, frame_in, frame_of, frames_of, IsPayload, BeginsWithNone}
 use Rattle.svid_journal.proofs.Lists.{same_parts}
 
 pub length-tag_of : (text : List ℕ) → length (tag_of text) ≡ 20
@@ -82,35 +82,6 @@ head_front v title number payload bytes behind stands =
     let numbers = numbers_of v number payload in
     let body = payload ++ filler (gap (length payload)) in
     ap (take 20) (stands ∙ append_assoc (tag ++ numbers) body behind ∙ append_assoc tag numbers (body ++ behind)) ∙ take_at tag (numbers ++ (body ++ behind)) 20 (length-tag_of (sealed v title number payload))
-
--- the numbers of a head that is this row
-numbers_are : (v : ℕ) (title : List ℕ) (number : ℕ) (payload front back : List ℕ) → length front ≡ 20 → head_of v title number payload ≡ front ++ back → numbers_of v number payload ≡ back
-unfolding head_of
-numbers_are v title number payload front back long e = (same_parts (tag_of (sealed v title number payload)) front (numbers_of v number payload) back (length-tag_of (sealed v title number payload) ∙ sym long) e).1
-
-code_of_filler : (number code : ℕ) → code < 2 ^ 32 → to_be_bytes w64 number ++ to_be_bytes w32 code ≡ replicate 8 255 ++ replicate 4 255 → code ≡ 4294967295
-code_of_filler number code fits e =
-    let last = (same_parts (to_be_bytes w64 number) (replicate 8 255) (to_be_bytes w32 code) (replicate 4 255) refl e).1 in
-    sym (from_be_bytes-to_be_bytes_4 code fits) ∙ ap (from_be_bytes w32) last
-
-code_of_zeros : (number code : ℕ) → code < 2 ^ 32 → to_be_bytes w64 number ++ to_be_bytes w32 code ≡ replicate 8 0 ++ replicate 4 0 → code ≡ 0
-code_of_zeros number code fits e =
-    let last = (same_parts (to_be_bytes w64 number) (replicate 8 0) (to_be_bytes w32 code) (replicate 4 0) refl e).1 in
-    sym (from_be_bytes-to_be_bytes_4 code fits) ∙ ap (from_be_bytes w32) last
-
-pub filler_is_no_head : (v : ℕ) (title : List ℕ) (number : ℕ) (payload : List ℕ) → IsFormat v → IsPayload payload → head_of v title number payload ≢ filler 32
-unfolding numbers_of
-filler_is_no_head v title number payload format fits e =
-    let numbers = numbers_are v title number payload (replicate 20 255) (replicate 12 255) refl e in
-    let code = code_of_filler number (v * 16777216 + length payload) (omega (arith, format.1)) numbers in
-    omega (arith, format.1, code)
-
-pub zeros_are_no_head : (v : ℕ) (title : List ℕ) (number : ℕ) (payload : List ℕ) → IsFormat v → IsPayload payload → head_of v title number payload ≢ replicate 32 0
-unfolding numbers_of
-zeros_are_no_head v title number payload format fits e =
-    let numbers = numbers_are v title number payload (replicate 20 0) (replicate 12 0) refl e in
-    let code = code_of_zeros number (v * 16777216 + length payload) (omega (arith, format.1)) numbers in
-    omega (arith, format.0, code)
 
 -- What the parts of bytes tell of a frame in front of them.
 
@@ -258,3 +229,7 @@ frame_put v title number payload head filled room one two three at heads fills_u
     (ap (drop (length filled)) (drop-drop (length payload) (length head) room) ∙ drop-drop (length filled) (length head + length payload) room) ∙ ap (λ n. drop n room) (omega arith) in
     let frames : (head ++ payload) ++ filled ≡ head_of v title number payload ++ (payload ++ filler (gap (length payload))) = append_assoc head payload filled ∙ (λ i. heads i ++ (payload ++ fills_up i)) in
     third_done ∙ (λ i. frames i ++ rests i)
+
+-- the number that bytes are of
+pub number_of_bytes : (n : ℕ) (bytes : List ℕ) → n < 2 ^ 64 → to_be_bytes w64 n ≡ bytes → n ≡ from_be_bytes w64 bytes
+number_of_bytes n bytes fits is = sym (from_be_bytes-to_be_bytes_8 n fits) ∙ ap (from_be_bytes w64) is

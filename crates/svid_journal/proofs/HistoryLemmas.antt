@@ -3,7 +3,7 @@ use Rattle.std.proofs.Common.{◌≡◌, ◌⊎◌, inl, inr, ⊎_elim, ℕ, ◌
 use Rattle.std.specs.Prelude.{◌==◌, ◌&&◌, ◌||◌, MatchBool, not, nat_lt, nat_le}
 use Rattle.std.specs.List.{AllByRecursion, list_any}
 use Rattle.std.proofs.Math.Seq.{take-add}
-use Rattle.std.proofs.lemmas.Bool.{cond_both, cond-false, leb-true, leb-false, false≢true, true≢false, eq-eqb, eqb-true, eqb-false, cases_Bool, ne_eqb, or_left, or_right, or_cases}
+use Rattle.std.proofs.lemmas.Bool.{cond_both, cond-false, leb-true, leb-false, false≢true, true≢false, eq-eqb, eqb-true, eqb-false, cases_Bool, cases_lt, ne_eqb, or_left, or_right, or_cases}
 use Rattle.std.proofs.lemmas.List.{take_at, drop_at, drop_all, append-nil}
 use Rattle.std.proofs.lemmas.List.Folds.{list_any-append}
 use Rattle.svid_journal.specs.declared.step.Step.{Step}
@@ -12,10 +12,10 @@ use Rattle.svid_journal.specs.declared.fault.Fault.{Fault}
 use Rattle.svid_journal.specs.declared.fault.Fault.TheVariants.{Unfit, Ended, NotGrowing, Busy, NothingDue, Flying, NotFlying, NotWriting, NoMark, TooLong, Full}
 use Rattle.svid_journal.specs.declared.folder.Folder.{Folder}
 use Rattle.svid_journal.specs.Frames.{sealed, frame_of, frames_of, frame_len, IsPayload}
-use Rattle.svid_journal.specs.Folder.{Row, first_row, ready_rows, is_fit, is_starting, is_idle, is_naming, is_writing, gap_of, begin_fault, answer_fault, put_fault, landed_fault, piece_fault, opened, begun, at_step, grown, landed, ended, pieced}
-use Rattle.svid_journal.specs.Disk.{File, empty_file, written, forced, MayLeave, Name, settled, leads, is_sure, named, Journal, Disk, put, create_journal, on_file, write_journal, sync_journal, remove_journal, write_piece, sync_beside, rename_beside, sync_folder, Outcome, IsOneOf, MayLeaveFile, IsOutcome, at_rest, option_at_rest, after_crash, option_seen, as_seen, IsLeft}
-use Rattle.svid_journal.specs.History.{Titles, World, Event, after_answer, after_piece, after_put, after_grow, after_sync, after_end, unless, grow_fault, happens, history, fresh, IsAllowed, AreAllowed, IsReadIn, IsRead}
-use Rattle.svid_journal.specs.History.Event.{Begin, Answer, Piece, Put, Grow, Sync, Crash, Start}
+use Rattle.svid_journal.specs.Folder.{Row, first_row, ready_rows, is_fit, is_starting, is_idle, is_naming, is_writing, gap_of, gap_in, begin_fault, answer_fault, put_fault, landed_fault, piece_fault, opened, begun, at_step, grown, landed, ended, pieced}
+use Rattle.svid_journal.specs.Disk.{File, empty_file, written, forced, MayLeave, Name, settled, leads, is_sure, named, Journal, Disk, put, create_journal, on_file, write_journal, sync_journal, remove_journal, write_piece, sync_beside, rename_beside, sync_folder, write_id, sync_id, rename_id, Outcome, IsOneOf, MayLeaveFile, IsOutcome, at_rest, option_at_rest, after_crash, option_seen, as_seen, IsLeft}
+use Rattle.svid_journal.specs.History.{Titles, World, Event, after_answer, after_piece, after_put, after_grow, after_sync, after_end, unless, grow_fault, id_fault, with_disk, happens, history, fresh, IsAllowed, AreAllowed, IsReadIn, IsRead}
+use Rattle.svid_journal.specs.History.Event.{Begin, Answer, Piece, Put, Grow, Sync, WriteId, SyncId, RenameId, NameId, Crash, Start}
 use Rattle.svid_journal.specs.Promises.{AcknowledgedIsRead}
 use Rattle.svid_journal.proofs.FramesLemmas.{frames_of-push, frames_of-append, frame_len-is}
 use Rattle.svid_journal.proofs.CrashLemmas.{on_behind}
@@ -29,17 +29,17 @@ each_append : (ps qs : Payloads) → AllByRecursion IsPayload ps → AllByRecurs
 each_append [] qs h k = k
 each_append (p ∷ ps) qs h k = (h.0, each_append ps qs h.1 k)
 
-IsOneOf-push : {A : Type 0} (xs : List A) (x : A) → IsOneOf (xs ++ x ∷ []) x
+pub IsOneOf-push : {A : Type 0} (xs : List A) (x : A) → IsOneOf (xs ++ x ∷ []) x
 IsOneOf-push [] x = inl refl
 IsOneOf-push (y ∷ xs) x = inr (IsOneOf-push xs x)
 
-IsOneOf-cases : {A : Type 0} (xs : List A) (x y : A) → IsOneOf (xs ++ x ∷ []) y → IsOneOf xs y ⊎ (x ≡ y)
+pub IsOneOf-cases : {A : Type 0} (xs : List A) (x y : A) → IsOneOf (xs ++ x ∷ []) y → IsOneOf xs y ⊎ (x ≡ y)
 IsOneOf-cases [] x y (inl is) = inr is
 IsOneOf-cases [] x y (inr none) = absurd none
 IsOneOf-cases (z ∷ xs) x y (inl is) = inl (inl is)
 IsOneOf-cases (z ∷ xs) x y (inr among) = ⊎_elim (λ old. inl (inr old)) (λ new. inr new) (IsOneOf-cases xs x y among)
 
-IsOneOf-only : {A : Type 0} (x y : A) → IsOneOf (x ∷ []) y → x ≡ y
+pub IsOneOf-only : {A : Type 0} (x y : A) → IsOneOf (x ∷ []) y → x ≡ y
 IsOneOf-only x y (inl is) = is
 IsOneOf-only x y (inr none) = absurd none
 
@@ -87,7 +87,7 @@ Front-left title payloads f bytes left front = at f.whole left
     at false is = subst (Front title payloads) (sym is.1) (Front-more title payloads f.kept is.0 front)
 
 -- what is left of a file of which all is on the disk
-whole_left : (f : File) (bytes : List ℕ) → f.whole ≡ true → MayLeave f bytes → bytes ≡ f.kept
+pub whole_left : (f : File) (bytes : List ℕ) → f.whole ≡ true → MayLeave f bytes → bytes ≡ f.kept
 whole_left f bytes whole left = subst (λ (b : Bool). MatchBool b (bytes ≡ f.kept) ((rest : List ℕ) × (bytes ≡ f.kept ++ rest))) whole left
 
 -- Faults.
@@ -100,11 +100,11 @@ not_false : (b : Bool) → not b ≡ false → b ≡ true
 not_false true e = refl
 not_false false e = absurd (true≢false e)
 
-and_left : (a b : Bool) → (a && b) ≡ true → a ≡ true
+pub and_left : (a b : Bool) → (a && b) ≡ true → a ≡ true
 and_left true b e = refl
 and_left false b e = absurd (false≢true e)
 
-and_right : (a b : Bool) → (a && b) ≡ true → b ≡ true
+pub and_right : (a b : Bool) → (a && b) ≡ true → b ≡ true
 and_right true b e = e
 and_right false b e = absurd (false≢true e)
 
@@ -121,11 +121,11 @@ ready f rows e =
     record { fit = not_false (is_fit f) one.0; going = two.0; rest = two.1 }
 
 -- the numbers of journals are in order
-in_order : (f : Folder) → is_fit f ≡ true → f.oldest + gap_of f.step ≤ f.newest + 1
-in_order f fit =
+pub in_order : (f : Folder) → is_fit f ≡ true → f.ended ≡ false → f.oldest + gap_of f.step ≤ f.newest + 1
+in_order f fit going =
     let a = nat_lt f.newest (2 ^ 62) in
     let b = nat_le f.oldest (2 ^ 62) in
-    let c = nat_le (f.oldest + gap_of f.step) (f.newest + 1) in
+    let c = nat_le (f.oldest + gap_in f) (f.newest + 1) in
     let d = nat_lt f.count (2 ^ 62) in
     let e = nat_lt f.end (2 ^ 62) in
     let g = nat_le f.flying (2 ^ 25) in
@@ -136,12 +136,13 @@ in_order f fit =
     let to_e = and_left (a && b && c && d && e) g to_g in
     let to_d = and_left (a && b && c && d) e to_e in
     let to_c = and_left (a && b && c) d to_d in
-    leb-true (f.oldest + gap_of f.step) (f.newest + 1) (and_right (a && b) c to_c)
+    let far : gap_in f ≡ gap_of f.step = ap (λ (b : Bool). cond b 0 (gap_of f.step)) going in
+    subst (λ (n : ℕ). f.oldest + n ≤ f.newest + 1) far (leb-true (f.oldest + gap_in f) (f.newest + 1) (and_right (a && b) c to_c))
 
 -- a frame flies only where a journal grows
 last_fits : (f : Folder) → is_fit f ≡ true → (f.flying == 0 || not (is_starting f.step)) ≡ true
 last_fits f fit =
-    and_right (nat_lt f.newest (2 ^ 62) && nat_le f.oldest (2 ^ 62) && nat_le (f.oldest + gap_of f.step) (f.newest + 1) && nat_lt f.count (2 ^ 62) && nat_lt f.end (2 ^ 62) && nat_le f.flying (2 ^ 25) && nat_lt f.pieces (2 ^ 62)) (f.flying == 0 || not (is_starting f.step)) fit
+    and_right (nat_lt f.newest (2 ^ 62) && nat_le f.oldest (2 ^ 62) && nat_le (f.oldest + gap_in f) (f.newest + 1) && nat_lt f.count (2 ^ 62) && nat_lt f.end (2 ^ 62) && nat_le f.flying (2 ^ 25) && nat_lt f.pieces (2 ^ 62)) (f.flying == 0 || not (is_starting f.step)) fit
 
 pub is_piece : (f : Folder) (len : ℕ) → piece_fault f len ≡ None → (f.ended ≡ false) × (is_writing f.step ≡ true) × (len < 2 ^ 24)
 is_piece f len e =
@@ -158,7 +159,12 @@ is_answer f ok e =
     let r = ready f ((NothingDue, is_idle f.step) ∷ flies) e in
     let one = first_none NothingDue (is_idle f.step) flies r.rest in
     let two = first_none Flying (ok && is_naming f.step && nat_lt 0 f.flying) last one.1 in
-    (r.going, in_order f r.fit, (first_none NoMark (ok && is_writing f.step) [] two.1).0)
+    (r.going, in_order f r.fit r.going, (first_none NoMark (ok && is_writing f.step) [] two.1).0)
+
+pub is_due : (f : Folder) (ok : Bool) → answer_fault f ok ≡ None → is_idle f.step ≡ false
+is_due f ok e =
+    let flies = (Flying, ok && is_naming f.step && nat_lt 0 f.flying) ∷ (NoMark, ok && is_writing f.step) ∷ [] in
+    (first_none NothingDue (is_idle f.step) flies (ready f ((NothingDue, is_idle f.step) ∷ flies) e).rest).0
 
 pub is_begin : (f : Folder) → begin_fault f ≡ None → (f.ended ≡ false) × (is_idle f.step ≡ true)
 is_begin f e =
@@ -176,6 +182,16 @@ is_put f len e =
     let two = first_none Flying (nat_lt 0 f.flying) long one.1 in
     (r.going, one.0, leb-false (2 ^ 24) len (first_none TooLong (nat_le (2 ^ 24) len) full two.1).0)
 
+pub is_unflown : (f : Folder) (len : ℕ) → put_fault f len ≡ None → f.flying ≡ 0
+is_unflown f len e =
+    let long = (TooLong, nat_le (2 ^ 24) len) ∷ (Full, nat_le (2 ^ 62) (f.count + 1)) ∷ (Full, nat_le (2 ^ 62) (f.end + 2 ^ 25)) ∷ [] in
+    let flies = (Flying, nat_lt 0 f.flying) ∷ long in
+    let one = first_none NotGrowing (is_starting f.step) flies (ready f ((NotGrowing, is_starting f.step) ∷ flies) e).rest in
+    none f.flying (leb-false 1 f.flying (first_none Flying (nat_lt 0 f.flying) long one.1).0)
+  where
+    none : (n : ℕ) → n < 1 → n ≡ 0
+    none n low = omega (arith, low)
+
 pub is_landed : (f : Folder) → landed_fault f ≡ None → (f.ended ≡ false) × (is_starting f.step ≡ false) × ((f.flying == 0) ≡ false)
 is_landed f e =
     let r = ready f ((NotFlying, f.flying == 0) ∷ []) e in
@@ -191,6 +207,9 @@ pub is_grow : (f : Folder) → grow_fault f ≡ None → (f.ended ≡ false) × 
 is_grow f e =
     let r = ready f ((NotGrowing, is_starting f.step) ∷ []) e in
     (r.going, (first_none NotGrowing (is_starting f.step) [] r.rest).0)
+
+pub is_closed : (f : Folder) → id_fault f ≡ None → f.ended ≡ true
+is_closed f e = not_false f.ended (first_none Busy (not f.ended) [] e).0
 
 pub unless_both : (fault : Option Fault) (v w : World) (P : World → Type 0) → (fault ≡ None → P v) → P w → P (unless fault v w)
 unless_both None v w P taken refused = taken refl
@@ -272,6 +291,7 @@ module _ (has : List ℕ → Bool) (t : Titles) where
   -- the folder's numbers are those of the journal that grows
   pub record IsGrowing (newest count end flies home : ℕ) (j : Journal) (log flying : Payloads) : Type 0 where
     pub is : home ≡ newest
+    pub some : 0 < home
     pub unspoiled : j.file.spoiled ≡ false
     pub many : count ≡ length log
     pub far : end ≡ length (frames_of (t.journal home) 1 log)
@@ -321,10 +341,19 @@ module _ (has : List ℕ → Bool) (t : Titles) where
   pub record IsSound (w : World) : Type 0 where
     pub logged : (k : ℕ) → IsLogged (t.journal k) (w.logs k) (w.disk.journals k).file
     pub this : w.logs w.home ≡ w.log
-    pub stands : Stands (t.journal w.home) w.log (w.disk.journals w.home)
+    pub stands : 0 < w.home → Stands (t.journal w.home) w.log (w.disk.journals w.home)
+    pub ungrown : w.home ≡ 0 → w.log ≡ []
     pub named : IsOneOf w.disk.snapshot.may w.disk.snapshot.now
     pub held : list_any has w.acknowledged ≡ true → IsHeld w.disk w.home w.log
     pub up : w.folder.ended ≡ false → IsUp w
+
+  -- a journal that has the use is there
+  has_grown : (w : World) → IsSound w → list_any has w.log ≡ true → 0 < w.home
+  has_grown w h logged =
+      elim (cases_lt 0 w.home) [
+        | inl up ↦ up
+        | inr none ↦ absurd (false≢true (sym (ap (list_any has) (h.ungrown (omega (arith, none)))) ∙ logged))
+      ]
 
   -- Names.
 
@@ -353,10 +382,10 @@ module _ (has : List ℕ → Bool) (t : Titles) where
   IsHeld-named ok d home log now (inr (inr logged)) = inr (inr logged)
 
   -- the journal that grew is an older one
-  IsHeld-closed : (d : Disk) (home later : ℕ) (log log' : Payloads) → home < later → Stands (t.journal home) log (d.journals home) → IsHeld d home log → IsHeld d later log'
+  IsHeld-closed : (d : Disk) (home later : ℕ) (log log' : Payloads) → home < later → (list_any has log ≡ true → Stands (t.journal home) log (d.journals home)) → IsHeld d home log → IsHeld d later log'
   IsHeld-closed d home later log log' below stands (inl good) = inl good
   IsHeld-closed d home later log log' below stands (inr (inl (k, lower, has_it))) = inr (inl (k, omega arith, has_it))
-  IsHeld-closed d home later log log' below stands (inr (inr logged)) = inr (inl (home, below, record { payloads = log; stands = stands; holds = logged }))
+  IsHeld-closed d home later log log' below stands (inr (inr logged)) = inr (inl (home, below, record { payloads = log; stands = stands logged; holds = logged }))
 
   -- journals changed that do not have to have the use
   IsHeld-put : (d e : Disk) (home : ℕ) (log : Payloads) → e.snapshot ≡ d.snapshot → ((k : ℕ) → k < home → e.journals k ≡ d.journals k) → IsHeld d home log → IsHeld e home log
@@ -400,7 +429,8 @@ module _ (has : List ℕ → Bool) (t : Titles) where
       record {
         logged = logged;
         this = this;
-        stands = subst (Stands (t.journal w.home) w.log) (sym here) h.stands;
+        stands = λ up. subst (Stands (t.journal w.home) w.log) (sym here) (h.stands up);
+        ungrown = h.ungrown;
         named = subst (λ (name : Name (Option File)). IsOneOf name.may name.now) (sym snap) h.named;
         held = λ a. IsHeld-put w.disk d w.home w.log snap (λ k below. same k (omega arith)) (h.held a);
         up = λ is. let u = h.up going in record {
@@ -425,7 +455,8 @@ module _ (has : List ℕ → Bool) (t : Titles) where
       record {
         logged = h.logged;
         this = h.this;
-        stands = Stands-named false (t.journal w.home) w.log (w.disk.journals w.home) h.stands;
+        stands = λ up. Stands-named false (t.journal w.home) w.log (w.disk.journals w.home) (h.stands up);
+        ungrown = h.ungrown;
         named = now-named false w.disk.snapshot h.named;
         held = λ a. IsHeld-named false w.disk w.home w.log h.named (h.held a);
         up = λ e. absurd (true≢false e);
@@ -443,7 +474,7 @@ module _ (has : List ℕ → Bool) (t : Titles) where
   with_next w step = record { folder = grown w.folder step; disk = sync_folder true w.disk; home = w.folder.newest + 1; log = []; logs = w.logs; flying = []; parts = []; acknowledged = w.acknowledged; memory = w.memory; noted = w.memory; texts = w.texts }
 
   Growing-next : (w : World) (step : Step) → (sync_folder true w.disk).journals (w.folder.newest + 1) ≡ empty_journal → Growing (with_next w step)
-  Growing-next w step empty = regrown (w.folder.newest + 1) 0 0 0 (w.folder.newest + 1) empty_journal ((sync_folder true w.disk).journals (w.folder.newest + 1)) [] [] empty (record { is = refl; unspoiled = refl; many = refl; far = refl; long = refl; one = omega arith })
+  Growing-next w step empty = regrown (w.folder.newest + 1) 0 0 0 (w.folder.newest + 1) empty_journal ((sync_folder true w.disk).journals (w.folder.newest + 1)) [] [] empty (record { is = refl; some = omega arith; unspoiled = refl; many = refl; far = refl; long = refl; one = omega arith })
 
   remembered : (w : World) → IsUp w → list_any has w.acknowledged ≡ true → list_any has w.memory ≡ true
   remembered w u a = u.remembers (list_any-append has w.acknowledged w.flying ∙ or_left (list_any has w.acknowledged) (list_any has w.flying) a)
@@ -458,9 +489,10 @@ module _ (has : List ℕ → Bool) (t : Titles) where
       record {
         logged = h.logged;
         this = none;
-        stands = subst (Stands (t.journal next) []) (sym empty) (Stands-empty (t.journal next));
+        stands = λ up. subst (Stands (t.journal next) []) (sym empty) (Stands-empty (t.journal next));
+        ungrown = λ e. refl;
         named = now-named true d.snapshot h.named;
-        held = λ a. IsHeld-named true d next [] h.named (IsHeld-closed d w.home next w.log [] (omega arith) h.stands (h.held a));
+        held = λ a. IsHeld-named true d next [] h.named (IsHeld-closed d w.home next w.log [] (omega arith) (λ logged. h.stands (has_grown w h logged)) (h.held a));
         up = λ is. record {
           flies = tt;
           seen = subst (λ (j : Journal). Front (t.journal next) [] j.file.seen) (sym empty) (record { rest = []; is = refl });
@@ -493,7 +525,8 @@ module _ (has : List ℕ → Bool) (t : Titles) where
       record {
         logged = logged_put d.journals oldest gone w.logs w.logs h.logged (λ k apart. refl) (let l = h.logged oldest in record { each = l.each; kept = l.kept; seen = l.seen });
         this = h.this;
-        stands = subst (Stands (t.journal w.home) w.log) (sym grows) h.stands;
+        stands = λ up. subst (Stands (t.journal w.home) w.log) (sym grows) (h.stands up);
+        ungrown = h.ungrown;
         named = h.named;
         held = λ a. published_held d (remove_journal oldest d) w.home w.log w.acknowledged refl fact.1 (fact.1.synced.due a);
         up = λ is. let u = h.up going in record {
@@ -514,13 +547,17 @@ module _ (has : List ℕ → Bool) (t : Titles) where
       let d = w.disk in
       let next = w.folder.newest + 1 in
       let above : (k : ℕ) → (d.journals k).here.now ≡ true → k ≤ w.folder.newest = (h.up going).stage in
-      let low : w.home ≤ w.folder.newest = above w.home h.stands.now in
+      let low : w.home ≤ w.folder.newest =
+      elim (cases_lt 0 w.home) [
+        | inl up ↦ above w.home (h.stands up).now
+        | inr none ↦ omega (arith, none)
+      ] in
       let made : Journal = record { file = empty_file; here = leads true (d.journals next).here } in
       moved_with (staged Starting w) (put w.logs next []) (at_step w.folder Entering) (create_journal next d) w.parts w.texts h going (λ k below. put_other d.journals next made k (λ is. omega (arith, below, low, is))) refl
       (logged_put d.journals next made w.logs (put w.logs next []) h.logged (λ k apart. put_other w.logs next [] k apart) (subst (λ (ps : Payloads). IsLogged (t.journal next) ps empty_file) (sym (put_same w.logs next [])) (nothing_logged (t.journal next))))
       (put_other w.logs next [] w.home (λ is. omega (arith, low, is)) ∙ h.this)
       (λ u. (low, subst IsMade (sym (put_same d.journals next made)) (record { file = refl; now = refl; free = refl }), put_same w.logs next []))
-  answers Starting false w h going order mark = record { logged = h.logged; this = h.this; stands = h.stands; named = h.named; held = h.held; up = λ is. absurd (true≢false is) }
+  answers Starting false w h going order mark = record { logged = h.logged; this = h.this; stands = h.stands; ungrown = h.ungrown; named = h.named; held = h.held; up = λ is. absurd (true≢false is) }
   answers Entering true w h going order mark =
       let fact = (h.up going).stage in
       grows_next_is (staged Entering w) Idle h going fact.0 fact.1 fact.2 (λ empty. Growing-next (staged Entering w) Idle empty)
@@ -567,6 +604,7 @@ module _ (has : List ℕ → Bool) (t : Titles) where
         logged = h.logged;
         this = h.this;
         stands = h.stands;
+        ungrown = h.ungrown;
         named = IsOneOf-push d.snapshot.may (Some d.beside);
         held = λ been. renamed_held d w.home w.log w.acknowledged fact.1 (fact.1.due been) (h.held been);
         up = λ is. let u = h.up going in record { flies = u.flies; seen = u.seen; stage = (fact.0, record { file = d.beside; now = refl; free = refl; synced = fact.1 }); remembers = u.remembers };
@@ -581,14 +619,15 @@ module _ (has : List ℕ → Bool) (t : Titles) where
       record {
         logged = h.logged;
         this = h.this;
-        stands = Stands-named true (t.journal w.home) w.log (d.journals w.home) h.stands;
+        stands = λ up. Stands-named true (t.journal w.home) w.log (d.journals w.home) (h.stands up);
+        ungrown = h.ungrown;
         named = now-named true d.snapshot h.named;
         held = λ been. IsHeld-named true d w.home w.log h.named (h.held been);
         up = λ is. record {
           flies = u.flies;
           seen = u.seen;
           stage = (
-            record { is = g.is; unspoiled = g.unspoiled; many = g.many; far = g.far; long = g.long; one = g.one },
+            record { is = g.is; some = g.some; unspoiled = g.unspoiled; many = g.many; far = g.far; long = g.long; one = g.one },
             record { file = n.file; only = ap (λ (name : Name (Option File)). name.may) (free_named d.snapshot n.free) ∙ ap (λ (there : Option File). there ∷ []) n.now; synced = n.synced },
           );
           remembers = u.remembers;
@@ -772,22 +811,24 @@ module _ (has : List ℕ → Bool) (t : Titles) where
       let d = w.disk in
       let newest = w.folder.newest in
       let u = h.up going in
-      let is = (growing w.folder.step w grows u.stage).is in
+      let g = growing w.folder.step w grows u.stage in
+      let is = g.is in
       let there = grown_is w.home newest f d is in
-      let s = h.stands in
+      let s = h.stands g.some in
       record {
         logged = logged_put d.journals newest (changed f (d.journals newest)) w.logs logs h.logged (λ k apart. r.others k (λ e. apart (e ∙ is)))
             (subst (λ (n : ℕ). IsLogged (t.journal n) (logs n) (f (d.journals n).file)) is
             (subst (λ (ps : Payloads). IsLogged (t.journal w.home) ps (f (d.journals w.home).file)) (sym r.this) (record { each = r.each; kept = r.kept; seen = Front-first (t.journal w.home) log flying (f (d.journals w.home).file).seen r.seen })));
         this = r.this;
-        stands = subst (Stands (t.journal w.home) log) (sym there) (record { now = s.now; sure = s.sure; each = r.each; kept = r.kept; seen = Front-first (t.journal w.home) log flying (f (d.journals w.home).file).seen r.seen });
+        ungrown = λ e. absurd (omega (arith, e, g.some));
+        stands = λ up. subst (Stands (t.journal w.home) log) (sym there) (record { now = s.now; sure = s.sure; each = r.each; kept = r.kept; seen = Front-first (t.journal w.home) log flying (f (d.journals w.home).file).seen r.seen });
         named = h.named;
         held = λ a. IsHeld-put d (on_file newest f d) w.home log refl (λ k below. ungrown newest f d k (omega (arith, below, is))) (r.held a);
         up = λ _. record {
           flies = r.flies_each;
           seen = subst (λ (j : Journal). Front (t.journal w.home) (log ++ flying) j.file.seen) (sym there) r.seen;
           stage = stage_on_file w.folder.step w logs count end flies f log flying acknowledged memory texts r.others is grows
-              (subst (λ (j : Journal). IsGrowing newest count end flies w.home j log flying) (sym there) (record { is = is; unspoiled = r.unspoiled; many = r.many; far = r.far; long = r.long; one = r.one })) r.due u.stage;
+              (subst (λ (j : Journal). IsGrowing newest count end flies w.home j log flying) (sym there) (record { is = is; some = g.some; unspoiled = r.unspoiled; many = r.many; far = r.far; long = r.long; one = r.one })) r.due u.stage;
           remembers = r.remembers;
         };
       }
@@ -834,8 +875,8 @@ module _ (has : List ℕ → Bool) (t : Titles) where
       (record {
         others = λ k apart. refl;
         this = h.this;
-        each = h.stands.each;
-        kept = Front-cut title w.log file.kept w.folder.end (omega (arith, g.far)) h.stands.kept;
+        each = (h.stands g.some).each;
+        kept = Front-cut title w.log file.kept w.folder.end (omega (arith, g.far)) (h.stands g.some).kept;
         unspoiled = g.unspoiled;
         flies_each = (p.2, tt);
         seen = subst (Front title (w.log ++ payload ∷ [])) bytes (seen_next title w.log w.flying payload file.seen (drop (at + length frame) file.seen) u.seen);
@@ -860,8 +901,8 @@ module _ (has : List ℕ → Bool) (t : Titles) where
       (record {
         others = λ k apart. refl;
         this = h.this;
-        each = h.stands.each;
-        kept = Front-cut title w.log file.kept w.folder.end (omega (arith, g.far)) h.stands.kept;
+        each = (h.stands g.some).each;
+        kept = Front-cut title w.log file.kept w.folder.end (omega (arith, g.far)) (h.stands g.some).kept;
         unspoiled = g.unspoiled;
         flies_each = tt;
         seen = subst (Front title (w.log ++ [])) bytes (seen_other title w.log w.flying file.seen (landed ++ drop (at + length landed) file.seen) u.seen);
@@ -890,8 +931,8 @@ module _ (has : List ℕ → Bool) (t : Titles) where
       (record {
         others = λ k apart. refl;
         this = h.this;
-        each = h.stands.each;
-        kept = Front-cut title w.log file.kept at less h.stands.kept;
+        each = (h.stands g.some).each;
+        kept = Front-cut title w.log file.kept at less (h.stands g.some).kept;
         unspoiled = g.unspoiled;
         flies_each = u.flies;
         seen = Front-more title (w.log ++ w.flying) (take at file.seen) (landed ++ drop (at + length landed) file.seen) (Front-cut title (w.log ++ w.flying) file.seen at far u.seen);
@@ -942,7 +983,7 @@ module _ (has : List ℕ → Bool) (t : Titles) where
       (record {
         others = λ k apart. put_other w.logs w.home (w.log ++ w.flying) k apart;
         this = put_same w.logs w.home (w.log ++ w.flying);
-        each = each_append w.log w.flying h.stands.each u.flies;
+        each = each_append w.log w.flying (h.stands g.some).each u.flies;
         kept = subst (λ (x : File). Front title (w.log ++ w.flying) x.kept) (sym is) u.seen;
         unspoiled = ap (λ (x : File). x.spoiled) is;
         flies_each = tt;
@@ -957,13 +998,15 @@ module _ (has : List ℕ → Bool) (t : Titles) where
       })
   syncs false w h e =
       let p = is_landed w.folder e in
-      let is = (growing w.folder.step w p.1 (h.up p.0).stage).is in
-      let s = h.stands in
+      let g = growing w.folder.step w p.1 (h.up p.0).stage in
+      let is = g.is in
+      let s = h.stands g.some in
       let there = grown_is w.home w.folder.newest (forced false) w.disk is in
       record {
         logged = logged_put w.disk.journals w.folder.newest (changed (forced false) (w.disk.journals w.folder.newest)) w.logs w.logs h.logged (λ k apart. refl) (let l = h.logged w.folder.newest in record { each = l.each; kept = l.kept; seen = l.seen });
         this = h.this;
-        stands = subst (Stands (t.journal w.home) w.log) (sym there) (record { now = s.now; sure = s.sure; each = s.each; kept = s.kept; seen = s.seen });
+        stands = λ up. subst (Stands (t.journal w.home) w.log) (sym there) (record { now = s.now; sure = s.sure; each = s.each; kept = s.kept; seen = s.seen });
+        ungrown = h.ungrown;
         named = h.named;
         held = λ a. IsHeld-put w.disk (on_file w.folder.newest (forced false) w.disk) w.home w.log refl (λ k below. ungrown w.folder.newest (forced false) w.disk k (omega (arith, below, is))) (h.held a);
         up = λ e. absurd (true≢false e);
@@ -1005,7 +1048,8 @@ module _ (has : List ℕ → Bool) (t : Titles) where
       record {
         logged = λ k. let l = h.logged k in record { each = l.each; kept = Front-left (t.journal k) (w.logs k) (w.disk.journals k).file (o.bytes k) (left.journals k) l.kept; seen = Front-left (t.journal k) (w.logs k) (w.disk.journals k).file (o.bytes k) (left.journals k) l.kept };
         this = h.this;
-        stands = Stands-left (t.journal w.home) w.log (w.disk.journals w.home) (o.here w.home) (o.bytes w.home) h.stands (left.names w.home) (left.journals w.home);
+        stands = λ up. Stands-left (t.journal w.home) w.log (w.disk.journals w.home) (o.here w.home) (o.bytes w.home) (h.stands up) (left.names w.home) (left.journals w.home);
+        ungrown = h.ungrown;
         named = inl refl;
         held = λ a. held_left w.disk w.home w.log o left (h.held a);
         up = λ e. absurd (true≢false e);
@@ -1017,11 +1061,12 @@ module _ (has : List ℕ → Bool) (t : Titles) where
         logged = h.logged;
         this = h.this;
         stands = h.stands;
+        ungrown = h.ungrown;
         named = h.named;
         held = h.held;
         up = λ is. record {
           flies = tt;
-          seen = subst (λ (ps : Payloads). Front (t.journal w.home) ps (w.disk.journals w.home).file.seen) (sym (append-nil w.log)) h.stands.seen;
+          seen = subst (λ (ps : Payloads). Front (t.journal w.home) ps (w.disk.journals w.home).file.seen) (sym (append-nil w.log)) (subst (λ (ps : Payloads). Front (t.journal w.home) ps (w.disk.journals w.home).file.seen) h.this (h.logged w.home).seen);
           stage = above;
           remembers = λ a. knows (ap (list_any has) (sym (append-nil w.acknowledged)) ∙ a);
         };
@@ -1046,10 +1091,10 @@ module _ (has : List ℕ → Bool) (t : Titles) where
       let after = Stands-left (t.journal k) payloads (d.journals k) (o.here k) (o.bytes k) stands (left.names k) (left.journals k) in
       inr (k, after.now, read_front (t.journal k) payloads (o.bytes k) after.each after.kept holds)
 
-  held_read : (d : Disk) (newest : ℕ) (log : Payloads) (o : Outcome) → IsOutcome d o → Stands (t.journal newest) log (d.journals newest) → IsHeld d newest log → IsRead has t o
+  held_read : (d : Disk) (newest : ℕ) (log : Payloads) (o : Outcome) → IsOutcome d o → (list_any has log ≡ true → Stands (t.journal newest) log (d.journals newest)) → IsHeld d newest log → IsRead has t o
   held_read d newest log o left stands (inl good) = let s = left.snapshot in inl (good_read s.0 o.snapshot s.2 (good s.0 s.1))
   held_read d newest log o left stands (inr (inl (k, below, has_it))) = stands_read k has_it.payloads d o left has_it.stands has_it.holds
-  held_read d newest log o left stands (inr (inr logged)) = stands_read newest log d o left stands logged
+  held_read d newest log o left stands (inr (inr logged)) = stands_read newest log d o left (stands logged) logged
 
   good_seen : (there : Option File) → IsGood there → (bytes : List ℕ) × (option_seen there ≡ Some bytes) × IsReadIn has t.snapshot bytes
   good_seen None good = absurd cc
@@ -1061,10 +1106,37 @@ module _ (has : List ℕ → Bool) (t : Titles) where
   stands_seen : (k : ℕ) (payloads : Payloads) (d : Disk) → Stands (t.journal k) payloads (d.journals k) → list_any has payloads ≡ true → IsRead has t (as_seen d)
   stands_seen k payloads d stands holds = inr (k, stands.now, read_front (t.journal k) payloads (d.journals k).file.seen stands.each stands.seen holds)
 
-  seen_read : (d : Disk) (newest : ℕ) (log : Payloads) → IsOneOf d.snapshot.may d.snapshot.now → Stands (t.journal newest) log (d.journals newest) → IsHeld d newest log → IsRead has t (as_seen d)
+  seen_read : (d : Disk) (newest : ℕ) (log : Payloads) → IsOneOf d.snapshot.may d.snapshot.now → (list_any has log ≡ true → Stands (t.journal newest) log (d.journals newest)) → IsHeld d newest log → IsRead has t (as_seen d)
   seen_read d newest log now stands (inl good) = inl (good_seen d.snapshot.now (good d.snapshot.now now))
   seen_read d newest log now stands (inr (inl (k, below, has_it))) = stands_seen k has_it.payloads d has_it.stands has_it.holds
-  seen_read d newest log now stands (inr (inr logged)) = stands_seen newest log d stands logged
+  seen_read d newest log now stands (inr (inr logged)) = stands_seen newest log d (stands logged) logged
+
+  -- The file with the ID.
+
+  id_changes : (w : World) (d : Disk) → IsSound w → w.folder.ended ≡ true → d.journals ≡ w.disk.journals → d.snapshot ≡ w.disk.snapshot → IsSound (with_disk w d)
+  id_changes w d h closed same snap =
+      let journal : (k : ℕ) → d.journals k ≡ w.disk.journals k = λ k i. same i k in
+      record {
+        logged = λ k. subst (λ (j : Journal). IsLogged (t.journal k) (w.logs k) j.file) (sym (journal k)) (h.logged k);
+        this = h.this;
+        stands = λ up. subst (Stands (t.journal w.home) w.log) (sym (journal w.home)) (h.stands up);
+        ungrown = h.ungrown;
+        named = subst (λ (name : Name (Option File)). IsOneOf name.may name.now) (sym snap) h.named;
+        held = λ a. IsHeld-put w.disk d w.home w.log snap (λ k below. journal k) (h.held a);
+        up = λ going. absurd (true≢false (sym closed ∙ going));
+      }
+
+  names_sync : (w : World) (ok : Bool) → IsSound w → w.folder.ended ≡ true → IsSound (with_disk w (sync_folder ok w.disk))
+  names_sync w ok h closed =
+      record {
+        logged = h.logged;
+        this = h.this;
+        stands = λ up. Stands-named ok (t.journal w.home) w.log (w.disk.journals w.home) (h.stands up);
+        ungrown = h.ungrown;
+        named = now-named ok w.disk.snapshot h.named;
+        held = λ a. IsHeld-named ok w.disk w.home w.log h.named (h.held a);
+        up = λ going. absurd (true≢false (sym closed ∙ going));
+      }
 
   -- Histories.
 
@@ -1075,8 +1147,12 @@ module _ (has : List ℕ → Bool) (t : Titles) where
   kept w (Put payload ok landed) h a = unless_both (put_fault w.folder (length payload)) (after_put t w payload ok landed) w IsSound (λ e. puts ok w payload landed h e) h
   kept w (Grow at landed) h a = unless_both (grow_fault w.folder) (after_grow w at landed) w IsSound (λ e. grows w at landed h e a) h
   kept w (Sync ok) h a = unless_both (landed_fault w.folder) (after_sync w ok) w IsSound (λ e. syncs ok w h e) h
+  kept w (WriteId text ok landed) h a = unless_both (id_fault w.folder) (with_disk w (write_id (cond ok text landed) w.disk)) w IsSound (λ e. id_changes w (write_id (cond ok text landed) w.disk) h (is_closed w.folder e) refl refl) h
+  kept w (SyncId ok) h a = unless_both (id_fault w.folder) (with_disk w (sync_id ok w.disk)) w IsSound (λ e. id_changes w (sync_id ok w.disk) h (is_closed w.folder e) refl refl) h
+  kept w RenameId h a = unless_both (id_fault w.folder) (with_disk w (rename_id w.disk)) w IsSound (λ e. id_changes w (rename_id w.disk) h (is_closed w.folder e) refl refl) h
+  kept w (NameId ok) h a = unless_both (id_fault w.folder) (with_disk w (sync_folder ok w.disk)) w IsSound (λ e. names_sync w ok h (is_closed w.folder e)) h
   kept w (Crash o) h a = crashes w o h a
-  kept w (Start oldest newest read) h a = starts w oldest newest read h a.1 (λ been. a.2 (seen_read w.disk w.home w.log h.named h.stands (h.held been)))
+  kept w (Start oldest newest read) h a = starts w oldest newest read h a.1 (λ been. a.2 (seen_read w.disk w.home w.log h.named (λ logged. h.stands (has_grown w h logged)) (h.held been)))
 
   pub always : (events : List Event) (w : World) → IsSound w → AreAllowed has t events w → IsSound (history t events w)
   always [] w h a = h
@@ -1085,17 +1161,13 @@ module _ (has : List ℕ → Bool) (t : Titles) where
   pub at_first : IsSound fresh
   at_first =
       record {
-        logged = logged_put (λ k. record { file = empty_file; here = settled false }) 1 (record { file = empty_file; here = leads true (settled false) }) (λ k. []) (λ k. []) (λ k. nothing_logged (t.journal k)) (λ k apart. refl) (nothing_logged (t.journal 1));
+        logged = λ k. nothing_logged (t.journal k);
         this = refl;
-        stands = Stands-empty (t.journal 1);
+        stands = λ up. absurd (omega (arith, up));
+        ungrown = λ e. refl;
         named = inl refl;
         held = λ a. absurd (false≢true a);
-        up = λ _. record {
-          flies = tt;
-          seen = record { rest = []; is = refl };
-          stage = record { is = refl; unspoiled = refl; many = refl; far = refl; long = refl; one = omega arith };
-          remembers = λ a. absurd (false≢true a);
-        };
+        up = λ e. absurd (true≢false e);
       }
 
   -- of each journal, what was acknowledged since it was made is left in front
@@ -1104,8 +1176,8 @@ module _ (has : List ℕ → Bool) (t : Titles) where
   journal_left w h o (inr is) k = let l = h.logged k in (l.each, subst (λ (x : Outcome). Front (t.journal k) (w.logs k) (x.bytes k)) (sym is) l.seen)
 
   sound_read : (w : World) → IsSound w → list_any has w.acknowledged ≡ true → (o : Outcome) → IsLeft w.disk o → IsRead has t o
-  sound_read w h a o (inl left) = held_read w.disk w.home w.log o left h.stands (h.held a)
-  sound_read w h a o (inr is) = subst (IsRead has t) (sym is) (seen_read w.disk w.home w.log h.named h.stands (h.held a))
+  sound_read w h a o (inl left) = held_read w.disk w.home w.log o left (λ logged. h.stands (has_grown w h logged)) (h.held a)
+  sound_read w h a o (inr is) = subst (IsRead has t) (sym is) (seen_read w.disk w.home w.log h.named (λ logged. h.stands (has_grown w h logged)) (h.held a))
 
 pub acknowledged_is_read : AcknowledgedIsRead
 acknowledged_is_read has t events allowed a o left = sound_read has t (history t events fresh) (always has t events fresh (at_first has t) allowed) a o left

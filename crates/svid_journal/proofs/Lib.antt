@@ -4,6 +4,8 @@ pub mod PayloadsLemmas
 pub mod ReadingLemmas
 pub mod CrashLemmas
 pub mod HistoryLemmas
+pub mod IdLemmas
+pub mod FitLemmas
 pub mod PromisesLemmas
 pub mod TitlesLemmas
 pub mod DiskLemmas

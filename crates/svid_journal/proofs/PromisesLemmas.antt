@@ -1,21 +1,27 @@
 -- What else holds over every history.
-use Rattle.std.proofs.Common.{◌≡◌, ◌≢◌, ◌⊎◌, inl, inr, ℕ, ◌+◌, Bool, true, false, List, [], ◌∷◌, ◌++◌, length, take, drop, refl, sym, ◌∙◌, ap, subst, arith, append_assoc, length-append, Option, Some, None}
+use Rattle.std.proofs.Common.{◌≡◌, ◌≢◌, ◌⊎◌, inl, inr, ℕ, ◌+◌, Bool, true, false, cond, List, [], ◌∷◌, ◌++◌, length, take, drop, refl, sym, ◌∙◌, ap, subst, arith, append_assoc, length-append, Option, Some, None}
+use Rattle.std.specs.Prelude.{◌||◌}
 use Rattle.std.specs.List.{AllByRecursion}
 use Rattle.std.specs.Str.{bytes_eq}
 use Rattle.std.proofs.lemmas.Bool.{cases_Bool, false≢true, true≢false}
-use Rattle.std.proofs.lemmas.List.{take_at, drop_at}
+use Rattle.std.proofs.lemmas.List.{take_at, drop_at, drop_all, append-nil}
 use Rattle.std.proofs.lemmas.Slice.Eq.{bytes_eq-Decides}
 use Rattle.svid_journal.specs.declared.fault.Fault.{Fault}
+use Rattle.svid_journal.specs.declared.folder.Folder.{Folder}
+use Rattle.svid_journal.specs.declared.step.Step.{Step}
+use Rattle.svid_journal.specs.declared.step.Step.TheVariants.{Idle, Starting, Entering, Creating, Naming, Writing, Ending, Syncing, Renaming, Publishing, Removing}
 use Rattle.svid_journal.specs.Titles.{bytes_of}
 use Rattle.svid_journal.specs.Frames.{tag_of, numbers_of, gap, sealed, frame_of, frames_of, IsPayload, IsReading}
 use Rattle.svid_journal.specs.Reading.{HasLater}
-use Rattle.svid_journal.specs.Folder.{begun, begin_fault, answer_fault, put_fault, landed_fault, piece_fault}
-use Rattle.svid_journal.specs.History.{Titles, titles_of, World, Event, after_answer, after_piece, after_put, after_grow, after_sync, unless, grow_fault, happens, history, fresh, IsAllowed, AreAllowed}
-use Rattle.svid_journal.specs.History.Event.{Begin, Answer, Piece, Put, Grow, Sync, Crash, Start}
-use Rattle.svid_journal.specs.Promises.{Among, IsOfAnother, IsAsWritten, MakesUpNoTag, IsClash, EachAppended, OnlyAppended, JournalsAreRead, NothingElseIsRead, DamageIsSeen, IsNoStart, EndedAcknowledgesNothing, example, ExampleIsAllowed}
-use Rattle.svid_journal.proofs.FramesLemmas.{length-frame_in, is_head, head_front, filler_is_no_head, zeros_are_no_head, frames_of-append, frames_of-push, each_push}
+use Rattle.svid_journal.specs.Folder.{is_starting, is_idle, is_writing, due_at, at_step, given_up, ended, opened, begun, begin_fault, answer_fault, put_fault, landed_fault, piece_fault}
+use Rattle.svid_journal.specs.History.{Titles, titles_of, World, Event, after_answer, after_piece, after_put, after_grow, after_sync, after_end, unless, grow_fault, id_fault, with_disk, happens, history, fresh, IsAllowed, AreAllowed, IsIdAllowed, IsIdKept, IsRead}
+use Rattle.svid_journal.specs.Disk.{as_seen, sync_folder, write_id, sync_id, rename_id}
+use Rattle.svid_journal.specs.History.Event.{Begin, Answer, Piece, Put, Grow, Sync, WriteId, SyncId, RenameId, NameId, Crash, Start}
+use Rattle.svid_journal.specs.Promises.{Among, IsOfAnother, IsAsWritten, MakesUpNoTag, IsClash, EachAppended, OnlyAppended, JournalsAreRead, NothingElseIsRead, DamageIsSeen, IsNoStart, EndedAcknowledgesNothing, is_folder_sync, FailuresEnd, TornIsAsWritten, example, ExampleIsAllowed}
+use Rattle.svid_journal.proofs.FramesLemmas.{head_front, frames_of-append, frames_of-push, each_push}
 use Rattle.svid_journal.proofs.CrashLemmas.{damage_seen, on_behind}
-use Rattle.svid_journal.proofs.HistoryLemmas.{Front, is_begin, is_answer, is_piece, is_put, is_grow, is_landed, always, at_first, journal_left}
+use Rattle.svid_journal.proofs.ReadingLemmas.{too_short, zeros_begin_none, filler_begins_none}
+use Rattle.svid_journal.proofs.HistoryLemmas.{unless_both, is_due, is_unflown, Front, is_begin, is_answer, is_piece, is_put, is_grow, is_landed, always, at_first, journal_left}
 
 -- Nothing else is read.
 
@@ -25,15 +31,15 @@ record HasTag (title : List ℕ) (number : ℕ) (texts : List (List ℕ)) (paylo
   written : Among texts text
   one_tag : tag_of (sealed 2 title number payload) ≡ tag_of text
 
-has_tag : (title : List ℕ) (number : ℕ) (texts : List (List ℕ)) (payload bytes behind : List ℕ) → IsPayload payload → bytes ≡ frame_of title number payload ++ behind → IsAsWritten texts bytes → HasTag title number texts payload
-has_tag title number texts payload bytes behind fits stands (inl short) =
-    absurd (omega (arith, short, ap length stands, length-append (frame_of title number payload) behind, length-frame_in 2 title number payload))
-has_tag title number texts payload bytes behind fits stands (inr (inl filled)) =
-    absurd (filler_is_no_head 2 title number payload (omega arith, omega arith) fits (sym (is_head 2 title number payload bytes behind stands) ∙ filled))
-has_tag title number texts payload bytes behind fits stands (inr (inr (inl zeros))) =
-    absurd (zeros_are_no_head 2 title number payload (omega arith, omega arith) fits (sym (is_head 2 title number payload bytes behind stands) ∙ zeros))
-has_tag title number texts payload bytes behind fits stands (inr (inr (inr found))) =
+has_tag : (title : List ℕ) (number : ℕ) (texts : List (List ℕ)) (payload bytes behind : List ℕ) → IsPayload payload → bytes ≡ frame_of title number payload ++ behind → IsAsWritten texts title number bytes → HasTag title number texts payload
+has_tag title number texts payload bytes behind fits stands written =
+    let found = written payload behind fits stands in
     record { text = found.0; written = found.1; one_tag = sym (head_front 2 title number payload bytes behind stands) ∙ found.2 }
+
+pub torn_is_as_written : TornIsAsWritten
+torn_is_as_written texts title number bytes (inl short) payload behind fits stands = absurd (too_short 2 title number payload behind bytes short stands)
+torn_is_as_written texts title number bytes (inr (inl zeros)) payload behind fits stands = absurd (zeros_begin_none 2 title number bytes (omega arith, omega arith) zeros payload behind fits stands)
+torn_is_as_written texts title number bytes (inr (inr filled)) payload behind fits stands = absurd (filler_begins_none 2 title number bytes (omega arith, omega arith) filled payload behind fits stands)
 
 -- a text that is sealed under a title is none of another file
 another : (title text : List ℕ) (number : ℕ) (payload : List ℕ) → length title ≡ 31 → IsOfAnother title text → sealed 2 title number payload ≢ text
@@ -135,6 +141,10 @@ stays t w (Piece payload ok landed) over is = refused (piece_fault w.folder (len
 stays t w (Put payload ok landed) over is = refused (put_fault w.folder (length payload)) (after_put t w payload ok landed) w over (λ e. (is_put w.folder (length payload) e).0)
 stays t w (Grow at landed) over is = refused (grow_fault w.folder) (after_grow w at landed) w over (λ e. (is_grow w.folder e).0)
 stays t w (Sync ok) over is = refused (landed_fault w.folder) (after_sync w ok) w over (λ e. (is_landed w.folder e).0)
+stays t w (WriteId text ok landed) over is = unless_both (id_fault w.folder) (with_disk w (write_id (cond ok text landed) w.disk)) w (StaysEnded w) (λ e. record { over = over; none = refl }) (record { over = over; none = refl })
+stays t w (SyncId ok) over is = unless_both (id_fault w.folder) (with_disk w (sync_id ok w.disk)) w (StaysEnded w) (λ e. record { over = over; none = refl }) (record { over = over; none = refl })
+stays t w RenameId over is = unless_both (id_fault w.folder) (with_disk w (rename_id w.disk)) w (StaysEnded w) (λ e. record { over = over; none = refl }) (record { over = over; none = refl })
+stays t w (NameId ok) over is = unless_both (id_fault w.folder) (with_disk w (sync_folder ok w.disk)) w (StaysEnded w) (λ e. record { over = over; none = refl }) (record { over = over; none = refl })
 stays t w (Crash left) over is = record { over = refl; none = refl }
 stays t w (Start oldest newest read) over is = absurd is
 
@@ -144,20 +154,81 @@ ended_acknowledges_nothing t (e ∷ events) w over is =
     let one = stays t w e over is.0 in
     ended_acknowledges_nothing t events (happens t w e) one.over is.1 ∙ one.none
 
--- The example.
-
 taken : (fault : Option Fault) (v w : World) → fault ≡ None → unless fault v w ≡ v
 taken fault v w none = ap (λ (f : Option Fault). unless f v w) none
 
-then : (has : List ℕ → Bool) (t : Titles) (e : Event) (events : List Event) (w v : World) → IsAllowed has t w e → happens t w e ≡ v → AreAllowed has t events v → AreAllowed has t (e ∷ events) w
-then has t e events w v allowed is rest = (allowed, subst (AreAllowed has t events) (sym is) rest)
+-- what the failure of the call that is due does
+fails : (step : Step) (f : Folder) → is_idle step ≡ false → given_up step f ≡ cond (is_starting step || is_folder_sync (due_at step f)) (ended f) (at_step f Idle)
+fails Idle f due = absurd (true≢false due)
+fails Starting f due = refl
+fails Entering f due = refl
+fails Creating f due = refl
+fails Naming f due = refl
+fails Writing f due = refl
+fails Ending f due = refl
+fails Syncing f due = refl
+fails Renaming f due = refl
+fails Publishing f due = refl
+fails Removing f due = refl
+
+piece_fails : (step : Step) (f : Folder) → is_writing step ≡ true → given_up step f ≡ at_step f Idle
+piece_fails Idle f writes = absurd (false≢true writes)
+piece_fails Starting f writes = absurd (false≢true writes)
+piece_fails Entering f writes = absurd (false≢true writes)
+piece_fails Creating f writes = absurd (false≢true writes)
+piece_fails Naming f writes = absurd (false≢true writes)
+piece_fails Writing f writes = refl
+piece_fails Ending f writes = absurd (false≢true writes)
+piece_fails Syncing f writes = absurd (false≢true writes)
+piece_fails Renaming f writes = absurd (false≢true writes)
+piece_fails Publishing f writes = absurd (false≢true writes)
+piece_fails Removing f writes = absurd (false≢true writes)
+
+put_fails : (f : Folder) → f.flying ≡ 0 → record { step = f.step; oldest = f.oldest; newest = f.newest; ended = f.ended; count = f.count; end = f.end; flying = 0; pieces = f.pieces } ≡ f
+put_fails f none = λ i. record { step = f.step; oldest = f.oldest; newest = f.newest; ended = f.ended; count = f.count; end = f.end; flying = sym none i; pieces = f.pieces }
+
+pub failures_end : FailuresEnd
+failures_end t w =
+    let f = w.folder in
+    record {
+      sync = λ e. ap (λ (v : World). v.folder) (taken (landed_fault f) (after_sync w false) w e);
+      answer = λ e. ap (λ (v : World). v.folder) (taken (answer_fault f false) (after_answer w false) w e) ∙ fails f.step f (is_due f false e);
+      piece = λ payload landed e. ap (λ (v : World). v.folder) (taken (piece_fault f (length payload)) (after_piece t w payload false landed) w e) ∙ piece_fails f.step f (is_piece f (length payload) e).1;
+      put = λ payload landed e. ap (λ (v : World). v.folder) (taken (put_fault f (length payload)) (after_put t w payload false landed) w e) ∙ put_fails f (is_unflown f (length payload) e);
+    }
+
+-- The example.
+
+then : (has : List ℕ → Bool) (t : Titles) (e : Event) (events : List Event) (w v : World) → IsAllowed has t w e → IsIdAllowed t w e → happens t w e ≡ v → AreAllowed has t events v × IsIdKept t events v → AreAllowed has t (e ∷ events) w × IsIdKept t (e ∷ events) w
+then has t e events w v allowed kept is rest = ((allowed, subst (AreAllowed has t events) (sym is) rest.0), (kept, subst (IsIdKept t events) (sym is) rest.1))
 
 abbrev one : List ℕ
 one = 7 ∷ []
 
 -- the worlds of the example, from its end
+abbrev i1 : Titles → World
+i1 t = with_disk fresh (write_id t.id fresh.disk)
+
+abbrev i2 : Titles → World
+i2 t = with_disk (i1 t) (sync_id true (i1 t).disk)
+
+abbrev i3 : Titles → World
+i3 t = with_disk (i2 t) (rename_id (i2 t).disk)
+
+abbrev i4 : Titles → World
+i4 t = with_disk (i3 t) (sync_folder true (i3 t).disk)
+
+abbrev s1 : Titles → World
+s1 t = after_end (i4 t) (opened 1 0) (i4 t).disk []
+
+abbrev s2 : Titles → World
+s2 t = after_answer (s1 t) true
+
+abbrev s3 : Titles → World
+s3 t = after_answer (s2 t) true
+
 abbrev w1 : Titles → World
-w1 t = after_put t fresh one true []
+w1 t = after_put t (s3 t) one true []
 
 abbrev w2 : Titles → World
 w2 t = after_sync (w1 t) true
@@ -195,8 +266,29 @@ w12 t = after_answer (w11 t) true
 answer_taken : (w : World) → answer_fault w.folder true ≡ None → (t : Titles) → happens t w (Answer true) ≡ after_answer w true
 answer_taken w none t = taken (answer_fault w.folder true) (after_answer w true) w none
 
-e1 : (t : Titles) → happens t fresh (Put one true []) ≡ w1 t
-e1 t = taken (put_fault fresh.folder (length one)) (w1 t) fresh refl
+makes_1 : (t : Titles) → happens t fresh (WriteId t.id true []) ≡ i1 t
+makes_1 t = taken (id_fault fresh.folder) (i1 t) fresh refl
+
+makes_2 : (t : Titles) → happens t (i1 t) (SyncId true) ≡ i2 t
+makes_2 t = taken (id_fault (i1 t).folder) (i2 t) (i1 t) refl
+
+makes_3 : (t : Titles) → happens t (i2 t) RenameId ≡ i3 t
+makes_3 t = taken (id_fault (i2 t).folder) (i3 t) (i2 t) refl
+
+makes_4 : (t : Titles) → happens t (i3 t) (NameId true) ≡ i4 t
+makes_4 t = taken (id_fault (i3 t).folder) (i4 t) (i3 t) refl
+
+starts_1 : (t : Titles) → happens t (i4 t) (Start 1 0 []) ≡ s1 t
+starts_1 t = refl
+
+starts_2 : (t : Titles) → happens t (s1 t) (Answer true) ≡ s2 t
+starts_2 t = answer_taken (s1 t) refl t
+
+starts_3 : (t : Titles) → happens t (s2 t) (Answer true) ≡ s3 t
+starts_3 t = answer_taken (s2 t) refl t
+
+e1 : (t : Titles) → happens t (s3 t) (Put one true []) ≡ w1 t
+e1 t = taken (put_fault (s3 t).folder (length one)) (w1 t) (s3 t) refl
 
 e2 : (t : Titles) → happens t (w1 t) (Sync true) ≡ w2 t
 unfolding gap
@@ -237,25 +329,39 @@ e11 t = answer_taken (w10 t) refl t
 e12 : (t : Titles) → happens t (w11 t) (Answer true) ≡ w12 t
 e12 t = answer_taken (w11 t) refl t
 
-example_ends : (t : Titles) → history t example fresh ≡ w12 t
+example_ends : (t : Titles) → history t (example t) fresh ≡ w12 t
 example_ends t =
-    ap (history t (drop 1 example)) (e1 t) ∙ ap (history t (drop 2 example)) (e2 t) ∙ ap (history t (drop 3 example)) (e3 t) ∙ ap (history t (drop 4 example)) (e4 t) ∙ ap (history t (drop 5 example)) (e5 t) ∙ ap (history t (drop 6 example)) (e6 t)
-    ∙ ap (history t (drop 7 example)) (e7 t) ∙ ap (history t (drop 8 example)) (e8 t) ∙ ap (history t (drop 9 example)) (e9 t) ∙ ap (history t (drop 10 example)) (e10 t) ∙ ap (history t (drop 11 example)) (e11 t) ∙ e12 t
+    ap (history t (drop 1 (example t))) (makes_1 t) ∙ ap (history t (drop 2 (example t))) (makes_2 t) ∙ ap (history t (drop 3 (example t))) (makes_3 t) ∙ ap (history t (drop 4 (example t))) (makes_4 t) ∙ ap (history t (drop 5 (example t))) (starts_1 t) ∙ ap (history t (drop 6 (example t))) (starts_2 t) ∙ ap (history t (drop 7 (example t))) (starts_3 t) ∙ ap (history t (drop 8 (example t))) (e1 t) ∙ ap (history t (drop 9 (example t))) (e2 t) ∙ ap (history t (drop 10 (example t))) (e3 t) ∙ ap (history t (drop 11 (example t))) (e4 t) ∙ ap (history t (drop 12 (example t))) (e5 t) ∙ ap (history t (drop 13 (example t))) (e6 t) ∙ ap (history t (drop 14 (example t))) (e7 t) ∙ ap (history t (drop 15 (example t))) (e8 t) ∙ ap (history t (drop 16 (example t))) (e9 t) ∙ ap (history t (drop 17 (example t))) (e10 t) ∙ ap (history t (drop 18 (example t))) (e11 t) ∙ e12 t
+
+-- of a folder without journals and a snapshot nothing is read
+nothing_read : (has : List ℕ → Bool) (t : Titles) → IsRead has t (as_seen (i4 t).disk) → ⊥
+nothing_read has t (inl (bytes, there, found)) = cc
+nothing_read has t (inr (k, here, found)) = false≢true here
+
+id_is : (t : Titles) → (as_seen (i4 t).disk).id ≡ Some t.id
+id_is t = ap (λ (b : List ℕ). Some (t.id ++ b)) (drop_all (0 + length t.id) [] (omega arith)) ∙ ap (λ (b : List ℕ). Some b) (append-nil t.id)
 
 pub example_is_allowed : ExampleIsAllowed
-example_is_allowed has t = (
-  then has t (Put one true []) (drop 1 example) fresh (w1 t) tt (e1 t)
-      (then has t (Sync true) (drop 2 example) (w1 t) (w2 t) tt (e2 t)
-      (then has t Begin (drop 3 example) (w2 t) (w3 t) tt (e3 t)
-      (then has t (Answer true) (drop 4 example) (w3 t) (w4 t) tt (e4 t)
-      (then has t (Answer true) (drop 5 example) (w4 t) (w5 t) tt (e5 t)
-      (then has t (Piece one true []) (drop 6 example) (w5 t) (w6 t) (λ e. absurd (omega (arith, e))) (e6 t)
-      (then has t (Piece [] true []) (drop 7 example) (w6 t) (w7 t) (λ e h. h) (e7 t)
-      (then has t (Answer true) (drop 8 example) (w7 t) (w8 t) tt (e8 t)
-      (then has t (Answer true) (drop 9 example) (w8 t) (w9 t) tt (e9 t)
-      (then has t (Answer true) (drop 10 example) (w9 t) (w10 t) tt (e10 t)
-      (then has t (Answer true) (drop 11 example) (w10 t) (w11 t) tt (e11 t)
-      (then has t (Answer true) (drop 12 example) (w11 t) (w12 t) tt (e12 t) tt))))))))))),
-  ap (λ (w : World). w.acknowledged) (example_ends t),
-  ap (λ (w : World). w.folder) (example_ends t),
-)
+example_is_allowed has t =
+    let all =
+    (then has t (WriteId t.id true []) (drop 1 (example t)) fresh (i1 t) tt tt (makes_1 t)
+    (then has t (SyncId true) (drop 2 (example t)) (i1 t) (i2 t) tt tt (makes_2 t)
+    (then has t RenameId (drop 3 (example t)) (i2 t) (i3 t) tt (refl, refl, inl refl) (makes_3 t)
+    (then has t (NameId true) (drop 4 (example t)) (i3 t) (i4 t) tt tt (makes_4 t)
+    (then has t (Start 1 0 []) (drop 5 (example t)) (i4 t) (s1 t) (refl, λ k here. absurd (false≢true here), λ found. absurd (nothing_read has t found)) (id_is t, refl) (starts_1 t)
+    (then has t (Answer true) (drop 6 (example t)) (s1 t) (s2 t) tt tt (starts_2 t)
+    (then has t (Answer true) (drop 7 (example t)) (s2 t) (s3 t) tt tt (starts_3 t)
+    (then has t (Put one true []) (drop 8 (example t)) (s3 t) (w1 t) tt tt (e1 t)
+    (then has t (Sync true) (drop 9 (example t)) (w1 t) (w2 t) tt tt (e2 t)
+    (then has t Begin (drop 10 (example t)) (w2 t) (w3 t) tt tt (e3 t)
+    (then has t (Answer true) (drop 11 (example t)) (w3 t) (w4 t) tt tt (e4 t)
+    (then has t (Answer true) (drop 12 (example t)) (w4 t) (w5 t) tt tt (e5 t)
+    (then has t (Piece one true []) (drop 13 (example t)) (w5 t) (w6 t) (λ e. absurd (omega (arith, e))) tt (e6 t)
+    (then has t (Piece [] true []) (drop 14 (example t)) (w6 t) (w7 t) (λ e h. h) tt (e7 t)
+    (then has t (Answer true) (drop 15 (example t)) (w7 t) (w8 t) tt tt (e8 t)
+    (then has t (Answer true) (drop 16 (example t)) (w8 t) (w9 t) tt tt (e9 t)
+    (then has t (Answer true) (drop 17 (example t)) (w9 t) (w10 t) tt tt (e10 t)
+    (then has t (Answer true) (drop 18 (example t)) (w10 t) (w11 t) tt tt (e11 t)
+    (then has t (Answer true) (drop 19 (example t)) (w11 t) (w12 t) tt tt (e12 t)
+    (tt, tt)))))))))))))))))))) in
+    (all.0, all.1, ap (λ (w : World). w.acknowledged) (example_ends t), ap (λ (w : World). w.folder) (example_ends t))

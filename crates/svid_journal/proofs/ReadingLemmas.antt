@@ -1,16 +1,17 @@
 -- What a reader has read.
-use Rattle.std.proofs.Common.{◌≡◌, inl, inr, ℕ, ◌+◌, ◌*◌, ◌/◌, ◌^◌, ◌<◌, ◌≤◌, List, [], ◌∷◌, ◌++◌, length, take, drop, refl, sym, ◌∙◌, ap, arith, append_assoc, length-append, length-drop}
-use Rattle.std.specs.Prelude.{◌==◌, ◌≢◌}
-use Rattle.std.specs.Int.{to_be_bytes, w32, w64}
-use Rattle.std.proofs.lemmas.Bool.{cases_lt}
+use Rattle.std.proofs.Common.{◌≡◌, inl, inr, ℕ, zero, suc, ◌+◌, ◌-◌, ◌*◌, ◌/◌, ◌^◌, ◌<◌, ◌≤◌, Bool, true, false, cond, List, [], ◌∷◌, ◌++◌, length, take, drop, replicate, refl, sym, ◌∙◌, ap, arith, append_assoc, length-append, length-drop}
+use Rattle.std.specs.Prelude.{◌==◌, ◌≢◌, ◌&&◌, nat_lt, nat_le}
+use Rattle.std.specs.Int.{to_be_bytes, from_be_bytes, w32, w64}
+use Rattle.std.proofs.lemmas.Nat.{from_be_bytes-to_be_bytes_4}
+use Rattle.std.proofs.lemmas.Bool.{cases_lt, cond-false, lt-leb}
 use Rattle.std.proofs.lemmas.List.{drop_at, take_at, length_push}
 use Rattle.svid_journal.specs.declared.title.Title.{Title}
 use Rattle.svid_journal.specs.declared.reader.Reader.{Reader}
 use Rattle.svid_journal.specs.Titles.{bytes_of}
-use Rattle.svid_journal.specs.Frames.{tag_of, numbers_of, sealed, head_of, frame_in, frame_of, frames_of, IsFormat, IsPayload, BeginsWithNone, IsReading}
+use Rattle.svid_journal.specs.Frames.{tag_of, numbers_of, sealed, head_of, frame_len, frame_in, frame_of, frames_of, IsFormat, IsPayload, BeginsWithNone, IsReading}
 use Rattle.svid_journal.specs.declared.reader.Next.{Next}
 use Rattle.svid_journal.specs.declared.reader.Next.TheVariants.{Payload, End, Tear, Damage, Other, Unfit}
-use Rattle.svid_journal.specs.Reading.{BeginsLater, HasOther, IsFit, GoesOn, Stops, IsNext, HasRead, ReadsOn, ends_marked}
+use Rattle.svid_journal.specs.Reading.{number_in, format_in, len_in, states_later, later_cells, crowd, IsCrowded, BeginsLater, HasOther, IsFit, GoesOn, Stops, IsNext, HasRead, ReadsOn, ends_marked}
 use Rattle.svid_journal.proofs.FramesLemmas.{length-tag_of, length-frame_in, frame_len-is, is_head, stated_number, one_more, each_push, longer}
 
 -- a head tells its format
@@ -23,6 +24,17 @@ head_code v title number payload stated is =
     let front : List ℕ = tag ++ numbers in
     let long : length front ≡ 28 = length-append tag numbers ∙ ap (λ n. n + 8) (length-tag_of (sealed v title number payload)) in
     sym (ap (drop 28) (is ∙ sym (append_assoc tag numbers there)) ∙ drop_at front there 28 long)
+
+-- no frame stands where the format and the length of a head are zeros, or filler
+pub zeros_begin_none : (v : ℕ) (title : List ℕ) (number : ℕ) (bytes : List ℕ) → IsFormat v → drop 28 (take 32 bytes) ≡ replicate 4 0 → BeginsWithNone v title number bytes
+zeros_begin_none v title number bytes format zeros payload rest bears stands =
+    let code = head_code v title number payload (take 32 bytes) (is_head v title number payload bytes rest stands) ∙ zeros in
+    omega (arith, format.0, sym (from_be_bytes-to_be_bytes_4 (v * 16777216 + length payload) (omega (arith, format.1, bears))) ∙ ap (from_be_bytes w32) code)
+
+pub filler_begins_none : (v : ℕ) (title : List ℕ) (number : ℕ) (bytes : List ℕ) → IsFormat v → drop 28 (take 32 bytes) ≡ replicate 4 255 → BeginsWithNone v title number bytes
+filler_begins_none v title number bytes format filled payload rest bears stands =
+    let code = head_code v title number payload (take 32 bytes) (is_head v title number payload bytes rest stands) ∙ filled in
+    omega (arith, format.1, bears, sym (from_be_bytes-to_be_bytes_4 (v * 16777216 + length payload) (omega (arith, format.1, bears))) ∙ ap (from_be_bytes w32) code)
 
 -- the format that a head states is that of the frame
 pub format_is : (v format : ℕ) (title : List ℕ) (number : ℕ) (payload rest head bytes : List ℕ) → v < 256 → IsPayload payload → ((code : ℕ) → code < 2 ^ 32 → to_be_bytes w32 code ≡ drop 28 head → format ≡ code / 16777216) → head ≡ take 32 bytes → bytes ≡ frame_in v title number payload ++ rest → format ≡ v
@@ -52,6 +64,50 @@ pub no_other : (title : List ℕ) (number format : ℕ) (head bytes : List ℕ) 
 no_other title number format head bytes head-is states none (other, is) =
     let same = format_is other format title number is.payload is.rest head bytes (omega (arith, is.is_format.1)) is.bears states head-is is.stands in
     none (λ e. is.is_other (sym same ∙ e)) (omega (arith, same, is.is_format.0), omega (arith, same, is.is_format.1)) is.payload is.rest is.bears (is.stands ∙ ap (λ (n : ℕ). frame_in n title number is.payload ++ is.rest) (sym same))
+
+-- Heads that look like later ones.
+
+and_none : (a b : Bool) → b ≡ false → (a && b) ≡ false
+and_none true b e = e
+and_none false b e = refl
+
+states_none : (number cell : ℕ) (head : List ℕ) (room : ℕ) → room < 32 → states_later number cell head room ≡ false
+states_none number cell head room short =
+    and_none (nat_lt number (number_in head) && nat_le (number_in head - number) (cell / 4) && nat_lt 0 (format_in head) && nat_lt (format_in head) 255) (nat_le (frame_len (len_in head)) room) (lt-leb (frame_len (len_in head)) room (omega (arith, short)))
+
+pub none_stated : (number cell : ℕ) (bytes : List ℕ) → length bytes < 32 → 0 ≡ later_cells number cell bytes
+unfolding later_cells
+none_stated number cell bytes short =
+    let head = take 32 bytes in
+    sym (cond-false (states_later number cell head (length bytes)) (frame_len (len_in head) / 8) 0 (states_none number cell head (length bytes) short))
+
+pub none_later : (number cell : ℕ) (head bytes : List ℕ) → head ≡ take 32 bytes → states_later number cell head (length bytes) ≡ false → 0 ≡ later_cells number cell bytes
+unfolding later_cells
+none_later number cell head bytes is none =
+    let here = take 32 bytes in
+    sym (cond-false (states_later number cell here (length bytes)) (frame_len (len_in here) / 8) 0 (ap (λ (x : List ℕ). states_later number cell x (length bytes)) (sym is) ∙ none))
+
+pub some_later : (number cell : ℕ) (head bytes : List ℕ) → head ≡ take 32 bytes → states_later number cell head (length bytes) ≡ true → frame_len (len_in head) / 8 ≡ later_cells number cell bytes
+unfolding later_cells
+some_later number cell head bytes is some =
+    let here = take 32 bytes in
+    ap (λ (x : List ℕ). frame_len (len_in x) / 8) is ∙ sym (ap (λ (b : Bool). cond b (frame_len (len_in here) / 8) 0) (ap (λ (x : List ℕ). states_later number cell x (length bytes)) (sym is) ∙ some))
+
+pub crowd_next : (number : ℕ) (bytes : List ℕ) (cell : ℕ) → crowd number bytes (cell + 1) ≡ crowd number bytes cell + later_cells number cell (drop (8 * cell) bytes)
+crowd_next number bytes cell = let next : cell + 1 ≡ suc cell = omega arith in ap (crowd number bytes) next
+
+crowd_rises : (number : ℕ) (bytes : List ℕ) (cell more : ℕ) → crowd number bytes cell ≤ crowd number bytes (cell + more)
+crowd_rises number bytes cell zero = let same : cell + 0 ≡ cell = omega arith in omega (arith, ap (crowd number bytes) same)
+crowd_rises number bytes cell (suc more) =
+    let next : cell + suc more ≡ (cell + more) + 1 = omega arith in
+    omega (arith, crowd_rises number bytes cell more, ap (crowd number bytes) next, crowd_next number bytes (cell + more))
+
+-- a crowd of the first cells is one of all
+pub crowded_before : (number : ℕ) (bytes : List ℕ) (cell : ℕ) → cell ≤ length bytes / 8 → length bytes < crowd number bytes cell → IsCrowded number bytes
+crowded_before number bytes cell below many =
+    let more = length bytes / 8 - cell in
+    let is : cell + more ≡ length bytes / 8 = omega (arith, below) in
+    omega (arith, many, crowd_rises number bytes cell more, ap (crowd number bytes) is)
 
 pub front_is : (bytes head body : List ℕ) → bytes ≡ head ++ body → length head ≡ 32 → head ≡ take 32 bytes
 front_is bytes head body split long = sym (ap (take 32) split ∙ take_at head body 32 long)

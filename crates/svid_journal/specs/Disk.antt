@@ -62,11 +62,17 @@ pub record Journal : Type 0 where
   pub file : File
   pub here : Name Bool
 
--- the folder: its journals by their numbers, the snapshot, and the file that is written beside it
+-- a file that is replaced whole: its name, and the file that is written beside it
+pub record Kept : Type 0 where
+  pub name : Name (Option File)
+  pub beside : File
+
+-- the folder: its journals by their numbers, the snapshot, the file that is written beside it, and the file with the folder's ID
 pub record Disk : Type 0 where
   pub journals : ℕ → Journal
   pub snapshot : Name (Option File)
   pub beside : File
+  pub id : Kept
 
 -- at this number there is another
 abbrev pub put : {A : Type 0} → (ℕ → A) → ℕ → A → ℕ → A
@@ -76,10 +82,10 @@ put f k a n = if n == k then a else f n
 
 -- make an empty journal
 abbrev pub create_journal : ℕ → Disk → Disk
-create_journal k d = record { journals = put d.journals k (record { file = empty_file; here = leads true (d.journals k).here }); snapshot = d.snapshot; beside = d.beside }
+create_journal k d = record { journals = put d.journals k (record { file = empty_file; here = leads true (d.journals k).here }); snapshot = d.snapshot; beside = d.beside; id = d.id }
 
 abbrev pub on_file : ℕ → (File → File) → Disk → Disk
-on_file k f d = record { journals = put d.journals k (record { file = f (d.journals k).file; here = (d.journals k).here }); snapshot = d.snapshot; beside = d.beside }
+on_file k f d = record { journals = put d.journals k (record { file = f (d.journals k).file; here = (d.journals k).here }); snapshot = d.snapshot; beside = d.beside; id = d.id }
 
 -- write to a journal
 abbrev pub write_journal : ℕ → ℕ → List ℕ → Disk → Disk
@@ -91,23 +97,35 @@ sync_journal k ok d = on_file k (forced ok) d
 
 -- remove a journal
 abbrev pub remove_journal : ℕ → Disk → Disk
-remove_journal k d = record { journals = put d.journals k (record { file = (d.journals k).file; here = leads false (d.journals k).here }); snapshot = d.snapshot; beside = d.beside }
+remove_journal k d = record { journals = put d.journals k (record { file = (d.journals k).file; here = leads false (d.journals k).here }); snapshot = d.snapshot; beside = d.beside; id = d.id }
 
 -- Write a piece of the file beside, which has so many pieces. The first piece makes the file anew.
 abbrev pub write_piece : ℕ → ℕ → List ℕ → Disk → Disk
-write_piece pieces at landed d = record { journals = d.journals; snapshot = d.snapshot; beside = written at landed (if pieces == 0 then empty_file else d.beside) }
+write_piece pieces at landed d = record { journals = d.journals; snapshot = d.snapshot; beside = written at landed (if pieces == 0 then empty_file else d.beside); id = d.id }
 
 -- sync it
 abbrev pub sync_beside : Bool → Disk → Disk
-sync_beside ok d = record { journals = d.journals; snapshot = d.snapshot; beside = forced ok d.beside }
+sync_beside ok d = record { journals = d.journals; snapshot = d.snapshot; beside = forced ok d.beside; id = d.id }
 
 -- rename it over the snapshot
 abbrev pub rename_beside : Disk → Disk
-rename_beside d = record { journals = d.journals; snapshot = leads (Some d.beside) d.snapshot; beside = d.beside }
+rename_beside d = record { journals = d.journals; snapshot = leads (Some d.beside) d.snapshot; beside = d.beside; id = d.id }
 
 -- sync the folder
 abbrev pub sync_folder : Bool → Disk → Disk
-sync_folder ok d = record { journals = λ k. record { file = (d.journals k).file; here = named ok (d.journals k).here }; snapshot = named ok d.snapshot; beside = d.beside }
+sync_folder ok d = record { journals = λ k. record { file = (d.journals k).file; here = named ok (d.journals k).here }; snapshot = named ok d.snapshot; beside = d.beside; id = record { name = named ok d.id.name; beside = d.id.beside } }
+
+-- write the file beside the one with the ID, a new file
+abbrev pub write_id : List ℕ → Disk → Disk
+write_id landed d = record { journals = d.journals; snapshot = d.snapshot; beside = d.beside; id = record { name = d.id.name; beside = written 0 landed empty_file } }
+
+-- sync it
+abbrev pub sync_id : Bool → Disk → Disk
+sync_id ok d = record { journals = d.journals; snapshot = d.snapshot; beside = d.beside; id = record { name = d.id.name; beside = forced ok d.id.beside } }
+
+-- rename it over the one with the ID
+abbrev pub rename_id : Disk → Disk
+rename_id d = record { journals = d.journals; snapshot = d.snapshot; beside = d.beside; id = record { name = leads (Some d.id.beside) d.id.name; beside = d.id.beside } }
 
 -- what is there after a crash
 pub record Outcome : Type 0 where
@@ -115,6 +133,8 @@ pub record Outcome : Type 0 where
   pub bytes : ℕ → List ℕ
   pub snapshot : Option (List ℕ)
   pub beside : List ℕ
+  pub id : Option (List ℕ)
+  pub id_beside : List ℕ
 
 -- one of them is this
 abbrev pub IsOneOf : {A : Type 0} → List A → A → Type 0
@@ -134,6 +154,8 @@ pub record IsOutcome (d : Disk) (o : Outcome) : Type 0 where
   pub journals : (k : ℕ) → MayLeave (d.journals k).file (o.bytes k)
   pub snapshot : (there : Option File) × IsOneOf d.snapshot.may there × MayLeaveFile there o.snapshot
   pub beside : MayLeave d.beside o.beside
+  pub id : (there : Option File) × IsOneOf d.id.name.may there × MayLeaveFile there o.id
+  pub id_beside : MayLeave d.id.beside o.id_beside
 
 -- a file of which all is on the disk
 abbrev pub at_rest : List ℕ → File
@@ -145,7 +167,7 @@ option_at_rest (Some bytes) = Some (at_rest bytes)
 
 -- the disk after a crash that left this
 abbrev pub after_crash : Outcome → Disk
-after_crash o = record { journals = λ k. record { file = at_rest (o.bytes k); here = settled (o.here k) }; snapshot = settled (option_at_rest o.snapshot); beside = at_rest o.beside }
+after_crash o = record { journals = λ k. record { file = at_rest (o.bytes k); here = settled (o.here k) }; snapshot = settled (option_at_rest o.snapshot); beside = at_rest o.beside; id = record { name = settled (option_at_rest o.id); beside = at_rest o.id_beside } }
 
 abbrev pub option_seen : Option File → Option (List ℕ)
 option_seen None = None
@@ -153,7 +175,7 @@ option_seen (Some f) = Some f.seen
 
 -- what is there for who reads it now
 abbrev pub as_seen : Disk → Outcome
-as_seen d = record { here = λ k. (d.journals k).here.now; bytes = λ k. (d.journals k).file.seen; snapshot = option_seen d.snapshot.now; beside = d.beside.seen }
+as_seen d = record { here = λ k. (d.journals k).here.now; bytes = λ k. (d.journals k).file.seen; snapshot = option_seen d.snapshot.now; beside = d.beside.seen; id = option_seen d.id.name.now; id_beside = d.id.beside.seen }
 
 -- what a start may find: after a crash, or without one
 abbrev pub IsLeft : Disk → Outcome → Type 0

@@ -1,5 +1,5 @@
 -- A folder of a snapshot and journals: which call of the system is due in it, and what each answer does.
-use Rattle.std.specs.Prelude.{◌≡◌, ◌⊎◌, ◌==◌, ◌&&◌, ◌||◌, ℕ, ◌+◌, ◌<◌, ◌≤◌, ◌^◌, Bool, true, false, not, nat_lt, nat_le, if◌then◌else◌, List, [], ◌∷◌, Option, Some, None, Result, Ok, Err}
+use Rattle.std.specs.Prelude.{◌==◌, ◌&&◌, ◌||◌, ℕ, ◌+◌, ◌<◌, ◌≤◌, ◌^◌, Bool, true, false, not, nat_lt, nat_le, if◌then◌else◌, List, [], ◌∷◌, Option, Some, None, Result, Ok, Err}
 use Rattle.svid_journal.specs.declared.step.Step.{Step}
 use Rattle.svid_journal.specs.declared.step.Step.TheVariants.{Idle, Starting, Entering, Creating, Naming, Writing, Ending, Syncing, Renaming, Publishing, Removing}
 use Rattle.svid_journal.specs.declared.call.Call.{Call}
@@ -84,6 +84,10 @@ gap_of Renaming = 2
 gap_of Publishing = 2
 gap_of Removing = 2
 
+-- the same in a folder: a start that ended may have made no journal
+abbrev pub gap_in : Folder → ℕ
+gap_in f = if f.ended then 0 else gap_of f.step
+
 -- the number of a step
 abbrev pub step_number : Step → ℕ
 step_number Idle = 0
@@ -117,7 +121,7 @@ due_at Removing f = RemoveJournal f.oldest
 -- the numbers are those of a folder
 abbrev pub is_fit : Folder → Bool
 is_fit f =
-    nat_lt f.newest (2 ^ 62) && nat_le f.oldest (2 ^ 62) && nat_le (f.oldest + gap_of f.step) (f.newest + 1) && nat_lt f.count (2 ^ 62) && nat_lt f.end (2 ^ 62) && nat_le f.flying (2 ^ 25) && nat_lt f.pieces (2 ^ 62)
+    nat_lt f.newest (2 ^ 62) && nat_le f.oldest (2 ^ 62) && nat_le (f.oldest + gap_in f) (f.newest + 1) && nat_lt f.count (2 ^ 62) && nat_lt f.end (2 ^ 62) && nat_le f.flying (2 ^ 25) && nat_lt f.pieces (2 ^ 62)
     && (f.flying == 0 || not (is_starting f.step))
 
 -- no number is near the end of 64 bits

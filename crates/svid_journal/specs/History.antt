@@ -1,32 +1,41 @@
 -- What happens to a folder: appends, switches, failures, crashes and starts. The program's part is that of `Folder`, the disk's that of `Disk`.
-use Rattle.std.specs.Prelude.{◌≡◌, ◌⊎◌, ℕ, ◌+◌, ◌≤◌, Bool, true, false, if◌then◌else◌, List, [], ◌∷◌, ◌++◌, length, Option, Some, None}
+use Rattle.std.specs.Prelude.{◌≡◌, ◌⊎◌, ℕ, ◌+◌, ◌/◌, ◌%◌, ◌≤◌, nat_lt, not, Bool, true, false, if◌then◌else◌, List, [], ◌∷◌, ◌++◌, length, Option, Some, None}
 use Rattle.std.specs.List.{list_any}
 use Rattle.svid_journal.specs.declared.step.Step.{Step}
 use Rattle.svid_journal.specs.declared.step.Step.TheVariants.{Idle, Starting, Entering, Creating, Naming, Writing, Ending, Syncing, Renaming, Publishing, Removing}
 use Rattle.svid_journal.specs.declared.call.Call.{Call}
 use Rattle.svid_journal.specs.declared.call.Call.TheVariants.{Nothing, CreateJournal, SyncFolder, WriteSnapshot, SyncSnapshot, RenameSnapshot, RemoveJournal}
 use Rattle.svid_journal.specs.declared.fault.Fault.{Fault}
-use Rattle.svid_journal.specs.declared.fault.Fault.TheVariants.{NotGrowing}
+use Rattle.svid_journal.specs.declared.fault.Fault.TheVariants.{NotGrowing, Busy}
 use Rattle.svid_journal.specs.declared.folder.Folder.{Folder}
 use Rattle.svid_journal.specs.declared.title.File.TheVariants.{Journal, Snapshot}
 use Rattle.svid_journal.specs.Titles.{bytes_of}
 use Rattle.svid_journal.specs.Frames.{sealed, frame_of, frames_of, IsReading}
 use Rattle.svid_journal.specs.Folder.{ready_rows, first_row, is_starting, begin_fault, answer_fault, put_fault, landed_fault, piece_fault, open_fault, opened, begun, answered, given_up, due_at, flown, landed, lost, ended, pieced}
-use Rattle.svid_journal.specs.Disk.{Disk, Outcome, IsOutcome, as_seen, empty_file, settled, put, create_journal, write_journal, sync_journal, remove_journal, write_piece, sync_beside, rename_beside, sync_folder, after_crash}
+use Rattle.svid_journal.specs.Disk.{write_id, sync_id, rename_id, Disk, Outcome, IsOutcome, as_seen, empty_file, settled, put, create_journal, write_journal, sync_journal, remove_journal, write_piece, sync_beside, rename_beside, sync_folder, after_crash}
 
--- the titles of a folder's files
+-- the titles of a folder's files, and what the file with its ID holds
 pub record Titles : Type 0 where
+  pub id : List ℕ
   pub journal : ℕ → List ℕ
   pub snapshot : List ℕ
 
+abbrev pub hex_digit : ℕ → ℕ
+hex_digit n = if nat_lt n 10 then 48 + n else 87 + n
+
+-- 32 hexadecimal digits, and 0A
+abbrev pub id_text : List ℕ → List ℕ
+id_text [] = 10 ∷ []
+id_text (b ∷ bytes) = hex_digit (b / 16) ∷ hex_digit (b % 16) ∷ id_text bytes
+
 -- those that the program gives them
 abbrev pub titles_of : List ℕ → Titles
-titles_of folder = record { journal = λ k. bytes_of (record { file = Journal k; folder = folder }); snapshot = bytes_of (record { file = Snapshot; folder = folder }) }
+titles_of folder = record { id = id_text folder; journal = λ k. bytes_of (record { file = Journal k; folder = folder }); snapshot = bytes_of (record { file = Snapshot; folder = folder }) }
 
 pub record World : Type 0 where
   pub folder : Folder
   pub disk : Disk
-  -- the journal that grows, or the last one that did
+  -- the journal that grows, or the last one that did; 0 before the first
   pub home : ℕ
   -- the payloads of that journal that were acknowledged
   pub log : List (List ℕ)
@@ -59,6 +68,12 @@ pub data Event : Type 0 where
   Grow : (offset : ℕ) (landed : List ℕ) → Event
   -- the journal that grows is synced behind a frame
   Sync : (ok : Bool) → Event
+  -- Where no program has the folder open, the file with the ID is made: a text is written beside it, of which this landed if it fails. That
+  -- file is synced, then renamed, and then the folder is synced
+  WriteId : (text : List ℕ) (ok : Bool) (landed : List ℕ) → Event
+  SyncId : (ok : Bool) → Event
+  RenameId : Event
+  NameId : (ok : Bool) → Event
   -- a crash, which leaves this
   Crash : (left : Outcome) → Event
   -- a start: a new record takes what is read of the folder, whose journals have these numbers
@@ -185,6 +200,15 @@ unless (Some fault) after w = w
 abbrev pub grow_fault : Folder → Option Fault
 grow_fault f = first_row (ready_rows f ((NotGrowing, is_starting f.step) ∷ []))
 
+-- no program has the folder open
+abbrev pub id_fault : Folder → Option Fault
+id_fault f = first_row ((Busy, not f.ended) ∷ [])
+
+-- the same with another disk
+abbrev pub with_disk : World → Disk → World
+with_disk w disk =
+    record { folder = w.folder; disk = disk; home = w.home; log = w.log; logs = w.logs; flying = w.flying; parts = w.parts; acknowledged = w.acknowledged; memory = w.memory; noted = w.noted; texts = w.texts }
+
 -- what happens next
 abbrev pub happens : Titles → World → Event → World
 happens t w Begin = unless (begin_fault w.folder) (record { folder = begun w.folder; disk = w.disk; home = w.home; log = w.log; logs = w.logs; flying = w.flying; parts = w.parts; acknowledged = w.acknowledged; memory = w.memory; noted = w.noted; texts = w.texts }) w
@@ -193,6 +217,10 @@ happens t w (Piece payload ok landed) = unless (piece_fault w.folder (length pay
 happens t w (Put payload ok landed) = unless (put_fault w.folder (length payload)) (after_put t w payload ok landed) w
 happens t w (Grow at landed) = unless (grow_fault w.folder) (after_grow w at landed) w
 happens t w (Sync ok) = unless (landed_fault w.folder) (after_sync w ok) w
+happens t w (WriteId text ok landed) = unless (id_fault w.folder) (with_disk w (write_id (if ok then text else landed) w.disk)) w
+happens t w (SyncId ok) = unless (id_fault w.folder) (with_disk w (sync_id ok w.disk)) w
+happens t w RenameId = unless (id_fault w.folder) (with_disk w (rename_id w.disk)) w
+happens t w (NameId ok) = unless (id_fault w.folder) (with_disk w (sync_folder ok w.disk)) w
 happens t w (Crash left) = after_end w (ended w.folder) (after_crash left) []
 happens t w (Start oldest newest read) = after_end w (opened oldest newest) w.disk read
 
@@ -201,13 +229,17 @@ abbrev pub history : Titles → List Event → World → World
 history t [] w = w
 history t (e ∷ events) w = history t events (happens t w e)
 
--- a new folder: no snapshot, and an empty journal of number 1 that grows
+-- a disk with an empty folder
+abbrev pub empty_disk : Disk
+empty_disk = record { journals = λ k. record { file = empty_file; here = settled false }; snapshot = settled None; beside = empty_file; id = record { name = settled None; beside = empty_file } }
+
+-- A new folder: it is empty, and no program runs. The first start makes its first journal.
 abbrev pub fresh : World
 fresh =
     record {
-      folder = record { step = Idle; oldest = 1; newest = 1; ended = false; count = 0; end = 0; flying = 0; pieces = 0 };
-      disk = sync_folder true (create_journal 1 (record { journals = λ k. record { file = empty_file; here = settled false }; snapshot = settled None; beside = empty_file }));
-      home = 1;
+      folder = ended (opened 1 0);
+      disk = empty_disk;
+      home = 0;
       log = [];
       logs = λ k. [];
       flying = [];
@@ -238,9 +270,33 @@ IsAllowed has t w (Piece payload ok landed) = length payload ≡ 0 → list_any 
 IsAllowed has t w (Put payload ok landed) = Unit {0}
 IsAllowed has t w (Grow at landed) = length (frames_of (t.journal w.folder.newest) 1 (w.log ++ w.flying)) ≤ at
 IsAllowed has t w (Sync ok) = Unit {0}
+IsAllowed has t w (WriteId text ok landed) = Unit {0}
+IsAllowed has t w (SyncId ok) = Unit {0}
+IsAllowed has t w RenameId = Unit {0}
+IsAllowed has t w (NameId ok) = Unit {0}
 IsAllowed has t w (Crash left) = IsOutcome w.disk left
 IsAllowed has t w (Start oldest newest read) = (open_fault oldest newest ≡ None) × ((k : ℕ) → (w.disk.journals k).here.now ≡ true → k ≤ newest) × (IsRead has t (as_seen w.disk) → list_any has read ≡ true)
 
 abbrev pub AreAllowed : (List ℕ → Bool) → Titles → List Event → World → Type 0
 AreAllowed has t [] w = Unit {0}
 AreAllowed has t (e ∷ events) w = IsAllowed has t w e × AreAllowed has t events (happens t w e)
+
+-- What the making of the file with the ID sees to. A file is renamed to it only if all of it is on the disk, and only if there is none, or
+-- one of the same text. A start reads the ID first. No sync of the folder failed since that file was made, unless a crash came since.
+abbrev pub IsIdAllowed : Titles → World → Event → Type 0
+IsIdAllowed t w Begin = Unit {0}
+IsIdAllowed t w (Answer ok) = Unit {0}
+IsIdAllowed t w (Piece payload ok landed) = Unit {0}
+IsIdAllowed t w (Put payload ok landed) = Unit {0}
+IsIdAllowed t w (Grow at landed) = Unit {0}
+IsIdAllowed t w (Sync ok) = Unit {0}
+IsIdAllowed t w (WriteId text ok landed) = Unit {0}
+IsIdAllowed t w (SyncId ok) = Unit {0}
+IsIdAllowed t w RenameId = (w.disk.id.beside.whole ≡ true) × (w.disk.id.beside.kept ≡ w.disk.id.beside.seen) × (((as_seen w.disk).id ≡ None) ⊎ ((as_seen w.disk).id ≡ Some w.disk.id.beside.seen))
+IsIdAllowed t w (NameId ok) = Unit {0}
+IsIdAllowed t w (Crash left) = IsOutcome w.disk left
+IsIdAllowed t w (Start oldest newest read) = ((as_seen w.disk).id ≡ Some t.id) × (w.disk.id.name.stuck ≡ false)
+
+abbrev pub IsIdKept : Titles → List Event → World → Type 0
+IsIdKept t [] w = Unit {0}
+IsIdKept t (e ∷ events) w = IsIdAllowed t w e × IsIdKept t events (happens t w e)

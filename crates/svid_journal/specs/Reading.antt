@@ -1,5 +1,6 @@
 -- What is read of the bytes of a file, and where reading stops.
-use Rattle.std.specs.Prelude.{◌≡◌, ◌≢◌, ◌==◌, ℕ, ◌+◌, ◌*◌, ◌/◌, ◌^◌, ◌<◌, ◌≤◌, Bool, true, false, List, [], ◌∷◌, ◌++◌, length, drop}
+use Rattle.std.specs.Prelude.{◌≡◌, ◌≢◌, ◌⊎◌, ◌==◌, ◌&&◌, ℕ, zero, suc, ◌+◌, ◌-◌, ◌*◌, ◌/◌, ◌%◌, ◌^◌, ◌<◌, ◌≤◌, nat_lt, nat_le, if◌then◌else◌, Bool, true, false, List, [], ◌∷◌, ◌++◌, length, take, drop}
+use Rattle.std.specs.Int.{from_be_bytes, w32, w64}
 use Rattle.std.specs.List.{AllByRecursion, list_all}
 use Rattle.svid_journal.specs.declared.title.File.{File}
 use Rattle.svid_journal.specs.declared.title.File.TheVariants.{Journal, Snapshot}
@@ -28,6 +29,37 @@ pub record BeginsLater (title : List ℕ) (number cell : ℕ) (bytes : List ℕ)
 abbrev pub HasLater : List ℕ → ℕ → List ℕ → Type 0
 HasLater title number bytes = (cell : ℕ) × BeginsLater title number cell (drop (8 * cell) bytes)
 
+-- the number, the format and the length of a payload that a head states
+abbrev pub number_in : List ℕ → ℕ
+number_in head = from_be_bytes w64 (take 8 (drop 20 head))
+
+abbrev pub format_in : List ℕ → ℕ
+format_in head = from_be_bytes w32 (drop 28 head) / 16777216
+
+abbrev pub len_in : List ℕ → ℕ
+len_in head = from_be_bytes w32 (drop 28 head) % 16777216
+
+-- a head states a frame that may stand so many cells of 8 bytes behind the offset of the frame of this number, where there are so many bytes
+abbrev pub states_later : ℕ → ℕ → List ℕ → ℕ → Bool
+states_later number cell head room = nat_lt number (number_in head) && nat_le (number_in head - number) (cell / 4) && nat_lt 0 (format_in head) && nat_lt (format_in head) 255 && nat_le (frame_len (len_in head)) room
+
+-- how many cells the frame takes that the bytes begin with, as their head states it, where it may be a later one; else 0
+unfoldable pub later_cells : ℕ → ℕ → List ℕ → ℕ
+later_cells number cell bytes = if states_later number cell (take 32 bytes) (length bytes) then frame_len (len_in (take 32 bytes)) / 8 else 0
+
+-- how many cells all such frames take that begin in the first cells, so many of them
+abbrev pub crowd : ℕ → List ℕ → ℕ → ℕ
+crowd number bytes zero = 0
+crowd number bytes (suc cells) = crowd number bytes cells + later_cells number cells (drop (8 * cells) bytes)
+
+-- heads state so many later frames one over the other that they would take more than eight times the bytes: no program wrote that
+abbrev pub IsCrowded : ℕ → List ℕ → Type 0
+IsCrowded number bytes = length bytes < crowd number bytes (length bytes / 8)
+
+-- what stands there was not left by a write that was cut off
+abbrev pub IsBroken : List ℕ → ℕ → List ℕ → Type 0
+IsBroken title number bytes = IsCrowded number bytes ⊎ HasLater title number bytes
+
 -- bytes that begin with a frame of this number, of another format than the one that is written
 pub record IsOther (title : List ℕ) (number : ℕ) (bytes : List ℕ) (format : ℕ) : Type 0 where
   pub payload : List ℕ
@@ -47,17 +79,17 @@ is_blank bytes = list_all (λ b. b == 0) bytes
 -- Where no frame of the next number stands, and none of another format: a journal ends where nothing was written; a snapshot was written
 -- whole, so it ends with its bytes, behind a mark.
 abbrev pub IsEnd : File → Bool → List ℕ → ℕ → List ℕ → Type 0
-IsEnd (Journal k) marked title number rest = (HasLater title number rest → ⊥) × (is_blank rest ≡ true)
+IsEnd (Journal k) marked title number rest = (IsBroken title number rest → ⊥) × (is_blank rest ≡ true)
 IsEnd Snapshot marked title number rest = (rest ≡ []) × (marked ≡ true)
 
 -- a write was cut off: only the journal that grew has that, at its end
 abbrev pub IsTear : File → Bool → List ℕ → ℕ → List ℕ → Type 0
-IsTear (Journal k) marked title number rest = (HasLater title number rest → ⊥) × (is_blank rest ≡ false)
+IsTear (Journal k) marked title number rest = (IsBroken title number rest → ⊥) × (is_blank rest ≡ false)
 IsTear Snapshot marked title number rest = ⊥
 
 -- what was synced has changed: a frame is written only after the one before it was synced, and a snapshot is synced whole
 abbrev pub IsDamage : File → Bool → List ℕ → ℕ → List ℕ → Type 0
-IsDamage (Journal k) marked title number rest = HasLater title number rest
+IsDamage (Journal k) marked title number rest = IsBroken title number rest
 IsDamage Snapshot marked title number rest = rest ≡ [] → marked ≡ true → ⊥
 
 -- a reader whose numbers fit these bytes

@@ -1,7 +1,7 @@
 ghost use Rattle.std.specs.Prelude.{◌≡◌, ◌+◌, ◌<◌, ◌≤◌, ◌^◌, ◌++◌, None, Some, true, length, drop, IfOk, IfErr, IfNone, OnOk, OnErr};
 ghost use Rattle.svid_journal.specs.Titles.{bytes_of};
 ghost use Rattle.svid_journal.specs.Frames.{frame_of, frame_len};
-ghost use Rattle.svid_journal.specs.Folder.{IsSmall, is_fit, ready_fault, begin_fault, answer_fault, put_fault, landed_fault, piece_fault, room_fault, open_fault, opened, begun, gone_on, given_up, answered, removed, due, flown, landed, lost, ended, pieced, journal_title, snapshot_title};
+ghost use Rattle.svid_journal.specs.Folder.{IsSmall, gap_in, is_fit, ready_fault, begin_fault, answer_fault, put_fault, landed_fault, piece_fault, room_fault, open_fault, opened, begun, gone_on, given_up, answered, removed, due, flown, landed, lost, ended, pieced, journal_title, snapshot_title};
 
 use crate::call::Call;
 use crate::fault::Fault;
@@ -34,13 +34,21 @@ pub struct Folder {
 }
 
 impl Folder {
+    // How far the number behind the newest journal is from that of the oldest, at least. A start that ended may have made none.
+    fn gap(&self) -> u64
+        ensures value { result ≡ gap_in self.now }
+        ensures small { result ≤ 2 }
+    {
+        if !self.ended { self.step.gap() } else { 0 }
+    }
+
     fn is_fit(&self) -> bool
         ensures value { result ≡ is_fit self.now }
         ensures small { result ≡ true → IsSmall self.now }
     {
         self.newest < MOST
             && self.oldest <= MOST
-            && self.oldest + self.step.gap() <= self.newest + 1
+            && self.oldest + self.gap() <= self.newest + 1
             && self.count < MOST
             && self.end < MOST
             && self.flying <= 33_554_432

@@ -2,6 +2,7 @@ ghost use Rattle.std.specs.Prelude.{◌≡◌, ◌≢◌, ◌+◌, ◌*◌, ◌/
 ghost use Rattle.std.specs.Int.{to_be_bytes, w32, w64};
 ghost use Rattle.sha2.specs.Sha256.{sha256};
 ghost use Rattle.svid_journal.specs.Titles.{bytes_of};
+ghost use Rattle.svid_journal.specs.Reading.{format_in, len_in, number_in};
 ghost use Rattle.svid_journal.specs.Frames.{numbers_of, sealed, head_of, gap, filler, frame_len, frame_in, frame_of, IsFormat, IsPayload, BeginsWithNone};
 
 use crate::title::Title;
@@ -124,6 +125,16 @@ fn u32_of(bytes: &[u8]) -> u32
     u32::from_be_bytes([bytes[0], bytes[1], bytes[2], bytes[3]])
 }
 
+// The number of 8 bytes, the greatest first.
+pub(crate) fn u64_of(bytes: &[u8]) -> u64
+    requires { length bytes.now ≡ 8 }
+    ensures { to_be_bytes w64 result ≡ bytes.now }
+{
+    u64::from_be_bytes([
+        bytes[0], bytes[1], bytes[2], bytes[3], bytes[4], bytes[5], bytes[6], bytes[7],
+    ])
+}
+
 fn stated_len(head: &[u8]) -> u32
     requires { length head.now ≡ 32 }
     ensures { to_be_bytes w32 result ≡ drop 28 head.now }
@@ -134,19 +145,28 @@ fn stated_len(head: &[u8]) -> u32
 // The format that a head states.
 pub(crate) fn stated_format(head: &[u8]) -> u8
     requires { length head.now ≡ 32 }
-    ensures { (code : ℕ) → code < 2 ^ 32 → to_be_bytes w32 code ≡ drop 28 head.now → result ≡ code / 16777216 }
+    ensures each { (code : ℕ) → code < 2 ^ 32 → to_be_bytes w32 code ≡ drop 28 head.now → result ≡ code / 16777216 }
+    ensures value { result ≡ format_in head.now }
 {
     (stated_len(head) / 16_777_216) as u8
+}
+
+// The length of the payload that a head states.
+pub(crate) fn stated_payload(head: &[u8]) -> usize
+    requires { length head.now ≡ 32 }
+    ensures value { result ≡ len_in head.now }
+    ensures small { result < 2 ^ 24 }
+{
+    (stated_len(head) % 16_777_216) as usize
 }
 
 // The number that a head states.
 pub(crate) fn stated_number(head: &[u8]) -> u64
     requires { length head.now ≡ 32 }
-    ensures { to_be_bytes w64 result ≡ take 8 (drop 20 head.now) }
+    ensures bytes { to_be_bytes w64 result ≡ take 8 (drop 20 head.now) }
+    ensures value { result ≡ number_in head.now }
 {
-    u64::from_be_bytes([
-        head[20], head[21], head[22], head[23], head[24], head[25], head[26], head[27],
-    ])
+    u64_of(head.split_at(20).1.split_at(8).0)
 }
 
 fn split_body(len: usize, body: &[u8]) -> Option<(&[u8], &[u8])>

@@ -1,7 +1,6 @@
-ghost use Rattle.std.specs.Prelude.{◌≡◌, ◌++◌, MatchOption, length};
-ghost use Rattle.std.specs.Int.{to_be_bytes, w64};
+ghost use Rattle.std.specs.Prelude.{◌≡◌, ◌++◌, MatchOption};
 
-use crate::frame::put_at;
+use crate::frame::{put_at, u64_of};
 
 // What the text of a position begins with: its kind, and the number of its version.
 const MAGIC: [u8; 4] = *b"JSL\x01";
@@ -18,15 +17,6 @@ pub struct LogPosition {
     pub begun: u64,
     /// The moment before which it accepts nothing, in seconds.
     pub deaf: u64,
-}
-
-fn u64_of(bytes: &[u8]) -> u64
-    requires { length bytes.now ≡ 8 }
-    ensures { to_be_bytes w64 result ≡ bytes.now }
-{
-    u64::from_be_bytes([
-        bytes[0], bytes[1], bytes[2], bytes[3], bytes[4], bytes[5], bytes[6], bytes[7],
-    ])
 }
 
 impl LogPosition {

@@ -1,9 +1,9 @@
 ghost use Rattle.std.specs.Prelude.{◌≡◌, ◌+◌, ◌≤◌, ◌<◌, ◌^◌, ◌↔◌, List, ℕ, IsTrue, MatchOption, false, length, take};
 ghost use Rattle.svid_journal.specs.Titles.{bytes_of};
-ghost use Rattle.svid_journal.specs.Reading.{BeginsLater, HasLater, HasOther, IsEnding, IsOther, is_blank};
+ghost use Rattle.svid_journal.specs.Reading.{BeginsLater, HasLater, HasOther, IsBroken, IsCrowded, IsEnding, IsOther, is_blank, later_cells, states_later};
 
 use crate::frame::{
-    FORMAT, MOST, first_frame, frame_len, split_head, stated_format, stated_number,
+    FORMAT, MOST, first_frame, frame_len, split_head, stated_format, stated_number, stated_payload,
 };
 use crate::title::{File, Title};
 
@@ -16,7 +16,8 @@ pub enum Next<'a> {
     End,
     /// A write that was cut off: nobody was told that it is on the disk.
     Tear,
-    /// Damage: what was synced here, at [`Reader::at`], has changed.
+    /// Damage: what was synced here, at [`Reader::at`], has changed. So is a journal whose rest has heads that state later frames over each
+    /// other, which would take more than eight times its bytes: no write leaves them.
     Damage,
     /// A frame of this number in another format than [`FORMAT`](crate::FORMAT): this format.
     Other(u8),
@@ -33,6 +34,19 @@ pub struct Reader {
     pub at: u64,
     /// Whether the last of them is a mark.
     pub marked: bool,
+}
+
+fn states_later(number: u64, cell: u64, head: &[u8], room: usize) -> bool
+    requires { length head.now ≡ 32 }
+    ensures { result ≡ states_later number cell head.now room }
+{
+    let stated = stated_number(head);
+    let format = stated_format(head);
+    number < stated
+        && stated - number <= cell / 4
+        && format > 0
+        && format < 255
+        && frame_len(stated_payload(head)) <= room
 }
 
 fn begins_later(title: &Title, number: u64, cell: u64, head: &[u8], bytes: &[u8]) -> bool
@@ -67,6 +81,49 @@ fn has_later(title: &Title, number: u64, bytes: &[u8]) -> bool
         cell += 1;
     }
     false
+}
+
+// How many cells of 8 bytes the frame takes that the bytes begin with, as their head states it, where it may be a later one; else 0.
+fn later_cells(number: u64, cell: u64, bytes: &[u8]) -> u64
+    ensures value { result ≡ later_cells number cell bytes.now }
+    ensures small { result < 2 ^ 25 }
+{
+    match split_head(bytes) {
+        Some((head, _)) => {
+            if states_later(number, cell, head, bytes.len()) {
+                (frame_len(stated_payload(head)) / 8) as u64
+            } else {
+                0
+            }
+        }
+        None => 0,
+    }
+}
+
+// Whether heads state so many later frames, one over the other, that to look at each would take more than eight times the bytes.
+fn is_crowded(number: u64, bytes: &[u8]) -> bool
+    ensures { IsTrue result ↔ IsCrowded number bytes.now }
+{
+    let mut behind = bytes;
+    let mut before = 0;
+    let mut cells = 0;
+    while behind.len() >= 8 {
+        let more = later_cells(number, before, behind);
+        if more > bytes.len() as u64 - cells {
+            return true;
+        }
+        cells += more;
+        behind = behind.split_at(8).1;
+        before += 1;
+    }
+    false
+}
+
+// Whether no write that was cut off left this. The frames that are hashed would take eight times the bytes at most.
+fn is_broken(title: &Title, number: u64, bytes: &[u8]) -> bool
+    ensures { IsTrue result ↔ IsBroken (bytes_of title.now) number bytes.now }
+{
+    is_crowded(number, bytes) || has_later(title, number, bytes)
 }
 
 fn other_format(title: &Title, number: u64, bytes: &[u8]) -> Option<u8>
@@ -113,7 +170,7 @@ impl Reader {
             return Next::Other(format);
         }
         match title.file {
-            File::Journal(_) if has_later(title, number, rest) => Next::Damage,
+            File::Journal(_) if is_broken(title, number, rest) => Next::Damage,
             File::Journal(_) if is_blank(rest) => Next::End,
             File::Journal(_) => Next::Tear,
             File::Snapshot if rest.is_empty() && self.marked => Next::End,

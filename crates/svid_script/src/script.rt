@@ -125,8 +125,16 @@ fn folder_call(out: &mut Out<'_>, values: &mut Values, words: &[&str]) -> Result
     svid_script_journal::call(out, env, folders, words)
 }
 
+// The calls on claims, which name no values.
+fn claim_call(out: &mut Out<'_>, values: &mut Values, words: &[&str]) -> Result<(), Stop> {
+    match svid_script_claims::call(out, words) {
+        Err(Stop::NoCall) => folder_call(out, values, words),
+        answer => answer,
+    }
+}
+
 fn check_call(out: &mut Out<'_>, values: &mut Values, words: &[&str]) -> Result<(), Stop> {
-    match folder_call(out, values, words) {
+    match claim_call(out, values, words) {
         Err(Stop::NoCall) => {}
         answer => return answer,
     }

@@ -8,6 +8,8 @@ import (
 	"time"
 
 	"github.com/nats-io/nats.go"
+
+	"svid.example/go/v2/internal/brief"
 )
 
 // The API of JetStream, as far as the client's own calls would leave out what matters: a setting that the client does not
@@ -61,6 +63,7 @@ func (g *Group) ask(ctx context.Context, wait time.Duration, what string, in, ou
 		return fmt.Errorf("an answer of the broker is no JSON: %w", err)
 	}
 	if failed.Error != nil {
+		failed.Error.Description = brief.Text(failed.Error.Description, brief.Most)
 		return failed.Error
 	}
 	return json.Unmarshal(m.Data, out)

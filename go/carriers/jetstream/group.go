@@ -37,6 +37,7 @@ import (
 	"github.com/nats-io/nats.go"
 
 	"svid.example/go/v2/carriers"
+	"svid.example/go/v2/internal/brief"
 )
 
 const (
@@ -349,6 +350,6 @@ func (g *Group) logChange(said *string, event string, why error) {
 
 func (g *Group) log(event string, fields ...any) {
 	if g.options.Log != nil {
-		g.options.Log(event, fields...)
+		g.options.Log(event, brief.Fields(fields)...)
 	}
 }

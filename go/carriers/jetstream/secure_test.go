@@ -25,6 +25,8 @@ import (
 	"github.com/nats-io/nats.go"
 	"github.com/nats-io/nkeys"
 
+	"svid.example/go/v2/claims"
+	claimstore "svid.example/go/v2/claims/nats"
 	"svid.example/go/v2/internal/broker"
 	"svid.example/go/v2/internal/natstest"
 	"svid.example/go/v2/internal/patience"
@@ -219,7 +221,8 @@ func TestTheServersOfDeploy(t *testing.T) {
 		t.Errorf("a member that comes behind a liar reads %d values", d.Taken())
 	}
 	for _, forbidden := range []string{"$JS.API.STREAM.DELETE.KV_svid", "$JS.API.STREAM.PURGE.KV_svid", "$JS.API.STREAM.MSG.DELETE.KV_svid",
-		"$JS.API.STREAM.UPDATE.KV_svid", "$JS.API.STREAM.RESTORE.KV_svid", "$JS.API.STREAM.CREATE.KV_other",
+		"$JS.API.STREAM.DELETE.KV_svid-claims", "$JS.API.STREAM.PURGE.KV_svid-claims", "$JS.API.STREAM.MSG.DELETE.KV_svid-claims-epochs",
+		"$JS.API.STREAM.UPDATE.KV_svid-claims-withdrawals", "$JS.API.STREAM.UPDATE.KV_svid", "$JS.API.STREAM.RESTORE.KV_svid", "$JS.API.STREAM.CREATE.KV_other",
 		"$JS.API.CONSUMER.DELETE.KV_svid.x", "$JS.API.CONSUMER.INFO.KV_svid.x", "$JS.API.CONSUMER.DURABLE.CREATE.KV_svid.x", "$KV.other.a", "svid.other.summary"} {
 		if err := a.conn.Publish(forbidden, nil); err != nil {
 			t.Fatal(err)
@@ -233,6 +236,7 @@ func TestTheServersOfDeploy(t *testing.T) {
 			t.Error(m.lines)
 		}
 	}
+	openStore(t, server, own)
 	for what, f := range map[string]Files{
 		"no certificate": {CA: own.CA}, "another ID": ca.write(dir, "other", "spiffe://example.org/other"),
 	} {
@@ -245,6 +249,42 @@ func TestTheServersOfDeploy(t *testing.T) {
 	if nc, err := nats.Connect(server, mustConnect(t, stranger)...); err == nil {
 		nc.Close()
 		t.Error("a member connected to servers of authorities that it does not know")
+	}
+}
+
+// openStore does in the group's store what its members do there.
+func openStore(t *testing.T, server string, own Files) {
+	t.Helper()
+	var mine claims.Owner
+	for i := range mine {
+		mine[i] = byte(i + 1)
+	}
+	for i, due := range []claims.Owner{mine, mine, claims.Withdrawn} {
+		s, err := claimstore.New(claimstore.Options{Servers: []string{server}, Name: "svid", Connect: mustConnect(t, own),
+			Terms: claims.Terms{Lasts: 3600, Margin: 120, Back: 60}})
+		if err != nil {
+			t.Fatal(err)
+		}
+		if _, err := s.Open(patient(t)); err != nil {
+			t.Fatal(err)
+		}
+		one := claims.Claim{Key: key(10 + i/2), Owner: mine, Expires: uint64(time.Now().Unix()) + 600}
+		if i == 2 {
+			if _, err := s.Withdraw(patient(t), claims.Withdrawal{Key: one.Key, Expires: one.Expires}); err != nil {
+				t.Fatal(err)
+			}
+			if these, _, err := s.Withdrawals(patient(t), ""); err != nil || len(these) != 1 {
+				t.Errorf("withdrawals: %v %v", these, err)
+			}
+		}
+		found := make([]claims.Found, 1)
+		if s.Put(patient(t), []claims.Claim{one}, found); found[0].Err != nil || found[0].Owner != due {
+			t.Errorf("claim %d: %+v", i, found[0])
+		}
+		if _, err := s.State(patient(t)); err != nil {
+			t.Error(err)
+		}
+		s.Close()
 	}
 }
 

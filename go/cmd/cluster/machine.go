@@ -35,7 +35,7 @@ type cluster struct {
 	svidd    string
 	nginxAt  string // the folder of nginx's configurations
 	brokers  []*broker.Server
-	store    store  // what the group's log stands in where there are no brokers
+	store    store  // what the group's store stands in where there are no brokers
 	storeURL string // where it is
 	issuer   *issuer.Issuer
 	bundle   string // a file
@@ -53,29 +53,29 @@ type store interface {
 	Stop()
 }
 
-// newCluster makes the folder, the issuer's bundle and the servers of the log.
-func newCluster(svidd, nginx, log string) (*cluster, error) {
+// newCluster makes the folder, the issuer's bundle and the servers of the store.
+func newCluster(svidd, nginx, store string) (*cluster, error) {
 	dir, err := os.MkdirTemp("", "svid-cluster-")
 	if err != nil {
 		return nil, err
 	}
 	c := &cluster{dir: dir, svidd: svidd, nginxAt: nginx, bundle: filepath.Join(dir, "bundle.json")}
-	if err := c.begin(log); err != nil {
+	if err := c.begin(store); err != nil {
 		c.end()
 		return nil, err
 	}
 	return c, nil
 }
 
-func (c *cluster) begin(log string) (err error) {
+func (c *cluster) begin(store string) (err error) {
 	if c.issuer, err = issuer.New(domain); err != nil {
 		return err
 	}
 	if err := os.WriteFile(c.bundle, c.issuer.JWKSet(), 0o644); err != nil {
 		return err
 	}
-	if log != "nats" {
-		return c.beginStore(log)
+	if store != "nats" {
+		return c.beginStore(store)
 	}
 	var dirs []string
 	for _, name := range []string{"nats-1", "nats-2", "nats-3"} {
@@ -103,12 +103,12 @@ func (c *cluster) begin(log string) (err error) {
 }
 
 // beginStore starts a server of Redis or of PostgreSQL.
-func (c *cluster) beginStore(log string) error {
-	dir := filepath.Join(c.dir, log)
+func (c *cluster) beginStore(store string) error {
+	dir := filepath.Join(c.dir, store)
 	if err := os.Mkdir(dir, 0o700); err != nil {
 		return err
 	}
-	switch log {
+	switch store {
 	case "redis":
 		s, err := broker.NewRedis(dir)
 		if err != nil {
@@ -129,13 +129,13 @@ func (c *cluster) beginStore(log string) error {
 		}
 		c.store, c.storeURL = s, s.URL
 	default:
-		return fmt.Errorf("no log stands in %s: nats, redis or postgres", log)
+		return fmt.Errorf("no store stands in %s: nats, redis or postgres", store)
 	}
 	if err := c.store.Start(); err != nil {
 		return err
 	}
-	fmt.Printf("cluster: the group's log stands in %s\n", c.storeURL)
-	return await(log, func() error { return unless(c.store.Answers(), "no answer") })
+	fmt.Printf("cluster: the group's store stands in %s\n", c.storeURL)
+	return await(store, func() error { return unless(c.store.Answers(), "no answer") })
 }
 
 // end kills what runs, and removes the folder.
@@ -208,15 +208,23 @@ func (c *cluster) start(names []string, options ...string) error {
 	return nil
 }
 
-// group is the options of sidecars that share a bucket of the scenario's name.
-func (c *cluster) group(mode string) []string { return c.groupNamed(c.name, mode) }
+// once are the options of sidecars of mode once that share a bucket of the scenario's name.
+func (c *cluster) once() []string {
+	return []string{"--replay", "once", "--nats", strings.Join(broker.URLs(c.brokers), ","), "--group", c.name, "--replicas", "3"}
+}
 
-// groupNamed is the options of sidecars that share a bucket, or another log.
-func (c *cluster) groupNamed(name, mode string) []string {
+// strict are the options of sidecars of mode strict that share a store of the scenario's name.
+func (c *cluster) strict() []string { return c.strictNamed(c.name) }
+
+func (c *cluster) strictNamed(name string) []string {
+	options := []string{"--replay", "strict", "--group", name}
 	if c.store != nil {
-		return []string{"--replay", mode, "--group-log", c.storeURL, "--group", name}
+		return append(options, "--store", c.storeURL)
 	}
-	return []string{"--replay", mode, "--nats", strings.Join(broker.URLs(c.brokers), ","), "--group", name, "--replicas", "3"}
+	for _, url := range broker.URLs(c.brokers) {
+		options = append(options, "--store", url)
+	}
+	return append(options, "--replicas", "3")
 }
 
 func newClient() *http.Client {

@@ -1,10 +1,10 @@
 // Cluster runs a group of three sidecars on one machine, over a cluster of three NATS servers, a Redis or a PostgreSQL, and
 // behind nginx, and shows what the group promises: examples/cluster/run.
 //
-//	cluster --svidd FILE --nginx FOLDER [--log nats|redis|postgres] [SCENARIO..]
+//	cluster --svidd FILE --nginx FOLDER [--store nats|redis|postgres] [SCENARIO..]
 //
-// Without a SCENARIO it shows the short ones. Over Redis and PostgreSQL there are those of mode strict alone. It prints a line for each step, and ends with status 1 at the first one
-// that is not as it should be.
+// Without a SCENARIO it shows the short ones. Over Redis and PostgreSQL there are those of mode strict alone. It prints a line for each
+// step, and ends with status 1 at the first one that is not as it should be.
 package main
 
 import (
@@ -39,14 +39,14 @@ var scenarios = []scenario{
 func main() {
 	svidd := flag.String("svidd", "", "the program svidd")
 	nginx := flag.String("nginx", "", "folder of nginx's configurations, with SIDECAR_1, NGINX and so on in the place of addresses")
-	log := flag.String("log", "nats", "what the group's log stands in: nats, redis or postgres")
+	store := flag.String("store", "nats", "what the group's store stands in: nats, redis or postgres")
 	flag.IntVar(&tokens, "tokens", tokens, "how many tokens the scenarios strict and once send to all sidecars at once")
 	flag.IntVar(&manyTokens, "many", manyTokens, "the same for strict-kills and once-many")
 	flag.IntVar(&rounds, "rounds", rounds, "how often the scenario kills kills a sidecar")
 	flag.Parse()
-	chosen, err := choose(flag.Args(), *log)
+	chosen, err := choose(flag.Args(), *store)
 	if err == nil {
-		err = run(chosen, *svidd, *nginx, *log)
+		err = run(chosen, *svidd, *nginx, *store)
 	}
 	if err != nil {
 		fmt.Println("cluster: FAILED:", err)
@@ -55,22 +55,22 @@ func main() {
 }
 
 // choose finds the named scenarios: long ones by "long", all that are short where none is named.
-func choose(names []string, log string) ([]scenario, error) {
+func choose(names []string, store string) ([]scenario, error) {
 	var chosen []scenario
 	for _, s := range scenarios {
-		if len(names) == 0 && !s.long && (log == "nats" || !s.nats) {
+		if len(names) == 0 && !s.long && (store == "nats" || !s.nats) {
 			chosen = append(chosen, s)
 		}
 	}
 	for _, name := range names {
 		before := len(chosen)
 		for _, s := range scenarios {
-			if (s.name == name || name == "long" && s.long) && (log == "nats" || !s.nats) {
+			if (s.name == name || name == "long" && s.long) && (store == "nats" || !s.nats) {
 				chosen = append(chosen, s)
 			}
 		}
 		if len(chosen) == before {
-			return nil, fmt.Errorf("no scenario over %s is named %s", log, name)
+			return nil, fmt.Errorf("no scenario over %s is named %s", store, name)
 		}
 	}
 	return chosen, nil
@@ -78,8 +78,8 @@ func choose(names []string, log string) ([]scenario, error) {
 
 // run starts the brokers once, and shows one scenario after the other. Nothing that it started outlives it, also where
 // a signal ends it.
-func run(chosen []scenario, svidd, nginx, log string) error {
-	c, err := newCluster(svidd, nginx, log)
+func run(chosen []scenario, svidd, nginx, store string) error {
+	c, err := newCluster(svidd, nginx, store)
 	if err != nil {
 		return err
 	}

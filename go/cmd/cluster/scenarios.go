@@ -33,7 +33,7 @@ var noHurry = []string{"--wait", "30s"}
 
 // strict: of all sidecars, one accepts a token.
 func strict(c *cluster) error {
-	if err := c.start(three, append(c.group("strict"), noHurry...)...); err != nil {
+	if err := c.start(three, append(c.strict(), noHurry...)...); err != nil {
 		return err
 	}
 	if err := c.throughNginx(); err != nil {
@@ -49,11 +49,29 @@ func strict(c *cluster) error {
 	}
 	c.say("%d tokens, each sent to three sidecars at the same instant: exactly one 200 each (%.0f tokens/s)",
 		len(sent), float64(len(sent))/time.Since(from).Seconds())
-	uses, err := c.sameRecords()
+	uses, err := usedOnce(c.sidecars)
 	if err != nil {
 		return err
 	}
 	return unless(len(uses) == len(sent)+1, fmt.Sprintf("the records have %d uses, want %d", len(uses), len(sent)+1))
+}
+
+// usedOnce are the uses of all records together. In mode strict each sidecar remembers its own, and no two have a use of one token.
+func usedOnce(of []*sidecar) (map[svid.TokenKey]string, error) {
+	all := map[svid.TokenKey]string{}
+	for _, s := range of {
+		uses, err := s.uses()
+		if err != nil {
+			return nil, err
+		}
+		for _, u := range uses {
+			if other, twice := all[u.Key]; twice {
+				return nil, fmt.Errorf("%s and %s accepted the token %v", other, s.name, u.Key)
+			}
+			all[u.Key] = s.name
+		}
+	}
+	return all, nil
 }
 
 // throughNginx lets a token through once, whichever sidecar nginx asks.
@@ -86,7 +104,7 @@ func once(c *cluster) error { return c.showOnce(tokens) }
 func onceMany(c *cluster) error { return c.showOnce(manyTokens) }
 
 func (c *cluster) showOnce(n int) error {
-	if err := c.start(three, c.group("once")...); err != nil {
+	if err := c.start(three, c.once()...); err != nil {
 		return err
 	}
 	sent := c.mint(n)
@@ -204,7 +222,7 @@ func (c *cluster) sameRecords() (uses []svid.Use, err error) {
 
 // liar: a member that lies does no harm but to itself.
 func liar(c *cluster) error {
-	if err := c.start(three, c.group("once")...); err != nil {
+	if err := c.start(three, c.once()...); err != nil {
 		return err
 	}
 	nc, err := nats.Connect(strings.Join(broker.URLs(c.brokers), ","))
@@ -257,12 +275,12 @@ func liar(c *cluster) error {
 	return err
 }
 
-// split: nginx sends each token to one of two groups by its signed part, so that each group hears of half of them, and a
-// token reaches the same group however it is spelled.
+// split: nginx sends each token to one of two groups by its signed part, so that each store has half of them, and a token reaches the
+// same group however it is spelled.
 func split(c *cluster) error {
 	groups := []string{"split-1", "split-2"}
 	for i, name := range groups {
-		if err := c.start([]string{fmt.Sprint("first-", i+1), fmt.Sprint("second-", i+1)}, append(c.groupNamed(name, "strict"), noHurry...)...); err != nil {
+		if err := c.start([]string{fmt.Sprint("first-", i+1), fmt.Sprint("second-", i+1)}, append(c.strictNamed(name), noHurry...)...); err != nil {
 			return err
 		}
 	}
@@ -299,23 +317,23 @@ func split(c *cluster) error {
 			return fmt.Errorf("a token in %d spellings through nginx: %v, want one 200", times, counts)
 		}
 	}
-	var heard []int
-	seen := map[svid.TokenKey]int{}
+	seen, err := usedOnce(c.sidecars)
+	if err != nil {
+		return err
+	}
+	var has []int
 	for i := range groups {
-		uses, err := c.sidecars[2*i].uses()
+		uses, err := usedOnce(c.sidecars[2*i : 2*i+2])
 		if err != nil {
 			return err
 		}
-		for _, u := range uses {
-			seen[u.Key]++
-		}
-		heard = append(heard, len(uses))
+		has = append(has, len(uses))
 	}
-	if len(seen) != len(sent) || heard[0]+heard[1] != len(sent) || heard[0] < len(sent)/4 || heard[1] < len(sent)/4 {
-		return fmt.Errorf("of %d tokens one group has %d and the other %d, together %d", len(sent), heard[0], heard[1], len(seen))
+	if len(seen) != len(sent) || has[0] < len(sent)/4 || has[1] < len(sent)/4 {
+		return fmt.Errorf("of %d tokens one group has %d and the other %d, together %d", len(sent), has[0], has[1], len(seen))
 	}
-	c.say("%d tokens, each sent in %d spellings at once through nginx: one 200 each; one group heard of %d of all, and the other of %d",
-		len(sent)-times, times, heard[0], heard[1])
+	c.say("%d tokens, each sent in %d spellings at once through nginx: one 200 each; one group accepted %d of all, and the other %d",
+		len(sent)-times, times, has[0], has[1])
 	return nil
 }
 
@@ -346,12 +364,12 @@ func batchOf(moment uint64) []byte {
 
 // strictKills: still no token is accepted twice while a sidecar and a NATS server are killed.
 func strictKills(c *cluster) error {
-	if err := c.start(three, c.group("strict")...); err != nil {
+	if err := c.start(three, c.strict()...); err != nil {
 		return err
 	}
 	what, killServer := "two of these and a NATS server were killed", func() error { return c.killLeaderFor(3 * time.Second) }
 	if c.store != nil {
-		what, killServer = "two of these and the log's server were killed", func() error { return c.awayFor(c.store.Kill, time.Second) }
+		what, killServer = "two of these and the store's server were killed", func() error { return c.awayFor(c.store.Kill, time.Second) }
 	}
 	return c.onceDuring(what, []func() error{
 		func() error { return c.killFor(c.sidecars[0], time.Second) },
@@ -360,14 +378,14 @@ func strictKills(c *cluster) error {
 	})
 }
 
-// strictRestarts: each NATS server is restarted, as for an upgrade. No value is lost.
+// strictRestarts: each NATS server is restarted, as for an upgrade. No entry is lost.
 func strictRestarts(c *cluster) error {
-	if err := c.start(three, c.group("strict")...); err != nil {
+	if err := c.start(three, c.strict()...); err != nil {
 		return err
 	}
 	if c.store != nil {
 		again := func() error { return c.awayFor(c.store.Stop, time.Second) }
-		return c.onceDuring("the log's server was restarted twice", []func() error{again, again})
+		return c.onceDuring("the store's server was restarted twice", []func() error{again, again})
 	}
 	var steps []func() error
 	for i := range c.brokers {
@@ -377,8 +395,8 @@ func strictRestarts(c *cluster) error {
 	return c.onceDuring("each NATS server was restarted", steps)
 }
 
-// onceDuring sends tokens to three sidecars of mode strict while steps are done, one behind the other: no token is accepted twice,
-// the records are equal, and no sidecar misses a value.
+// onceDuring sends tokens to three sidecars of mode strict while steps are done, one behind the other: no token is accepted twice, and
+// no sidecar sees that the store has lost an entry.
 func (c *cluster) onceDuring(what string, steps []func() error) error {
 	sent := c.mint(manyTokens)
 	killed := make(chan error, len(steps))
@@ -418,18 +436,21 @@ func (c *cluster) onceDuring(what string, steps []func() error) error {
 	}
 	c.say("%d tokens, each sent to three sidecars at the same instant, while %s: one 200 each for %d, and none for %d whose answer was "+
 		"lost or 503 first", len(sent), what, won, burnt)
-	if _, err := c.sameRecords(); err != nil {
-		return err
-	}
 	for _, s := range c.sidecars {
-		if n, err := s.metric("svidd_log_gaps_total"); err != nil || n != 0 {
-			return fmt.Errorf("%s has missed values %v times (%v)", s.name, n, err)
+		if err := s.awaitReady(); err != nil { // (one that was killed is started again)
+			return err
 		}
+		if n, err := s.metric("svidd_store_epochs_total"); err != nil || n != 0 {
+			return fmt.Errorf("%s says that the store has lost entries %v times (%v)", s.name, n, err)
+		}
+	}
+	if _, err := usedOnce(c.sidecars); err != nil {
+		return err
 	}
 	return c.noneAgain(sent)
 }
 
-// restart ends a NATS server as an operator does, starts it again after a while, and waits until it has the bucket.
+// restart ends a NATS server as an operator does, starts it again after a while, and waits until it has the store.
 func (c *cluster) restart(i int, while time.Duration) error {
 	c.brokers[i].Stop()
 	c.say("stopped NATS server %d for %v", i+1, while)
@@ -446,24 +467,29 @@ func (c *cluster) restart(i int, while time.Duration) error {
 	if err != nil {
 		return err
 	}
-	return await("all servers to have the bucket", func() error {
-		info, err := js.StreamInfo("KV_" + c.name)
-		if err != nil || info.Cluster == nil || info.Cluster.Leader == "" {
-			return fmt.Errorf("no leader: %v", err)
-		}
-		for _, peer := range info.Cluster.Replicas {
-			if !peer.Current || peer.Offline {
-				return fmt.Errorf("%s is behind", peer.Name)
+	return await("all servers to have the store", func() error {
+		for _, stream := range []string{"", "-withdrawals", "-epochs", "-clock"} {
+			info, err := js.StreamInfo(c.claims() + stream)
+			if err != nil || info.Cluster == nil || info.Cluster.Leader == "" {
+				return fmt.Errorf("no leader: %v", err)
+			}
+			for _, peer := range info.Cluster.Replicas {
+				if !peer.Current || peer.Offline {
+					return fmt.Errorf("%s is behind", peer.Name)
+				}
 			}
 		}
 		return nil
 	})
 }
 
-// awayFor ends the log's server, and starts it again after a while.
+// claims is the stream of claims in NATS.
+func (c *cluster) claims() string { return "KV_" + c.name + "-claims" }
+
+// awayFor ends the store's server, and starts it again after a while.
 func (c *cluster) awayFor(end func(), while time.Duration) error {
 	end()
-	c.say("the log's server was ended for %v", while)
+	c.say("the store's server was ended for %v", while)
 	time.Sleep(while)
 	return c.store.Start()
 }
@@ -476,7 +502,7 @@ func (c *cluster) killFor(s *sidecar, while time.Duration) error {
 	return c.spawn(s)
 }
 
-// killLeaderFor kills the NATS server that leads the bucket, and starts it again after a while.
+// killLeaderFor kills the NATS server that leads the claims, and starts it again after a while.
 func (c *cluster) killLeaderFor(while time.Duration) error {
 	nc, err := nats.Connect(strings.Join(broker.URLs(c.brokers), ","))
 	if err != nil {
@@ -487,19 +513,19 @@ func (c *cluster) killLeaderFor(while time.Duration) error {
 	if err != nil {
 		return err
 	}
-	info, err := js.StreamInfo("KV_" + c.name)
+	info, err := js.StreamInfo(c.claims())
 	if err != nil {
 		return err
 	}
 	for i, b := range c.brokers {
 		if info.Cluster != nil && info.Cluster.Leader == fmt.Sprint("n", i) {
 			b.Kill()
-			c.say("killed NATS server %d, which led the bucket, for %v", i+1, while)
+			c.say("killed NATS server %d, which led the claims, for %v", i+1, while)
 			time.Sleep(while)
 			return b.Start()
 		}
 	}
-	return errors.New("the bucket has no leader")
+	return errors.New("the claims have no leader")
 }
 
 // kills: what was answered 200 before a kill -9 is not answered 200 after it.
@@ -511,7 +537,7 @@ func kills(c *cluster) error {
 		return err
 	}
 	c.stopSidecars()
-	if err := c.start([]string{"strict"}, c.group("strict")...); err != nil {
+	if err := c.start([]string{"strict"}, c.strict()...); err != nil {
 		return err
 	}
 	return c.killAgain(rounds / 4)

@@ -23,10 +23,10 @@ import (
 const usual = "2.0.0"
 
 // left are the folders of the module that only its own tests and measurements have a use for.
-var left = regexp.MustCompile(`^(vendor|wrong|deploy|cmd/(cluster|module|svidbench|vendored)|internal/(agenttest|broker|goroutines|issuer|logtest|natstest|refusing|scarce|sim|vectors))(/|$)`)
+var left = regexp.MustCompile(`^(vendor|wrong|deploy|cmd/(cluster|module|svidbench|vendored)|internal/(agenttest|broker|goroutines|issuer|natstest|refusing|scarce|sim|vectors))(/|$)`)
 
 // taken are the files that are code, or part of it.
-var taken = regexp.MustCompile(`^go\.mod$|^README\.md$|\.(sql|lua)$|\.go$`)
+var taken = regexp.MustCompile(`^go\.mod$|^README\.md$|\.go$`)
 
 // The library and its header are beside go/ in the checkout. In the module they are in the folder of the package that links them: `go mod
 // vendor` copies no folder without Go files.

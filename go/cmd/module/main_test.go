@@ -16,7 +16,7 @@ func TestTheModule(t *testing.T) {
 	if err != nil {
 		t.Fatal(err)
 	}
-	for _, path := range append([]string{"go.mod", "README.md", "carriers/postgres/schema.sql", "carriers/redis/append.lua", "cmd/svidd/main.go"}, "svid/svid.h", "svid/libsvid_amd64.a", "svid/libsvid_arm64.a") {
+	for _, path := range append([]string{"go.mod", "README.md", "claims/redis/store.go", "claims/postgres/schema.go", "claims/nats/put.go", "cmd/svidd/main.go"}, "svid/svid.h", "svid/libsvid_amd64.a", "svid/libsvid_arm64.a") {
 		if _, ok := files[path]; !ok {
 			t.Errorf("%s is not there", path)
 		}

@@ -21,13 +21,17 @@ func (deaf) Begin(carriers.Start)          {}
 func (deaf) Take([]carriers.Value) []error { return nil }
 
 // fill puts random uses into a group's bucket, each as a value of its own, as a sidecar does at a quiet time: of all
-// buckets that has most values.
+// buckets that has most values. Or it claims as many tokens in a group's store.
 func fill(f *flag.FlagSet, args []string) error {
-	urls := f.String("nats", "", "the broker's addresses")
-	name := f.String("group", "svid", "the bucket")
+	urls := f.String("nats", "", "the addresses of a bucket's broker")
+	store := f.String("store", "", "the addresses of a store")
+	name := f.String("group", bucket, "whose")
 	n := f.Int("uses", 1000, "how many")
-	replicas := f.Int("replicas", 1, "of the bucket")
+	replicas := f.Int("replicas", 1, "of the bucket or the store")
 	f.Parse(args)
+	if *store != "" {
+		return fillStore(*store, *name, *n, *replicas)
+	}
 	return fillBucket(*urls, *name, *n, *replicas)
 }
 

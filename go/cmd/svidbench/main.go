@@ -3,9 +3,12 @@
 //	svidbench mint --tokens N --out DIR             DIR/bundle.json, and DIR/tokens, one a line; --algorithm RS256 for
 //	                                                another than ES256, --keys N for a bundle of so many keys
 //	svidbench record --uses N                       a record of N uses, on standard output
-//	svidbench fill --nats URL --group NAME --uses N puts N uses into a group's bucket
-//	svidbench scale --svidd FILE --members N        a group of N sidecars on this machine, as a row of a table
-//	svidbench simulate                              what a bucket and a sidecar bear, to 1,000 sidecars
+//	svidbench fill --nats URL --group NAME --uses N puts N uses into a group's bucket; --store URL claims N tokens in its store
+//	svidbench scale --svidd FILE --members N        a group of N sidecars on this machine, as a row of a table; --mode strict
+//	                                                --store KIND over a store in nats, redis or postgres
+//	svidbench group --store KIND --members 3,30     groups of mode strict over a store, beside a plain peer: --svidd FILE for members
+//	                                                that are processes, and else guards in this one
+//	svidbench simulate                              what a bucket and a sidecar of mode once bear, to 1,000 sidecars
 package main
 
 import (
@@ -35,12 +38,12 @@ const (
 )
 
 var commands = map[string]func(*flag.FlagSet, []string) error{
-	"mint": mint, "record": record, "fill": fill, "scale": scale, "simulate": simulate,
+	"mint": mint, "record": record, "fill": fill, "scale": scale, "group": group, "simulate": simulate,
 }
 
 func main() {
 	if len(os.Args) < 2 || commands[os.Args[1]] == nil {
-		fmt.Fprintln(os.Stderr, "usage: svidbench mint|record|fill|scale|simulate [option..]")
+		fmt.Fprintln(os.Stderr, "usage: svidbench mint|record|fill|scale|group|simulate [option..]")
 		os.Exit(2)
 	}
 	f := flag.NewFlagSet("svidbench "+os.Args[1], flag.ExitOnError)

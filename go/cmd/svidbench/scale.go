@@ -17,25 +17,24 @@ import (
 	"sync/atomic"
 	"time"
 
-	"github.com/nats-io/nats.go"
-
 	"svid.example/go/v2/internal/broker"
 	"svid.example/go/v2/internal/issuer"
 )
 
 const (
 	patience = 2 * time.Minute
-	inFlight = 32 // tokens that are sent at a time
-	bucket   = "svid"
+	inFlight = 32     // tokens that are sent at a time
+	bucket   = "svid" // the name of the group
 )
 
-// scale runs a group on this machine, sends tokens to all members but one, which only hears, and prints a row of what
-// one token costs.
+// scale runs a group on this machine, sends tokens to all members but one, which only hears of them, or in mode strict of nothing, and
+// prints a row of what one token costs.
 func scale(f *flag.FlagSet, args []string) error {
 	svidd := f.String("svidd", "", "the program")
 	members := f.Int("members", 3, "how many sidecars")
 	mode := f.String("mode", "once", "of the sidecars")
-	uses := f.Int("uses", 50_000, "in the bucket before")
+	store := f.String("store", "nats", "of mode strict: nats, redis or postgres")
+	uses := f.Int("uses", 50_000, "in the bucket or the store before")
 	n := f.Int("tokens", 5_000, "to send")
 	f.Parse(args)
 	dir, err := os.MkdirTemp("", "svid-scale-")
@@ -45,7 +44,11 @@ func scale(f *flag.FlagSet, args []string) error {
 	defer os.RemoveAll(dir)
 	g := &scaled{dir: dir, svidd: *svidd, mode: *mode}
 	defer g.end()
-	if err := g.begin(*members, *uses); err != nil {
+	kind := "nats"
+	if g.mode == "strict" {
+		kind = *store
+	}
+	if err := g.begin(kind, *members, *uses); err != nil {
 		return err
 	}
 	return g.measure(*n)
@@ -55,7 +58,8 @@ func scale(f *flag.FlagSet, args []string) error {
 type scaled struct {
 	dir, svidd, mode, bundle string
 
-	broker  *broker.Server
+	server  server
+	url     string // of the server
 	issuer  *issuer.Issuer
 	members []*member
 	client  http.Client
@@ -67,7 +71,7 @@ type member struct {
 	run     *exec.Cmd
 }
 
-func (g *scaled) begin(members, uses int) (err error) {
+func (g *scaled) begin(kind string, members, uses int) (err error) {
 	g.client.Transport = &http.Transport{MaxIdleConnsPerHost: inFlight}
 	g.bundle = filepath.Join(g.dir, "bundle.json")
 	if g.issuer, err = issuer.New(domain); err != nil {
@@ -76,26 +80,14 @@ func (g *scaled) begin(members, uses int) (err error) {
 	if err := os.WriteFile(g.bundle, g.issuer.JWKSet(), 0o600); err != nil {
 		return err
 	}
-	store := filepath.Join(g.dir, "nats")
-	if err := os.Mkdir(store, 0o700); err != nil {
+	if g.server, g.url, err = startServer(kind, g.dir); err != nil {
 		return err
 	}
-	if g.broker, err = broker.New(store); err != nil {
-		return err
+	filled := fillBucket
+	if g.mode == "strict" {
+		filled = fillStore
 	}
-	if err := g.broker.Start(); err != nil {
-		return err
-	}
-	err = await("the broker", func() error {
-		if !g.broker.Answers() {
-			return errors.New("no answer")
-		}
-		return nil
-	})
-	if err != nil {
-		return err
-	}
-	if err := fillBucket(g.broker.URL, bucket, uses, 1); err != nil {
+	if err := filled(g.url, bucket, uses, 1); err != nil {
 		return err
 	}
 	for len(g.members) < members {
@@ -118,9 +110,13 @@ func (g *scaled) start() error {
 		return err
 	}
 	m := &member{address: fmt.Sprintf("127.0.0.1:%d", ports[0])}
+	shared := "--nats"
+	if g.mode == "strict" {
+		shared = "--store"
+	}
 	m.run = exec.Command(g.svidd, "serve", "--audience", audience, "--bundle", domain+"="+g.bundle, "--longest", fmt.Sprint(longest),
 		"--listen", m.address, "--state", filepath.Join(g.dir, fmt.Sprint("state-", len(g.members))), "--replay", g.mode,
-		"--nats", g.broker.URL, "--group", bucket, "--log", "errors")
+		shared, g.url, "--group", bucket, "--log", "errors")
 	m.run.Stderr = os.Stderr
 	if err := m.run.Start(); err != nil {
 		return err
@@ -144,14 +140,14 @@ func (g *scaled) end() {
 		m.run.Process.Kill()
 		m.run.Wait()
 	}
-	if g.broker != nil {
-		g.broker.Kill()
+	if g.server != nil {
+		g.server.Kill()
 	}
 }
 
 // A reading is what was used of the processor so far, by process.
 type reading struct {
-	heard, accepting, broker time.Duration
+	heard, accepting, server time.Duration
 	received                 float64 // bytes that the sidecar which only hears read from its connections
 }
 
@@ -167,7 +163,7 @@ func (g *scaled) read() (r reading, err error) {
 			r.accepting += used
 		}
 	}
-	if r.broker, err = cpu(g.broker.Pid()); err != nil {
+	if r.server, err = cpuOfAll(g.server.Pid()); err != nil {
 		return r, err
 	}
 	text, err := os.ReadFile(fmt.Sprintf("/proc/%d/io", g.members[0].run.Process.Pid))
@@ -178,26 +174,8 @@ func (g *scaled) read() (r reading, err error) {
 	return r, err
 }
 
-// inBucket is how many values the bucket has, and how many bytes they take there.
-func (g *scaled) inBucket() (values, bytes float64, err error) {
-	nc, err := nats.Connect(g.broker.URL)
-	if err != nil {
-		return 0, 0, err
-	}
-	defer nc.Close()
-	js, err := nc.JetStream()
-	if err != nil {
-		return 0, 0, err
-	}
-	info, err := js.StreamInfo("KV_" + bucket)
-	if err != nil {
-		return 0, 0, err
-	}
-	return float64(info.State.Msgs), float64(info.State.Bytes), nil
-}
-
-// toldAll is nil once the accepting members have told the group of so many uses, or claimed them, and the first member
-// has heard of all that is in the bucket.
+// toldAll is nil once the accepting members have told the group of so many uses, and the first member has heard of all that is in the
+// bucket; or once they have claimed so many.
 func (g *scaled) toldAll(uses int) error {
 	told := 0.0
 	for _, m := range g.members[1:] {
@@ -209,15 +187,20 @@ func (g *scaled) toldAll(uses int) error {
 			told += n
 		}
 	}
-	heard, err := g.metric(g.members[0], "svidd_messages_taken_total")
-	if err != nil {
-		return err
+	heard, values := 0.0, 0.0
+	if g.mode != "strict" {
+		var err error
+		if heard, err = g.metric(g.members[0], "svidd_messages_taken_total"); err != nil {
+			return err
+		}
+		if values, _, err = g.held(); err != nil {
+			return err
+		}
 	}
-	values, _, err := g.inBucket()
-	if err == nil && (int(told) < uses || heard < values) {
-		err = fmt.Errorf("%.0f uses told, and %.0f of %.0f values heard", told, heard, values)
+	if int(told) < uses || heard < values {
+		return fmt.Errorf("%.0f uses told or claimed, and %.0f of %.0f values heard", told, heard, values)
 	}
-	return err
+	return nil
 }
 
 // measure sends n tokens, and prints the row.
@@ -227,7 +210,7 @@ func (g *scaled) measure(n int) error {
 	if err != nil {
 		return err
 	}
-	valuesBefore, bytesBefore, err := g.inBucket()
+	valuesBefore, bytesBefore, err := g.held()
 	if err != nil {
 		return err
 	}
@@ -249,7 +232,7 @@ func (g *scaled) measure(n int) error {
 	if err != nil {
 		return err
 	}
-	// Another one, with all of it to read. It is a member from here on.
+	// Another one, in mode once with all of it to read. It is a member from here on.
 	from = time.Now()
 	if err := g.start(); err != nil {
 		return err
@@ -258,7 +241,7 @@ func (g *scaled) measure(n int) error {
 		return err
 	}
 	caughtUp := time.Since(from)
-	valuesAfter, bytesAfter, err := g.inBucket()
+	valuesAfter, bytesAfter, err := g.held()
 	if err != nil {
 		return err
 	}
@@ -267,7 +250,7 @@ func (g *scaled) measure(n int) error {
 	hear := each(after.heard - before.heard)
 	fmt.Printf("| %s | %d | %.0f | %.1f | %.1f | %.0f | %.1f | %.0f | %.1f | %.0f | %.0f | %.1f | %.0f | %.1f |\n", g.mode, members,
 		float64(n)/sending.Seconds(), percentile(took, 50), percentile(took, 99),
-		each(after.accepting-before.accepting)-float64(members-1)*hear, hear, each(after.broker-before.broker),
+		each(after.accepting-before.accepting)-float64(members-1)*hear, hear, each(after.server-before.server),
 		float64(n)/(valuesAfter-valuesBefore), (bytesAfter-bytesBefore)/float64(n), (after.received-before.received)/float64(n), float64(lag.Milliseconds())/1000, resident/1e6, caughtUp.Seconds())
 	return nil
 }
@@ -361,6 +344,20 @@ func cpu(pid int) (time.Duration, error) {
 		ticks += n
 	}
 	return time.Duration(ticks) * time.Second / hertz, nil
+}
+
+// cpuOfAll is that of a process and of all that it has started and that has not ended.
+func cpuOfAll(pid int) (time.Duration, error) {
+	all, err := cpu(pid)
+	if err != nil {
+		return 0, err
+	}
+	for _, started := range broker.Children(pid) {
+		if used, err := cpu(started); err == nil {
+			all += used
+		}
+	}
+	return all, nil
 }
 
 // await tries until it goes well, or patience ends.

@@ -33,7 +33,7 @@ type model struct {
 	regions    int     // each with brokers of its own, which hear of the others' uses by one stream each
 }
 
-// simulate prints, for groups up to 1,000 sidecars and 100,000 acceptances a second, what is busy and how long a use is
+// simulate prints, for groups of mode once up to 1,000 sidecars and 100,000 acceptances a second, what is busy and how long a use is
 // on its way until a sidecar has heard of it.
 func simulate(f *flag.FlagSet, args []string) error {
 	m := model{}

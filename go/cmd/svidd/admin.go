@@ -58,6 +58,7 @@ func withdraw(args []string, std stdio) int {
 	var gone struct {
 		Key     string
 		Exp     uint64
+		UsedBy  string `json:"used_by"`
 		Warning string
 	}
 	if err := json.Unmarshal(answer, &gone); err != nil {
@@ -67,6 +68,9 @@ func withdraw(args []string, std stdio) int {
 		fmt.Fprintf(std.err, "svidd: warning: %s\n", gone.Warning)
 	}
 	fmt.Fprintf(std.out, "withdrawn %s %d\n", gone.Key, gone.Exp)
+	if gone.UsedBy != "" {
+		fmt.Fprintf(std.out, "used by %s\n", gone.UsedBy)
+	}
 	return exitYes
 }
 
@@ -98,46 +102,6 @@ func report(args []string, std stdio) int {
 	}
 	if _, err := io.WriteString(std.out, text); err != nil {
 		return fail(std, err)
-	}
-	return exitYes
-}
-
-// resume says what a sidecar risks that goes on though values of the group's bucket are missing, and lets it.
-func resume(args []string, std stdio) int {
-	var socket string
-	var anyway bool
-	f := flagsOf("resume", func(f *flag.FlagSet) {
-		f.StringVar(&socket, "admin", "", "")
-		f.BoolVar(&anyway, "anyway", false, "")
-	})
-	f.SetOutput(std.err)
-	if err := parse(f, &options{}, args); err != nil {
-		return fail(std, err)
-	}
-	if socket == "" || f.NArg() > 0 {
-		return fail(std, errors.New("resume wants --admin, and no argument"))
-	}
-	method := http.MethodGet
-	if anyway {
-		method = http.MethodPost
-	}
-	answer, err := ask(socket, method, "/resume", nil)
-	if err != nil {
-		return fail(std, err)
-	}
-	var missing server.Missing
-	if err := json.Unmarshal(answer, &missing); err != nil {
-		return fail(std, err)
-	}
-	switch {
-	case missing.Until == 0:
-		fmt.Fprintln(std.out, "no values are missing: the sidecar accepts tokens")
-	case !anyway:
-		fmt.Fprintf(std.out, "values of the bucket are missing, and the sidecar accepts nothing until %d\n"+
-			"if it goes on before, a token that one of them claims can be accepted a second time: svidd resume --anyway\n", missing.Until)
-		return exitRefused
-	default:
-		fmt.Fprintf(std.out, "resumed: until %d a token that a missing value claims can be accepted a second time\n", missing.Until)
 	}
 	return exitYes
 }

@@ -103,22 +103,15 @@ func usable(dir string) error {
 	return nil
 }
 
-// serverWait is how long --check-config waits for the servers of the group's log.
+// serverWait is how long --check-config waits for the servers of the group.
 const serverWait = 2 * time.Second
 
 // usualPorts are those of servers whose addresses name none.
 var usualPorts = map[string]string{"NATS": "4222", "Redis": "6379", "PostgreSQL": "5432"}
 
-// serverWarnings says which servers of the group's log can't be reached now. They may come later.
+// serverWarnings says which servers of the group can't be reached now. They may come later.
 func (o *options) serverWarnings() (warnings problems) {
-	addresses := o.servers()
-	kind, _ := o.carrierOf()
-	if kind == "" {
-		kind = "NATS"
-	}
-	if kind != "NATS" {
-		addresses = o.logs
-	}
+	addresses := append(o.servers(), o.stores...)
 	faults := make([]error, len(addresses))
 	at := make([]string, len(addresses))
 	ctx, cancel := context.WithTimeout(context.Background(), serverWait)
@@ -134,7 +127,7 @@ func (o *options) serverWarnings() (warnings problems) {
 		}
 		port := u.Port()
 		if port == "" {
-			port = usualPorts[kind]
+			port = usualPorts[schemes[u.Scheme]]
 		}
 		at[i] = net.JoinHostPort(u.Hostname(), port) // (without a password)
 		all.Add(1)
@@ -149,7 +142,7 @@ func (o *options) serverWarnings() (warnings problems) {
 	}
 	all.Wait()
 	for i, err := range faults {
-		warnings.wrong(err != nil, "nothing answers at %s, a server of the group's log: %v", at[i], err)
+		warnings.wrong(err != nil, "nothing answers at %s, a server of the group: %v", at[i], err)
 	}
 	return warnings
 }

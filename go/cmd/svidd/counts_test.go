@@ -10,11 +10,6 @@ import (
 	"sync/atomic"
 	"syscall"
 	"testing"
-	"time"
-
-	"github.com/nats-io/nats.go"
-
-	"svid.example/go/v2/internal/natstest"
 )
 
 // What stands on the command line counts before the environment, and that before a file.
@@ -56,30 +51,6 @@ func TestTheStateFolderHasTheValidatorID(t *testing.T) {
 	}
 	if status, out, err := here("", "report", "--admin", admin); status != 0 || strings.Count(out, " "+id+" ") != 2 {
 		t.Errorf("%d %q %q", status, out, err)
-	}
-	p.end()
-}
-
-// The bucket keeps a claim for as long as any sidecar may accept its token: the longest life, by clocks that may both be off.
-func TestTheBucketKeepsClaimsAsLongAsTokensLive(t *testing.T) {
-	t.Parallel()
-	server := natstest.Start(t)
-	p := start(t, bundleOption(bundleFile(t, example)), "--replay", "strict", "--nats", server.URL, "--ahead", "20")
-	conn, err := nats.Connect(server.URL)
-	if err != nil {
-		t.Fatal(err)
-	}
-	defer conn.Close()
-	js, err := conn.JetStream()
-	if err != nil {
-		t.Fatal(err)
-	}
-	info, err := js.StreamInfo("KV_svid")
-	if err != nil {
-		t.Fatal(err)
-	}
-	if want := (3600 + 2*20) * time.Second; info.Config.MaxAge != want {
-		t.Errorf("it keeps them for %v, and %v are due", info.Config.MaxAge, want)
 	}
 	p.end()
 }

@@ -13,6 +13,9 @@ import (
 	"os"
 	"os/exec"
 	"path/filepath"
+	"reflect"
+	"regexp"
+	"sort"
 	"strings"
 	"testing"
 	"time"
@@ -102,6 +105,62 @@ func TestComposeFile(t *testing.T) {
 				t.Errorf("%s: %v", name, err)
 			}
 		}
+	}
+}
+
+// subjects are those of NATS that a file names: what a member may publish, and what it may subscribe.
+func subjects(t *testing.T, file string) (publish, subscribe []string) {
+	t.Helper()
+	text, err := os.ReadFile(file)
+	if err != nil {
+		t.Fatal(err)
+	}
+	commented := regexp.MustCompile(`(?m)^ *#.*$`).ReplaceAllString(string(text), "")
+	found := regexp.MustCompile(`publish: \{ allow: \[([^\]]*)\] \}\s*subscribe: \{ allow: \[([^\]]*)\] \}`).FindStringSubmatch(commented)
+	if found == nil {
+		t.Fatalf("%s has no rights", file)
+	}
+	var both [2][]string
+	for i := range both {
+		for _, name := range regexp.MustCompile(`"([^"]*)"`).FindAllStringSubmatch(found[i+1], -1) {
+			both[i] = append(both[i], name[1])
+		}
+		sort.Strings(both[i])
+	}
+	return both[0], both[1]
+}
+
+// What the files for NATS and Redis let a member do is what its store takes, and no more. go/claims tests that this is enough, and that
+// all of it is needed. nats.conf has the rights for a group of mode once, too.
+func TestRightsOfMembers(t *testing.T) {
+	t.Parallel()
+	publish, subscribe := subjects(t, "../../claims/nats/permissions.conf")
+	if got, read := subjects(t, "../../deploy/kubernetes/nats/nats.conf"); !reflect.DeepEqual(got, publish) || !reflect.DeepEqual(read, subscribe) {
+		t.Errorf("kubernetes/nats/nats.conf: %q %q", got, read)
+	}
+	publish = append(publish, "$KV.svid.>", "svid.svid.summary", "_INBOX.svid.svid.answer.>", "$JS.API.INFO", "$JS.API.STREAM.INFO.KV_svid",
+		"$JS.API.STREAM.CREATE.KV_svid", "$JS.API.STREAM.MSG.GET.KV_svid", "$JS.API.CONSUMER.CREATE.KV_svid", "$JS.FC.KV_svid.>")
+	subscribe = append(subscribe, "svid.svid.summary")
+	sort.Strings(publish)
+	sort.Strings(subscribe)
+	if got, read := subjects(t, "../../deploy/nats.conf"); !reflect.DeepEqual(got, publish) || !reflect.DeepEqual(read, subscribe) {
+		t.Errorf("nats.conf: %q %q", got, read)
+	}
+	rights := func(file, pattern string) string {
+		t.Helper()
+		text, err := os.ReadFile(file)
+		if err != nil {
+			t.Fatal(err)
+		}
+		found := regexp.MustCompile(pattern).FindStringSubmatch(string(text))
+		if found == nil {
+			t.Fatalf("%s has no rights", file)
+		}
+		return strings.NewReplacer("GROUP", "svid", "'", "").Replace(found[1])
+	}
+	due := rights("../../../docs/STORES.md", `(?m)^ACL SETUSER member on >secret (.*)$`)
+	if got := rights("../../deploy/kubernetes/redis/redis.yaml", `"user svidd on >\$PASSWORD ([^"]*)"`); got != due {
+		t.Errorf("redis.yaml: %s\nis due: %s", got, due)
 	}
 }
 
@@ -349,7 +408,7 @@ func TestEnvoyListener(t *testing.T) {
 			t.Errorf("%s %s again: %d %v %q", method, path, answer.StatusCode, answer.Header, body)
 		}
 	}
-	if answer, _ := send("GET", "/", ""); answer.StatusCode != 401 || answer.Header.Get("WWW-Authenticate") != "Bearer" {
+	if answer, _ := send("GET", "/", ""); answer.StatusCode != 401 || answer.Header.Get("WWW-Authenticate") != `Bearer realm="svid"` {
 		t.Errorf("no token: %d %v", answer.StatusCode, answer.Header)
 	}
 	p.end()

@@ -64,8 +64,8 @@ func TestEnvoyAsksByGRPC(t *testing.T) {
 			challenge, because string
 		}{
 			"used before":    {[]string{"authorization", "Bearer " + good}, 16, 401, `Bearer error="invalid_token", error_description="Replayed"`, "Replayed"},
-			"no token":       {[]string{"cookie", "Bearer " + good}, 16, 401, "Bearer", "NoToken"},
-			"another scheme": {[]string{"authorization", "Basic YQ=="}, 16, 401, `Bearer error="invalid_request", error_description="NotBearer"`, "NotBearer"},
+			"no token":       {[]string{"cookie", "Bearer " + good}, 16, 401, `Bearer realm="svid"`, "NoToken"},
+			"another scheme": {[]string{"authorization", "Basic YQ=="}, 16, 401, `Bearer realm="svid"`, "NotBearer"},
 			"two tokens":     {[]string{"authorization", "Bearer " + token(t, "b", lasting) + ",Bearer " + token(t, "c", lasting)}, 16, 401, `Bearer error="invalid_request", error_description="NotBearer"`, "NotBearer"},
 			"two fields":     {[]string{"authorization", "Bearer " + token(t, "d", lasting), "Authorization", "Bearer x"}, 16, 401, `Bearer error="invalid_request", error_description="NotBearer"`, "NotBearer"},
 			"another caller": {[]string{"authorization", "Bearer " + other}, 7, 403, `Bearer error="insufficient_scope", error_description="NotAllowed"`, "NotAllowed"},
@@ -114,6 +114,7 @@ func TestEnvoyListenerOverGRPC(t *testing.T) {
 		"grpc_service:map[envoy_grpc:map[cluster_name:svidd] timeout:5s]": {false, true}, "transport_api_version:V3": {false, true},
 		"explicit_http_config:map[http2_protocol_options:map[]]": {false, true}, "port_value:9903": {false, true},
 		"retry_policy": {false, false}, "with_request_body": {false, false}, "encode_raw_headers": {false, false},
+		"connect_matcher": {false, false}, "upgrade_configs": {false, false}, "enable_trailers": {false, false},
 	} {
 		for i := range files {
 			if strings.Contains(files[i], what) != in[i] {
@@ -127,7 +128,7 @@ func TestEnvoyListenerOverGRPC(t *testing.T) {
 func TestEnvoyHearsThatATokenCannotBeJudged(t *testing.T) {
 	t.Parallel()
 	address := freeAddress(t)
-	p := prepare(t, nil, "--envoy", address, "--replay", "strict", "--nats", "nats://"+freeAddress(t), bundleOption(bundleFile(t, example)))
+	p := prepare(t, nil, "--envoy", address, "--replay", "strict", "--store", "redis://"+freeAddress(t), bundleOption(bundleFile(t, example)))
 	p.launch()
 	p.await("an answer", func() bool { status, _ := p.get("/healthz"); return status == http.StatusOK })
 	a := envoytest.Start(t, address).Check(t, "", "authorization", "Bearer "+token(t, "a", lasting))

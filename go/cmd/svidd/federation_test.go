@@ -1,6 +1,7 @@
 package main
 
 import (
+	"bufio"
 	"crypto/tls"
 	"encoding/base64"
 	"encoding/json"
@@ -136,5 +137,52 @@ func TestCheckConfigReadsTheAuthorities(t *testing.T) {
 		if isGood := status == 0 && out == "svidd: the options are good\n"; isGood != (row.want == "") || !strings.Contains(said, row.want) {
 			t.Errorf("%q: %d %q %q", row.args, status, out, said)
 		}
+	}
+}
+
+// One answer of an endpoint, however long, costs one short line of the log, and the log goes on.
+func TestALongAnswerOfAnEndpoint(t *testing.T) {
+	t.Parallel()
+	dir := t.TempDir()
+	ca, cert, key := logtest.Certificate(t, dir, "")
+	pair, err := tls.LoadX509KeyPair(cert, key)
+	if err != nil {
+		t.Fatal(err)
+	}
+	l, err := tls.Listen("tcp", "127.0.0.1:0", &tls.Config{Certificates: []tls.Certificate{pair}})
+	if err != nil {
+		t.Fatal(err)
+	}
+	defer l.Close()
+	long, endless := strings.Repeat("x", 60_000), strings.Repeat("x", 3<<20)
+	answers := []string{"HTTP/1.1 404 " + long, "HTTP/1.1 302 Found\r\nLocation: http://elsewhere/" + long, "HTTP/1.1 404 " + endless}
+	go func() {
+		for n := 0; ; n++ {
+			conn, err := l.Accept()
+			if err != nil {
+				return
+			}
+			if _, err := http.ReadRequest(bufio.NewReader(conn)); err == nil {
+				_, _ = io.WriteString(conn, answers[n%len(answers)]+"\r\nContent-Length: 0\r\nConnection: close\r\n\r\n")
+			}
+			conn.Close()
+		}
+	}()
+	p := start(t, bundleOption(bundleFile(t, example)), "--replay=reuse", "--bundle=other.example=https://"+l.Addr().String(), "--bundle-ca=other.example="+ca)
+	for _, want := range []string{"it answers 404 xxx", "it leads to http://elsewhere/xxx", "server response headers exceeded"} {
+		p.await(want, func() bool { return strings.Contains(p.log.String(), want) })
+		if err := p.signal(syscall.SIGHUP); err != nil { // (so it is asked again)
+			t.Fatal(err)
+		}
+	}
+	p.want(token(t, "long answer", lasting), 200, "")
+	p.await("the line of a token", func() bool { return len(p.events("accepted")) == 1 })
+	for _, line := range strings.Split(p.log.String(), "\n") {
+		if len(line) > 8192 {
+			t.Errorf("a line of %d bytes: %.200s", len(line), line)
+		}
+	}
+	if _, metrics := p.get("/metrics"); !strings.Contains(metrics, "\nsvidd_log_lines_dropped_total 0\n") {
+		t.Error("lines were dropped")
 	}
 }

@@ -7,8 +7,6 @@ import (
 	"math/rand"
 	"net"
 	"net/http"
-	"os"
-	"os/exec"
 	"path/filepath"
 	"sort"
 	"strings"
@@ -25,7 +23,7 @@ import (
 	"svid.example/go/v2/svid"
 )
 
-// several starts n sidecars of a group.
+// several starts n sidecars of a group: of mode once with a log in NATS, and else with a store.
 func several(t *testing.T, n int, mode, urls string, more ...string) []*process {
 	t.Helper()
 	bundle := bundleOption(bundleFile(t, example))
@@ -34,9 +32,14 @@ func several(t *testing.T, n int, mode, urls string, more ...string) []*process 
 		more = append(more[:len(more):len(more)], "--wait", "15s") // (a busy machine may be slow)
 	}
 	for i := range all {
-		args := []string{bundle, "--replay", mode, "--nats", urls, "--log", "errors", "--admin", filepath.Join(t.TempDir(), "admin.sock")}
+		args := []string{bundle, "--replay", mode, "--log", "errors", "--admin", filepath.Join(t.TempDir(), "admin.sock")}
 		if mode == "once" {
-			args = append(args, "--state", filepath.Join(t.TempDir(), "state"))
+			args = append(args, "--nats", urls, "--state", filepath.Join(t.TempDir(), "state"))
+		}
+		for _, url := range strings.Split(urls, ",") {
+			if mode != "once" {
+				args = append(args, "--store", url)
+			}
 		}
 		all[i] = start(t, append(args, more...)...)
 	}
@@ -161,15 +164,18 @@ func TestStrictAcceptsOnceInTheWholeGroup(t *testing.T) {
 		t.Errorf("accepted %s; unjudged %s", got, count(unjudged))
 	}
 	t.Logf("%d tokens to 3 sidecars at once: accepted %s, not judged %s", n, count(accepted), count(unjudged))
-	// Each sidecar has claimed by a validator ID of its own, and the first claims are in all records.
-	ids := map[string]bool{}
-	for _, line := range strings.Split(equalRecords(t, all), "\n") {
-		if words := strings.Fields(line); len(words) == 4 {
-			ids[words[2]] = true
+	// Each sidecar keeps its own uses alone.
+	uses := 0
+	for _, p := range all {
+		p.await("the uses to be counted", func() bool { return p.metric("svidd_record_uses") == p.metric(`svidd_claims_total{outcome="won"}`) })
+		var own int
+		if _, err := fmt.Sscan(p.metric("svidd_record_uses"), &own); err != nil {
+			t.Fatal(err)
 		}
+		uses += own
 	}
-	if len(ids) != len(all) {
-		t.Errorf("the uses are of %d validators", len(ids))
+	if uses != n {
+		t.Errorf("the records have %d uses", uses)
 	}
 }
 
@@ -270,11 +276,11 @@ func TestTheBrokerIsAway(t *testing.T) {
 	})
 }
 
-// What others write to the bucket is put aside where it is no use of a token or too far ahead, and nobody is accepted by it.
+// What others write to the bucket of mode once is put aside where it is no use of a token or too far ahead.
 func TestAMemberThatLies(t *testing.T) {
 	t.Parallel()
 	server := natstest.Start(t)
-	p := several(t, 1, "strict", server.URL)[0]
+	p := several(t, 1, "once", server.URL)[0]
 	kv := bucket(t, server.URL)
 	far := svid.Use{Key: svid.TokenKey{1}, Expires: ^uint64(0), At: ^uint64(0) - 1}
 	for name, value := range map[string][]byte{"u.far": batchOf(far), "u.garbage": make([]byte, 900_000), "u.empty": {}} {
@@ -283,17 +289,8 @@ func TestAMemberThatLies(t *testing.T) {
 		}
 	}
 	p.await("two values aside", func() bool { return p.metric("svidd_messages_aside_total") == "2" })
-	// Someone claims a token before it comes, by a value that is from too far ahead.
-	victim := token(t, "victim", lasting)
-	admin := p.option("--admin")
-	claim := svid.Use{Key: keyOf(t, victim), Expires: svid.Now() + 7200, At: svid.Now() + 3600}
-	if _, err := kv.Create("c.liar.1", batchOf(claim)); err != nil {
-		t.Fatal(err)
-	}
-	p.await("the claim aside", func() bool { return p.metric("svidd_messages_aside_total") == "3" })
-	p.want(victim, 401, "Replayed")
 	p.want(token(t, "other", lasting), 200, "")
-	if status, _, err := here("", "report", "--admin", admin); status != 0 {
+	if status, _, err := here("", "report", "--admin", p.option("--admin")); status != 0 {
 		t.Error(err)
 	}
 }
@@ -323,243 +320,68 @@ func bucket(t *testing.T, url string) nats.KeyValue {
 	return kv
 }
 
-// loseFirst lets the bucket lose all values but the last.
-func loseFirst(t *testing.T, p *process, url string) {
-	t.Helper()
-	js := stream(t, url)
-	info, err := js.StreamInfo("KV_svid")
-	if err != nil {
+// A store that lost its entries accepts no token that may have been used before, at any sidecar, also one that starts later. The others
+// are accepted.
+func TestAStoreThatIsEmptied(t *testing.T) {
+	t.Parallel()
+	server, url := stores["Redis"](t)
+	redis := server.(*broker.Redis)
+	first := members(t, 1, url, "--wait", "10s")[0]
+	used := token(t, "used", 30*time.Minute)
+	first.want(used, 200, "")
+	if _, err := redis.Do("FLUSHALL"); err != nil {
 		t.Fatal(err)
 	}
-	before := info.Config
-	fewer := before
-	fewer.MaxMsgs = 1
-	if _, err := js.UpdateStream(&fewer); err != nil {
-		t.Fatal(err)
-	}
-	p.await("a value to go", func() bool {
-		info, err := js.StreamInfo("KV_svid")
-		return err == nil && info.State.Msgs == 1
+	first.await("the loss", func() bool { return first.metric("svidd_store_epochs_total") != "0" })
+	later := prepare(t, nil, bundleOption(bundleFile(t, example)), "--replay", "strict", "--store", url, "--log", "errors", "--wait", "10s")
+	later.launch()
+	later.await("the store", func() bool {
+		_, why := later.get("/readyz")
+		return strings.Contains(why, "no token is accepted that expires before")
 	})
-	if _, err := js.UpdateStream(&before); err != nil {
-		t.Fatal(err)
+	first.want(used, 401, "Replayed") // by its own record
+	later.want(used, 503, "EntriesLost")
+	until := first.metric("svidd_store_deaf_until_timestamp_seconds")
+	if got := later.metric("svidd_store_deaf_until_timestamp_seconds"); got != until || until == "0" {
+		t.Errorf("one accepts nothing until %s, and the other until %s", until, got)
+	}
+	if lines := first.events("epoch"); len(lines) == 0 || fmt.Sprintf("%.0f", lines[0]["until"]) != until {
+		t.Errorf("the log says %v", lines)
 	}
 }
 
-// A sidecar that has missed values of the bucket accepts nothing until they must have expired, or an operator lets it go on. One
-// that has read them accepts tokens all the while.
-func TestValuesThatAreMissing(t *testing.T) {
+// A state folder in mode strict has what this sidecar accepted, so a token of an earlier life is refused though the store is gone.
+func TestAStateFolderBesideAStore(t *testing.T) {
 	t.Parallel()
-	server := natstest.Start(t)
-	first := several(t, 1, "strict", server.URL)[0]
-	lost := token(t, "lost", 30*time.Minute)
-	first.want(lost, 200, "")
-	first.want(token(t, "kept", 30*time.Minute), 200, "")
-	loseFirst(t, first, server.URL)
-	second := prepare(t, nil, bundleOption(bundleFile(t, example)), "--replay", "strict", "--nats", server.URL, "--log", "errors",
-		"--admin", filepath.Join(t.TempDir(), "admin.sock"))
-	second.launch()
-	second.await("the bucket", func() bool {
-		_, why := second.get("/readyz")
-		return strings.Contains(why, "svidd resume")
-	})
-	second.await("the rest of the bucket", func() bool {
-		_, _, body := second.check(lost)
-		return !strings.Contains(body, "NotReady")
-	})
-	if n := second.metric("svidd_log_gaps_total"); n != "1" {
-		t.Errorf("%s gaps", n)
-	}
-	resume := func(p *process, more ...string) (int, string) {
-		status, out, errors := here("", append([]string{"resume", "--admin", p.option("--admin")}, more...)...)
-		if errors != "" {
-			t.Errorf("resume: %s", errors)
-		}
-		return status, out
-	}
-	second.want(lost, 503, "ValuesMissing")
-	if status, out := resume(second); status != 1 || !strings.Contains(out, "a second time") {
-		t.Errorf("resume: %d %q", status, out)
-	}
-	second.want(token(t, "another", lasting), 503, "ValuesMissing")
-	first.want(token(t, "third", lasting), 200, "")
-	if status, out := resume(first); status != 0 || !strings.Contains(out, "no values are missing") {
-		t.Errorf("resume: %d %q", status, out)
-	}
-	if status, out := resume(second, "--anyway"); status != 0 || !strings.HasPrefix(out, "resumed: until ") {
-		t.Errorf("resume: %d %q", status, out)
-	}
-	// That is the risk: nothing in the bucket names the token any more.
-	second.want(lost, 200, "")
-	if status, out := resume(second, "--anyway"); status != 0 || !strings.Contains(out, "no values are missing") {
-		t.Errorf("resume: %d %q", status, out)
-	}
-}
-
-// A state folder is given to the record behind the bucket. What the bucket has lost it still has. And since it says that the bucket
-// had more, the sidecar accepts nothing until an operator lets it go on.
-func TestAStateFolderBesideABucket(t *testing.T) {
-	t.Parallel()
-	server := natstest.Start(t)
-	p := several(t, 1, "strict", server.URL, "--state", filepath.Join(t.TempDir(), "state"))[0]
-	one, two := token(t, "one", 30*time.Minute), token(t, "two", 30*time.Minute)
+	server, url := stores["Redis"](t)
+	p := members(t, 1, url, "--state", filepath.Join(t.TempDir(), "state"), "--wait", "10s")[0]
+	one := token(t, "one", 30*time.Minute)
 	p.want(one, 200, "")
 	p.end()
-	if err := stream(t, server.URL).DeleteStream("KV_svid"); err != nil {
+	if _, err := server.(*broker.Redis).Do("FLUSHALL"); err != nil {
 		t.Fatal(err)
 	}
-	p.launch()
-	p.awaitGap()
+	p.start()
 	p.want(one, 401, "Replayed")
-	p.want(two, 503, "ValuesMissing")
-	p.resume("--anyway")
-	for n := 1; n < 3; n++ {
-		p.want(one, 401, "Replayed")
-		if n == 1 {
-			p.want(two, 200, "")
-		}
-		p.want(two, 401, "Replayed")
-		p.await("the uses to be counted", func() bool { return p.metric("svidd_record_uses") == "2" })
-		p.kill()
-		p.start()
-	}
+	p.want(token(t, "two", 30*time.Minute), 200, "")
 }
 
-// awaitGap waits until a sidecar of mode strict has read all, and accepts nothing, since values are missing.
-func (p *process) awaitGap() {
-	p.t.Helper()
-	p.await("a gap", func() bool {
-		_, why := p.get("/readyz")
-		_, _, body := p.check(token(p.t, "any", lasting))
-		return strings.Contains(why, "svidd resume") && strings.Contains(body, "ValuesMissing")
-	})
-}
-
-// resume lets a sidecar go on behind a gap.
-func (p *process) resume(more ...string) (status int, out string) {
-	p.t.Helper()
-	status, out, errors := svidd(p.t, "", append([]string{"resume", "--admin", p.option("--admin")}, more...)...)
-	if errors != "" {
-		p.t.Errorf("resume: %s", errors)
-	}
-	return status, out
-}
-
-// inBucket is what check-state says of the bucket.
-func (p *process) inBucket() string {
-	_, out, _ := svidd(p.t, "", "check-state", p.option("--state"))
-	for _, line := range strings.Split(out, "\n") {
-		if strings.HasPrefix(line, "bucket ") {
-			return line
-		}
-	}
-	return ""
-}
-
-// A gap outlives a kill, also where the bucket no longer shows it; and so does that an operator let the sidecar go on.
-func TestAGapOutlivesARestart(t *testing.T) {
+// The line of a token that another sidecar has says whose it is, and a withdrawal of it does too.
+func TestWhoHasAToken(t *testing.T) {
 	t.Parallel()
-	server := natstest.Start(t)
-	first := several(t, 1, "strict", server.URL)[0]
-	first.want(token(t, "lost", 30*time.Minute), 200, "")
-	first.want(token(t, "kept", 30*time.Minute), 200, "")
-	loseFirst(t, first, server.URL)
-	p := prepare(t, nil, bundleOption(bundleFile(t, example)), "--replay", "strict", "--nats", server.URL, "--log", "errors",
-		"--admin", filepath.Join(t.TempDir(), "admin.sock"), "--state", filepath.Join(t.TempDir(), "state"))
-	p.launch()
-	p.awaitGap()
-	until := p.metric("svidd_log_missed_until_timestamp_seconds")
-	want := ", and no token is accepted before " + until
-	p.await("the gap on the disk", func() bool { return p.inBucket() == "bucket read up to value 2"+want })
-	p.kill()
-	// Another bucket, which has as many values, and lacks none.
-	first.end()
-	if err := stream(t, server.URL).DeleteStream("KV_svid"); err != nil {
-		t.Fatal(err)
+	_, url := stores["Redis"](t)
+	all := members(t, 2, url, "--wait", "10s", "--log", "decisions")
+	one := token(t, "one", lasting)
+	all[0].want(one, 200, "")
+	all[1].want(one, 401, "Replayed")
+	id := fmt.Sprint(all[0].events("serving")[0]["validator_id"])
+	all[1].await("the line of the refusal", func() bool { return len(all[1].events("refused")) > 0 }) // (no request waits for the log)
+	if lines := all[1].events("refused"); len(lines) != 1 || lines[0]["used_by"] != id {
+		t.Errorf("the log says %v, and %s has it", lines, id)
 	}
-	other := several(t, 1, "strict", server.URL)[0]
-	for _, one := range tokens(t, "new", 3) {
-		other.want(one, 200, "")
-	}
-	for n := 0; n < 2; n++ {
-		p.launch()
-		p.awaitGap()
-		if got := p.metric("svidd_log_missed_until_timestamp_seconds"); got != until {
-			t.Errorf("behind a restart it accepts nothing until %s, and before that until %s", got, until)
-		}
-		if gaps := p.events("gap"); len(gaps) == 0 || fmt.Sprintf("%.0f", gaps[len(gaps)-1]["until"]) != until {
-			t.Errorf("the log says %v", gaps)
-		}
-		if n == 0 {
-			p.kill()
-		}
-	}
-	if status, out := p.resume("--anyway"); status != 0 || !strings.HasPrefix(out, "resumed: until ") {
-		t.Errorf("resume: %d %q", status, out)
-	}
-	p.want(token(t, "on", lasting), 200, "")
-	p.kill()
-	if got := p.inBucket(); strings.Contains(got, "no token") {
-		t.Errorf("once it goes on, the folder says: %s", got)
-	}
-	p.start()
-	p.want(token(t, "further", lasting), 200, "")
-}
-
-// A bucket that was put back from an older copy lacks what was put into it since. Who has a state folder sees that.
-func TestABucketThatIsPutBack(t *testing.T) {
-	t.Parallel()
-	dir := filepath.Join(t.TempDir(), "nats")
-	if err := os.Mkdir(dir, 0o700); err != nil {
-		t.Fatal(err)
-	}
-	server, err := broker.New(dir)
-	if err != nil {
-		t.Fatal(err)
-	}
-	t.Cleanup(server.Kill)
-	begin := func() {
-		t.Helper()
-		if err := server.Start(); err != nil {
-			t.Fatal(err)
-		}
-		natstest.Await(t, "JetStream", server.Answers)
-	}
-	begin()
-	p := several(t, 1, "strict", server.URL, "--state", filepath.Join(t.TempDir(), "state"))[0]
-	p.want(token(t, "before", 30*time.Minute), 200, "")
-	p.end()
-	server.Kill()
-	copied := filepath.Join(t.TempDir(), "copy")
-	copyAll(t, dir, copied)
-	begin()
-	p.start()
-	since := token(t, "since", 30*time.Minute)
-	p.want(since, 200, "")
-	p.await("the use on the disk", func() bool { return p.inBucket() == "bucket read up to value 2" })
-	p.kill()
-	server.Kill()
-	if err := os.RemoveAll(dir); err != nil {
-		t.Fatal(err)
-	}
-	copyAll(t, copied, dir)
-	begin()
-	p.launch()
-	p.awaitGap()
-	if gaps := p.events("gap"); len(gaps) != 1 || gaps[0]["behind"] != 1.0 || !strings.Contains(fmt.Sprint(gaps[0]["error"]), "an older copy") {
-		t.Errorf("the log says %v", gaps)
-	}
-	p.want(since, 401, "Replayed")
-	if until := p.metric("svidd_log_missed_until_timestamp_seconds"); !strings.HasSuffix(p.inBucket(), ", and no token is accepted before "+until) {
-		t.Errorf("the folder says %s, and it is until %s", p.inBucket(), until)
-	}
-}
-
-// copyAll copies a folder with all that is in it.
-func copyAll(t *testing.T, from, to string) {
-	t.Helper()
-	if out, err := exec.Command("cp", "-a", from, to).CombinedOutput(); err != nil {
-		t.Fatalf("%s %v", out, err)
+	status, out, err := here(one, "withdraw", "--admin", all[1].option("--admin"), "-")
+	if status != 0 || !strings.HasSuffix(out, "\nused by "+id+"\n") {
+		t.Errorf("%d %q %q", status, out, err)
 	}
 }
 

@@ -177,7 +177,7 @@ func TestWhatIsNoRegularFileForNATS(t *testing.T) {
 		t.Fatal(err)
 	}
 	defer socket.Close()
-	good := []string{bundleOption(bundleFile(t, example)), "--replay", "reuse", "--nats", "nats://127.0.0.1:1"}
+	good := []string{bundleOption(bundleFile(t, example)), "--replay", "reuse", "--store", "nats://127.0.0.1:1"}
 	for _, kind := range []string{"pipe", "folder", "socket"} {
 		for _, options := range [][]string{
 			{"--nats-creds", in(kind)}, {"--nats-ca", in(kind)}, {"--nats-cert", in(kind), "--nats-key", in(kind)},

@@ -299,7 +299,7 @@ func TestKubernetesManifests(t *testing.T) {
 			t.Errorf("the budget: %v", b.Spec.MaxUnavailable)
 		}
 		// The options are those of svidd, and the configurations those of the other programs.
-		t.Setenv("SVIDD_GROUP_LOG", map[string]string{"nats": "nats://svidd:a@nats-0.nats:4222,nats://svidd:a@nats-1.nats:4222", "redis": "redis://svidd:a@redis:6379"}[overlay])
+		t.Setenv("SVIDD_STORE", map[string]string{"nats": "nats://svidd:a@nats-0.nats:4222,nats://svidd:a@nats-1.nats:4222", "redis": "redis://svidd:a@redis:6379"}[overlay])
 		t.Setenv("SVIDD_REPLICAS", find(t, all, "ConfigMap", "svidd").Data["replicas"])
 		var args []string
 		for _, arg := range sidecar.Args {

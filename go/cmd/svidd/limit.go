@@ -1,6 +1,7 @@
 package main
 
 import (
+	"bytes"
 	"context"
 	"errors"
 	"net"
@@ -25,6 +26,7 @@ var errUnanswered = errors.New("the client sends more than a request may have")
 type bounded struct {
 	net.Listener
 	unwatched bool // The HTTP server does not watch its connections.
+	text      bool // They speak HTTP/1.
 }
 
 func (l bounded) Accept() (net.Conn, error) {
@@ -32,13 +34,15 @@ func (l bounded) Accept() (net.Conn, error) {
 	if err != nil {
 		return nil, err
 	}
-	return &boundedConn{Conn: c, unwatched: l.unwatched, reads: deadline{set: c.SetReadDeadline}, writes: deadline{set: c.SetWriteDeadline}}, nil
+	return &boundedConn{Conn: c, unwatched: l.unwatched, text: l.text, reads: deadline{set: c.SetReadDeadline}, writes: deadline{set: c.SetWriteDeadline}}, nil
 }
 
 type boundedConn struct {
 	net.Conn
 	unanswered    atomic.Int64 // bytes that were read since the last Write
 	unwatched     bool         // The HTTP server does not watch whether the client leaves while it waits for an answer.
+	text          bool         // The connection speaks HTTP/1.
+	asterisks     asterisks    // of text
 	reads, writes deadline
 }
 
@@ -55,9 +59,50 @@ func (c *boundedConn) Read(b []byte) (int, error) {
 		}
 		n, err := c.Conn.Read(b)
 		c.unanswered.Add(int64(n))
+		if c.text {
+			c.asterisks.replace(b[:n])
+		}
 		if n > 0 || err == nil || !errors.Is(err, os.ErrDeadlineExceeded) || c.reads.isOver() {
 			return n, err
 		}
+	}
+}
+
+// What a request for the server itself begins with (RFC 9110, section 9.3.7), and the same for a path.
+const (
+	optionsOfServer = "OPTIONS *"
+	optionsOfPath   = '/'
+)
+
+// asterisks make OPTIONS * a request for the path / in what a client sends, so that a handler answers it as it does any other path. The HTTP server
+// of Go 1.19 would answer 200 by itself, which here means that a token is good. (No other line of a request can begin so, since the name of a
+// header field has no blank. A later Go has http.Server.DisableGeneralOptionsHandler.)
+type asterisks struct {
+	seen int // how many bytes of that the line has, which has no others; -1 where it has
+}
+
+// replace changes the next bytes.
+func (a *asterisks) replace(text []byte) {
+	for len(text) > 0 {
+		if a.seen < 0 {
+			end := bytes.IndexByte(text, '\n')
+			if end < 0 {
+				return
+			}
+			text, a.seen = text[end+1:], 0
+			continue
+		}
+		switch b := text[0]; {
+		case a.seen == 0 && (b == '\r' || b == '\n'): // The HTTP server passes over some of them in front of a request.
+		case b != optionsOfServer[a.seen]:
+			a.seen = -1
+			continue // (it may be the end of the line)
+		case a.seen == len(optionsOfServer)-1:
+			text[0], a.seen = optionsOfPath, -1
+		default:
+			a.seen++
+		}
+		text = text[1:]
 	}
 }
 

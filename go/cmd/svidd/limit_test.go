@@ -16,6 +16,7 @@ import (
 	"testing"
 	"time"
 
+	"svid.example/go/v2/internal/broker"
 	"svid.example/go/v2/internal/natstest"
 	"svid.example/go/v2/internal/patience"
 )
@@ -134,6 +135,63 @@ func TestABodyIsNotWaitedFor(t *testing.T) {
 	}
 }
 
+// The HTTP server answers OPTIONS * by itself, and with 200, which means that a token is good. Here it is the path of a request as another one, however
+// its bytes come, and by whatever stands in front of it.
+func TestOptionsOfTheServer(t *testing.T) {
+	t.Parallel()
+	admin, metrics := filepath.Join(t.TempDir(), "admin.sock"), freeAddress(t)
+	p := start(t, bundleOption(bundleFile(t, example)), "--replay", "reuse", "--admin", admin, "--metrics", metrics)
+	const request = "OPTIONS * HTTP/1.1\r\nHost: a\r\nAuthorization: Bearer a.b.c\r\n\r\n"
+	for _, at := range [][2]string{{"tcp", p.address}, {"tcp", metrics}, {"unix", admin}} {
+		for _, before := range []string{"", "GET /check HTTP/1.1\r\nHost: a\r\n\r\n", "POST /other HTTP/1.1\r\nHost: a\r\n\r\n\r\n", "POST /other HTTP/1.0\nHost: a\nConnection: keep-alive\n\n\r\r"} {
+			for _, cut := range []int{0, 1, 8, 9, 10} {
+				c := p.dial(at[0], at[1], before+request[:cut])
+				r := bufio.NewReader(c)
+				if before != "" {
+					if got := p.answer(r); got.StatusCode == 200 || got.Close {
+						t.Fatalf("%s: %q: %d", at, before, got.StatusCode)
+					}
+				}
+				if _, err := io.WriteString(c, request[cut:]); err != nil {
+					t.Fatal(err)
+				}
+				if got := p.answer(r); got.StatusCode != 404 {
+					t.Errorf("%s: OPTIONS * behind %q, cut at %d: %d", at, before, cut, got.StatusCode)
+				}
+				c.Close()
+			}
+		}
+	}
+	// Nothing else is another request for that.
+	one := token(t, "options", lasting)
+	c := p.dial("tcp", p.address, "OPTIONS /check HTTP/1.1\r\nHost: a\r\nX: \"OPTIONS *\"\r\nX-Request-Id: OPTIONS_*\r\nAuthorization: Bearer "+one+"\r\n\r\n")
+	if got := p.answer(bufio.NewReader(c)); got.StatusCode != 200 || got.Header.Get("X-Spiffe-Id") == "" {
+		t.Errorf("OPTIONS /check: %d", got.StatusCode)
+	}
+}
+
+// Only what stands at the beginning of a line is changed, however it is cut.
+func TestAsterisks(t *testing.T) {
+	for text, want := range map[string]string{
+		"": "", "OPTIONS *": "OPTIONS /", "OPTIONS * HTTP/1.1\r\n\r\nOPTIONS * HTTP": "OPTIONS / HTTP/1.1\r\n\r\nOPTIONS / HTTP",
+		" OPTIONS *": " OPTIONS *", "GET *\r\n": "GET *\r\n", "OPTIONSOPTIONS *": "OPTIONSOPTIONS *", "OPTIONS  *": "OPTIONS  *",
+		"OPTION\nOPTIONS *": "OPTION\nOPTIONS /", "a: OPTIONS *\nOPTIONS *\n": "a: OPTIONS *\nOPTIONS /\n", "\r\n\r\rOPTIONS *": "\r\n\r\rOPTIONS /",
+		"a\rOPTIONS *": "a\rOPTIONS *", "OPTIONS ?\nOPTIONS *": "OPTIONS ?\nOPTIONS /", "options *": "options *", "OPTIONS /check/*": "OPTIONS /check/*",
+	} {
+		for first := 0; first <= len(text); first++ {
+			for second := first; second <= len(text); second++ {
+				got, lines := []byte(text), asterisks{}
+				lines.replace(got[:first])
+				lines.replace(got[first:second])
+				lines.replace(got[second:])
+				if string(got) != want {
+					t.Fatalf("%q, cut at %d and %d: %q, want %q", text, first, second, got, want)
+				}
+			}
+		}
+	}
+}
+
 // Many requests over one connection are no long one, also if they come before the answers are read.
 func TestManyRequestsOfOneConnection(t *testing.T) {
 	t.Parallel()
@@ -184,16 +242,21 @@ func TestALongBodyOfTheAdminSocket(t *testing.T) {
 	}
 }
 
-// A client that leaves takes back a claim that has no outcome yet.
+// A client that leaves takes back a claim that was not put yet.
 func TestAClientThatLeavesItsClaim(t *testing.T) {
 	t.Parallel()
-	broker := natstest.Start(t)
-	p := start(t, bundleOption(bundleFile(t, example)), "--replay", "strict", "--nats", broker.URL, "--wait", "1h")
-	if err := syscall.Kill(broker.Pid(), syscall.SIGSTOP); err != nil {
+	server, url := stores["Redis"](t)
+	redis := server.(*broker.Redis)
+	p := members(t, 1, url, "--wait", "1h")[0]
+	if err := syscall.Kill(redis.Pid(), syscall.SIGSTOP); err != nil {
 		t.Fatal(err)
 	}
-	defer func() { _ = syscall.Kill(broker.Pid(), syscall.SIGCONT) }()
-	p.await("the broker to stop", func() bool { return isStopped(broker.Pid()) })
+	defer func() { _ = syscall.Kill(redis.Pid(), syscall.SIGCONT) }()
+	p.await("the store to stop", func() bool { return isStopped(redis.Pid()) })
+	const calls = 64 // that may be under way, each with a claim of its own where they come slowly
+	for i := 0; i <= calls; i++ {
+		go p.check(token(t, fmt.Sprint("first", i), lasting))
+	}
 	p.dial("tcp", p.address, "GET /check HTTP/1.1\r\nHost: a\r\nAuthorization: Bearer "+token(t, "left", lasting)+"\r\n\r\n").Close()
 	p.await("the end of its claim", func() bool { return p.metric(`svidd_claims_total{outcome="failed"}`) == "1" })
 }
@@ -431,7 +494,7 @@ func TestADeadlineEndsARead(t *testing.T) {
 
 // boundedConnOf is the connection that a bounded listener makes of this one.
 func boundedConnOf(c net.Conn, unwatched bool) net.Conn {
-	accepted, err := bounded{oneConn{c}, unwatched}.Accept()
+	accepted, err := bounded{oneConn{c}, unwatched, true}.Accept()
 	if err != nil {
 		panic(err)
 	}

@@ -22,7 +22,6 @@ const usage = `usage:
   svidd verify   --audience NAME.. BUNDLES [--longest TIME] [--rsa-bits BITS] < TOKEN
   svidd withdraw --admin PATH (- < TOKEN | --key HEX --exp SECONDS | TOKEN)
   svidd report   --admin PATH [--json]
-  svidd resume   --admin PATH [--anyway]
   svidd ready    [--listen ADDRESS]
   svidd check-state DIR [--messages]
   svidd schema   --longest TIME [--ahead TIME] [--group NAME] [--role ROLE]
@@ -50,31 +49,31 @@ var listed = []option{
 	{"envoy", "serve", "", "`ADDRESS` to answer Envoy's ext_authz by gRPC on: HOST:PORT or unix:PATH; none without"},
 	{"metrics", "serve", "", "`ADDRESS` to answer /metrics, /healthz and /readyz on, and nothing else; without it, that of --listen does"},
 	{"drain", "serve", "", "`TIME` to go on answering after SIGTERM, while /readyz says draining"},
-	{"admin", "serve", "", "unix socket `PATH` for withdraw, report, resume and reload; none without"},
+	{"admin", "serve", "", "unix socket `PATH` for withdraw, report and reload; none without"},
 	{"state", "serve", "", "folder `DIR` where the record is kept"},
 	{"log", "serve", "decisions", "`LEVEL`: errors, decisions or all"},
-	{"group-log", "serve", "", "`URL` of the group's log: nats://HOST:PORT, redis://HOST:PORT or postgres://USER@HOST/DATABASE;\nmay be repeated for several servers of one log"},
-	{"nats", "serve", "", "NATS server `URL` of the group, nats://HOST:PORT; may be repeated, or several with commas"},
-	{"group", "serve", "svid", "`NAME` of the group's log"},
-	{"replicas", "serve", "1", "`NUMBER` of servers that must have a value of the log; for NATS, if the bucket must be made"},
+	{"store", "serve", "", "`URL` of the group's store: redis://HOST:PORT, postgres://USER@HOST/DATABASE or nats://HOST:PORT;\nmay be repeated for several servers of one store"},
+	{"group-log", "serve", "", "`URL` of the log by which sidecars of mode once tell each other of their uses: nats://HOST:PORT;\nmay be repeated for several servers of one log"},
+	{"nats", "serve", "", "the same as --group-log `URL`, also for several servers with commas"},
+	{"group", "serve", "svid", "`NAME` of the group's store and log"},
+	{"replicas", "serve", "1", "`NUMBER` of servers that must have an entry of the store; for NATS, if its stream must be made"},
 	{"nats-ca", "serve", "", "`FILE` of the authorities (PEM) of the NATS servers' certificates; the system's without"},
 	{"nats-cert", "serve", "", "`FILE` of this sidecar's certificate (PEM) for the NATS servers, such as an X.509-SVID"},
 	{"nats-key", "serve", "", "`FILE` of its key (PEM)"},
 	{"nats-creds", "serve", "", "`FILE` of a NATS user's credentials, as nsc writes it"},
-	{"wait", "serve", "2s", "the longest `TIME` that one request waits for the group, or for the disk"},
+	{"wait", "serve", "2s", "the longest `TIME` that one request waits for the store, or for the disk"},
 	{"summaries", "serve", "5m", "`TIME` between two repairs by summaries"},
 	{"config", "serve verify", "", "`FILE` of options, as TOML (audience = [\"ledger\"]) or as a JSON object"},
 	{"check-config", "serve", "", "say what is wrong with the options, and start nothing"},
-	{"admin", "withdraw report resume", "", "unix socket `PATH` of the sidecar"},
+	{"admin", "withdraw report", "", "unix socket `PATH` of the sidecar"},
 	{"key", "withdraw", "", "the token's key as 64 `HEX` digits, as the log and the report have it"},
 	{"exp", "withdraw", "", "when the token of --key expires, in `SECONDS` since 1970"},
 	{"json", "report", "", "print one JSON object"},
-	{"anyway", "resume", "", "go on; else only say what that risks"},
 	{"listen", "ready", "127.0.0.1:9901", "`ADDRESS` of the sidecar: HOST:PORT or unix:PATH"},
 	{"messages", "check-state", "", "write the messages of the folder to standard output, for svid report"},
 	{"longest", "schema", "", "the most `TIME` that a token may have to live, as 1h"},
 	{"ahead", "schema", "30s", "the most `TIME` that clocks of the group may differ"},
-	{"group", "schema", "svid", "`NAME` of the group's log"},
+	{"group", "schema", "svid", "`NAME` of the group's store"},
 	{"role", "schema", "", "`ROLE` that is to have the rights of a member"},
 }
 

@@ -46,7 +46,7 @@ func (s *sidecar) listen() ([]served, error) {
 			}
 			return nil, err
 		}
-		servers = append(servers, served{each.name, each.server, bounded{l, each.unwatched}})
+		servers = append(servers, served{each.name, each.server, bounded{l, each.unwatched, speaksHTTP1(each.server)}})
 	}
 	for _, each := range servers {
 		go func(it served) {
@@ -94,6 +94,12 @@ func (s *sidecar) server(handler http.Handler) *http.Server {
 		Handler: http.AllowQuerySemicolons(handler), ReadHeaderTimeout: headerWait, ReadTimeout: requestWait, WriteTimeout: requestWait,
 		IdleTimeout: idleWait, MaxHeaderBytes: svidhttp.MaxHeader, ErrorLog: s.log.Standard("http"), ConnContext: withLeaving,
 	}
+}
+
+// speaksHTTP1 says whether a server does: that of Envoy's calls speaks HTTP/2.
+func speaksHTTP1(server answerer) bool {
+	_, is := server.(*http.Server)
+	return is
 }
 
 // shutdown ends the servers, and lets requests that are under way end: first those that judge tokens, together.

@@ -24,14 +24,14 @@ import (
 // The exit statuses, which are those of the program svid.
 const (
 	exitYes     = 0
-	exitRefused = 1 // a token was refused, or the sidecar does not go on
+	exitRefused = 1 // a token was refused
 	exitDamaged = 1 // a state folder is damaged
 	exitFailed  = 2 // usage, a file, the network or memory
 )
 
 // commands by name. Each returns the exit status.
 var commands = map[string]func(args []string, std stdio) int{
-	"serve": serve, "verify": verify, "withdraw": withdraw, "report": report, "resume": resume, "ready": ready,
+	"serve": serve, "verify": verify, "withdraw": withdraw, "report": report, "ready": ready,
 	"check-state": checkState, "schema": schema, "version": printVersion,
 }
 
@@ -42,6 +42,7 @@ type stdio struct {
 }
 
 func main() {
+	limitProcessors()
 	os.Exit(run(os.Args[1:], stdio{os.Stdin, os.Stdout, os.Stderr}))
 }
 

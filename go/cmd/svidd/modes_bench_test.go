@@ -29,7 +29,7 @@ func BenchmarkModes(b *testing.B) {
 				o.state = filepath.Join(b.TempDir(), "state")
 			}
 			if mode == "strict" {
-				o.nats = list{natstest.Start(b).URL}
+				o.stores = list{natstest.Start(b).URL}
 			}
 			s := &sidecar{options: o, log: server.NewLog(os.Stderr, server.Errors), failed: make(chan error, 1)}
 			signals, ended := make(chan os.Signal, 1), make(chan error, 1)

@@ -18,8 +18,8 @@ import (
 	"github.com/BurntSushi/toml"
 
 	"svid.example/go/v2/bundles"
-	"svid.example/go/v2/carriers"
 	"svid.example/go/v2/carriers/jetstream"
+	"svid.example/go/v2/claims"
 	"svid.example/go/v2/internal/regular"
 	"svid.example/go/v2/internal/server"
 	"svid.example/go/v2/svid"
@@ -40,7 +40,8 @@ type options struct {
 	envoy         string // "" where Envoy does not ask by gRPC
 	drain         period
 	replay        string
-	logs          list // addresses of the group's log
+	stores        list // addresses of the group's store
+	logs          list // addresses of the log of a group of mode once
 	nats          list
 	files         jetstream.Files // for the NATS servers
 	group         string
@@ -83,6 +84,7 @@ func (o *options) addServe(f *flag.FlagSet) {
 	f.Var(&o.drain, "drain", "")
 	f.StringVar(&o.admin, "admin", "", "")
 	f.StringVar(&o.replay, "replay", "", "")
+	f.Var(&o.stores, "store", "")
 	f.Var(&o.logs, "group-log", "")
 	f.Var(&o.nats, "nats", "")
 	f.StringVar(&o.files.CA, "nats-ca", "", "")
@@ -284,7 +286,7 @@ func (o *options) problems() problems {
 	case server.Once:
 		wrong(o.state == "", "--state is missing: in mode once the record is kept there, since a token that was accepted before a restart must not be accepted after it")
 	case server.Strict:
-		wrong(!o.isGrouped(), "--group-log or --nats is missing: in mode strict each token is claimed in the group's log")
+		wrong(len(o.stores) == 0, "--store is missing: in mode strict each token is claimed in the group's store")
 	case server.Reuse:
 	default:
 		wrong(true, "--replay %q is none of once, strict and reuse", o.replay)
@@ -300,7 +302,7 @@ func (o *options) problems() problems {
 	}
 	wrong(len(o.admin) > mostSocket, "--admin: the path of a unix socket has at most %d bytes", mostSocket)
 	wrong(strings.HasPrefix(o.admin, "@"), "--admin %q is an abstract name, which every local process can reach: write a path", o.admin)
-	o.logProblems(&all)
+	o.groupProblems(&all)
 	for i, server := range o.servers() {
 		// (its text may hold a password)
 		if !strings.Contains(server, "://") {
@@ -311,16 +313,16 @@ func (o *options) problems() problems {
 		wrong(!good, "--nats: address %d is not like nats://HOST:PORT", i+1)
 		wrong(good && !natsSchemes[u.Scheme], "--nats: address %d must begin with nats://, tls://, ws:// or wss://", i+1)
 		wrong(good && !isPort(u.Port()), "--nats: address %d has a port that is none: write a number from 1 to 65535", i+1)
-		wrong(good && (strings.Trim(u.Path, "/") != "" || u.RawQuery != ""), "--nats: address %d must end with its port: the group's bucket is --group", i+1)
+		wrong(good && (strings.Trim(u.Path, "/") != "" || u.RawQuery != ""), "--nats: address %d must end with its port: the group's name is --group", i+1)
 	}
-	wrong(!carriers.ValidName(o.group), "--group %q can't name a group: use letters, digits, - and _", o.group)
-	wrong(o.replicas < 1 || o.replicas > jetstream.MostReplicas, "--replicas must be from 1 to %d: so many servers have each value", jetstream.MostReplicas)
+	wrong(!claims.ValidName(o.group), "--group %q can't name a group: use up to 64 letters, digits, - and _", o.group)
+	wrong(o.replicas < 1 || o.replicas > jetstream.MostReplicas, "--replicas must be from 1 to %d: so many servers have each entry", jetstream.MostReplicas)
 	if _, err := o.files.Connect(); err != nil {
 		wrong(true, "--nats-ca, --nats-cert, --nats-key, --nats-creds: %v", err)
 	}
 	_, ok := logLevels[o.log]
 	isURL := strings.Contains(o.log, "://") // which may hold a password
-	wrong(isURL, "--log is the level of lines: errors, decisions or all. The address of the group's log is --group-log")
+	wrong(isURL, "--log is the level of lines: errors, decisions or all. The address of a group's log is --group-log")
 	wrong(!ok && !isURL, "--log %q is none of errors, decisions and all", o.log)
 	wrong(o.wait == 0, "--wait must be greater than 0")
 	wrong(o.summaries == 0, "--summaries must be greater than 0")
@@ -373,7 +375,7 @@ var logLevels = map[string]server.Level{"errors": server.Errors, "decisions": se
 func (o *options) servers() []string {
 	var all []string
 	given := o.nats
-	if kind, _ := o.carrierOf(); kind == "NATS" {
+	if kind, _ := kindOf(o.logs); kind == "NATS" {
 		given = append(given[:len(given):len(given)], o.logs...)
 	}
 	for _, urls := range given {

@@ -101,7 +101,7 @@ func TestNginxSite(t *testing.T) {
 	if answer, _ := get("Bearer " + once); answer.StatusCode != 401 || !strings.Contains(answer.Header.Get("WWW-Authenticate"), "Replayed") {
 		t.Errorf("replayed: %d %v", answer.StatusCode, answer.Header)
 	}
-	if answer, _ := get(""); answer.StatusCode != 401 || answer.Header.Get("WWW-Authenticate") != "Bearer" {
+	if answer, _ := get(""); answer.StatusCode != 401 || answer.Header.Get("WWW-Authenticate") != `Bearer realm="svid"` {
 		t.Errorf("no token: %d %v", answer.StatusCode, answer.Header)
 	}
 	long := example.Token("ES256", map[string]any{"sub": "spiffe://example.org/web", "aud": "ledger", "exp": time.Now().Add(lasting).Unix(), "pad": strings.Repeat("a", 45000)})

@@ -13,6 +13,7 @@ import (
 	"strings"
 	"testing"
 
+	"svid.example/go/v2/internal/broker"
 	"svid.example/go/v2/internal/natstest"
 )
 
@@ -171,9 +172,9 @@ type dashboard struct {
 func TestPrometheusAndTheDashboard(t *testing.T) {
 	t.Parallel()
 	server := natstest.Start(t)
-	metrics := freeAddress(t)
-	p := start(t, bundleOption(bundleFile(t, example)), "--replay", "strict", "--nats", server.URL, "--state", filepath.Join(t.TempDir(), "state"),
-		"--metrics", metrics)
+	store, url := stores["Redis"](t)
+	metrics, state := freeAddress(t), filepath.Join(t.TempDir(), "state")
+	p := start(t, bundleOption(bundleFile(t, example)), "--replay", "once", "--nats", server.URL, "--store", url, "--state", state, "--metrics", metrics)
 	prom := startPrometheus(t, p, metrics)
 	one := token(t, "one", lasting)
 	p.want(one, 200, "")
@@ -247,12 +248,22 @@ func TestPrometheusAndTheDashboard(t *testing.T) {
 	if alerts := prom.alerts(); len(alerts) > 1 || len(alerts) == 1 && !alerts["SviddReplays"] {
 		t.Errorf("alerts of a good sidecar: %v", alerts)
 	}
-	// The broker goes away, and then the sidecar.
+	// The store is emptied. It goes away, and then the broker, the state folder and the sidecar.
+	if _, err := store.(*broker.Redis).Do("FLUSHALL"); err != nil {
+		t.Fatal(err)
+	}
+	prom.await("the alert of entries that were lost", func() bool { return prom.alerts()["SviddEntriesLost"] })
+	store.Kill()
+	prom.await("the alert of a store that is away", func() bool { return prom.alerts()["SviddStoreAway"] })
 	server.Kill()
-	prom.await("the alerts of a broker that is away", func() bool {
-		alerts := prom.alerts()
-		return alerts["SviddBrokerAway"] && alerts["SviddNotReady"]
-	})
+	prom.await("the alert of a broker that is away", func() bool { return prom.alerts()["SviddBrokerAway"] })
+	if prom.alerts()["SviddNotReady"] {
+		t.Error("a sidecar of mode once is not ready without others")
+	}
+	if err := os.Rename(state, state+".moved"); err != nil {
+		t.Fatal(err)
+	}
+	prom.await("the alert of a sidecar that is not ready", func() bool { return prom.alerts()["SviddNotReady"] })
 	p.kill()
 	prom.await("the alert of a sidecar that is gone", func() bool { return prom.alerts()["SviddDown"] })
 }

@@ -15,7 +15,6 @@ import (
 
 	"svid.example/go/v2/internal/broker"
 	"svid.example/go/v2/internal/issuer"
-	"svid.example/go/v2/internal/natstest"
 	"svid.example/go/v2/internal/patience"
 )
 
@@ -70,19 +69,20 @@ func readyRows(t *testing.T) (all []row) {
 type stage struct {
 	*process
 	mode   string
-	broker *broker.Server // of its group, where it has one
+	store  storeServer    // of its group, where it has one
 	domain string         // of its tokens
 	of     *issuer.Issuer // signs them
 }
 
-// newStage prepares a sidecar of a mode. In mode strict it has a group, and in once a state folder.
+// newStage prepares a sidecar of a mode. In mode strict it has a store, and in once a state folder.
 func newStage(t *testing.T, mode, bundles string, more ...string) *stage {
 	t.Helper()
 	s := &stage{mode: mode, domain: "example.org", of: example}
 	args := append([]string{bundles, "--replay", mode, "--wait", rowWait.String(), "--admin", filepath.Join(t.TempDir(), "admin.sock")}, more...)
 	given := strings.Join(more, " ")
-	if mode == "strict" && !strings.Contains(given, "--nats") {
-		args = append(args, "--nats", natstest.Start(t).URL)
+	if mode == "strict" && !strings.Contains(given, "--store") {
+		_, url := stores["Redis"](t)
+		args = append(args, "--store", url)
 	}
 	if mode == "once" && !strings.Contains(given, "--state") {
 		args = append(args, "--state", filepath.Join(t.TempDir(), "state"))
@@ -91,11 +91,11 @@ func newStage(t *testing.T, mode, bundles string, more ...string) *stage {
 	return s
 }
 
-// inGroup is a stage with a group, in each mode.
-func inGroup(t *testing.T, mode string) *stage {
-	server := natstest.Start(t)
-	s := newStage(t, mode, bundleOption(bundleFile(t, example)), "--nats", server.URL)
-	s.broker = server
+// inGroup is a stage with a store, in each mode.
+func inGroup(t *testing.T, mode string, more ...string) *stage {
+	server, url := stores["Redis"](t)
+	s := newStage(t, mode, bundleOption(bundleFile(t, example)), append([]string{"--store", url}, more...)...)
+	s.store = server
 	return s
 }
 
@@ -103,6 +103,11 @@ func inGroup(t *testing.T, mode string) *stage {
 var plays = map[string]func(t *testing.T, mode string) *stage{
 	"No bundle was read yet": func(t *testing.T, mode string) *stage {
 		s := newStage(t, mode, bundleOption(filepath.Join(t.TempDir(), "none.json")))
+		s.launch()
+		return s
+	},
+	"The group's store was not reached yet": func(t *testing.T, mode string) *stage {
+		s := newStage(t, mode, bundleOption(bundleFile(t, example)), "--store", "redis://"+freeAddress(t))
 		s.launch()
 		return s
 	},
@@ -160,6 +165,13 @@ var plays = map[string]func(t *testing.T, mode string) *stage{
 		s.failSync()
 		return s
 	},
+	"The state folder was removed, moved or mounted over": func(t *testing.T, mode string) *stage {
+		state := filepath.Join(t.TempDir(), "state")
+		s := newStage(t, mode, bundleOption(bundleFile(t, example)), "--state", state)
+		s.start()
+		must(t, os.Rename(state, state+".old"))
+		return s
+	},
 	"The disk hangs": func(t *testing.T, mode string) *stage {
 		s := newStage(t, mode, bundleOption(bundleFile(t, example)), "--state", filepath.Join(t.TempDir(), "state"))
 		s.more = []string{asSvidd + "=1"}
@@ -168,53 +180,37 @@ var plays = map[string]func(t *testing.T, mode string) *stage{
 		s.write("first") // Only a write shows it.
 		return s
 	},
-	"The broker has been away for less than `--wait`": func(t *testing.T, mode string) *stage {
-		server := natstest.Start(t)
-		s := newStage(t, mode, bundleOption(bundleFile(t, example)), "--nats", server.URL, "--wait", "1h")
+	"The store has been away for less than `--wait`": func(t *testing.T, mode string) *stage {
+		s := inGroup(t, mode, "--wait", "1h")
 		s.start()
-		server.Kill()
-		s.await("the loss", func() bool { return s.metric("svidd_broker_connected") == "0" })
+		s.store.Kill()
+		s.await("the loss", func() bool { return s.metric("svidd_store_connected") == "0" })
 		return s
 	},
-	"The broker has been away for longer": func(t *testing.T, mode string) *stage {
+	"The store has been away for longer": func(t *testing.T, mode string) *stage {
 		s := inGroup(t, mode)
 		s.start()
-		s.broker.Kill()
+		s.store.Kill()
 		return s
 	},
-	"The broker takes no values, and claims have failed": func(t *testing.T, mode string) *stage {
+	"The store hangs": func(t *testing.T, mode string) *stage {
 		s := inGroup(t, mode)
 		s.start()
-		if err := syscall.Kill(s.broker.Pid(), syscall.SIGSTOP); err != nil {
+		redis := s.store.(*broker.Redis)
+		if err := syscall.Kill(redis.Pid(), syscall.SIGSTOP); err != nil {
 			t.Fatal(err)
 		}
-		s.await("the broker to stop", func() bool { return isStopped(s.broker.Pid()) })
-		s.want(s.token("first"), 503, "NotClaimed")
+		t.Cleanup(func() { _ = syscall.Kill(redis.Pid(), syscall.SIGCONT) })
+		s.await("the store to stop", func() bool { return isStopped(redis.Pid()) })
 		return s
 	},
-	"The broker is away, or takes no values": func(t *testing.T, mode string) *stage {
+	"The store has lost entries": func(t *testing.T, mode string) *stage {
 		s := inGroup(t, mode)
 		s.start()
-		s.broker.Kill()
-		s.await("the loss", func() bool { return s.metric("svidd_broker_connected") == "0" })
-		return s
-	},
-	"Values of the group's log are missing": func(t *testing.T, mode string) *stage {
-		s := inGroup(t, mode)
-		first := several(t, 1, mode, s.broker.URL)[0]
-		first.want(token(t, "lost", 30*time.Minute), 200, "")
-		if mode != "strict" { // Those of mode once come later than their answer, and in reuse nothing is told.
-			first.withdraw(token(t, "a", 30*time.Minute))
-			first.withdraw(token(t, "b", 30*time.Minute))
-		} else {
-			first.want(token(t, "kept", 30*time.Minute), 200, "")
+		if _, err := s.store.(*broker.Redis).Do("FLUSHALL"); err != nil {
+			t.Fatal(err)
 		}
-		loseFirst(t, first, s.broker.URL)
-		s.launch()
-		s.await("the bucket", func() bool {
-			_, _, body := s.check("a.b.c")
-			return strings.Contains(body, "HeaderSpelling")
-		})
+		s.await("the loss", func() bool { return s.metric("svidd_store_epochs_total") != "0" })
 		return s
 	},
 	"The clock has jumped ahead": func(t *testing.T, mode string) *stage {
@@ -348,14 +344,14 @@ func TestADiskThatIsFullForAWhile(t *testing.T) {
 	s.end()
 }
 
-// A token that is asked while the broker is away for a short time waits for it, and is accepted.
-func TestABrokerThatIsAwayForAShortTime(t *testing.T) {
+// A token that is asked while the store is away for a short time waits for it, and is accepted.
+func TestAStoreThatIsAwayForAShortTime(t *testing.T) {
 	t.Parallel()
-	server := natstest.Start(t)
-	s := newStage(t, "strict", bundleOption(bundleFile(t, example)), "--nats", server.URL, "--wait", "25s")
+	server, url := stores["Redis"](t)
+	s := newStage(t, "strict", bundleOption(bundleFile(t, example)), "--store", url, "--wait", "25s")
 	s.start()
 	server.Kill()
-	s.await("the loss", func() bool { return s.metric("svidd_broker_connected") == "0" })
+	s.await("the loss", func() bool { return s.metric("svidd_store_connected") == "0" })
 	answer := make(chan int)
 	go func() {
 		status, _, _ := s.check(s.token("waits"))

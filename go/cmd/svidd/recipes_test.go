@@ -31,6 +31,7 @@ type recipe struct {
 	begin    func()            // writes the files and starts the proxy
 	stop     func()            // ends the proxy
 	limited  bool              // whether the proxy gives up as early as its files say
+	trailers bool              // whether the proxy hands on trailers, as its file says
 }
 
 // limits are the texts of deploy/ by which a proxy gives up, by the seconds in which it must not on a busy machine.
@@ -56,7 +57,7 @@ var limits = map[string]func(seconds int) map[string]string{
 // heard is a request as the service gets it.
 type heard struct {
 	Method, URI, Body string
-	Header            http.Header
+	Header, Trailer   http.Header
 }
 
 // newRecipe starts a sidecar and a service.
@@ -70,7 +71,7 @@ func newRecipe(t *testing.T, paths ...string) *recipe {
 	}
 	service := httptest.NewServer(http.HandlerFunc(func(w http.ResponseWriter, it *http.Request) {
 		body, _ := io.ReadAll(it.Body)
-		r.heard <- heard{it.Method, it.RequestURI, string(body), it.Header}
+		r.heard <- heard{it.Method, it.RequestURI, string(body), it.Header, it.Trailer}
 		_, _ = io.WriteString(w, "served")
 	}))
 	t.Cleanup(service.Close)
@@ -91,12 +92,14 @@ func (r *recipe) file(name, front string) string {
 	}
 	patient := string(text)
 	if limits := limits[name]; limits != nil && !r.limited {
+		var pairs []string // (replaced at once: one limit of the test may be another one of the file)
 		for old, other := range limits(int(patience.Long.Seconds())) {
 			if strings.Count(patient, old+"\n")+strings.Count(patient, old+";\n")+strings.Count(patient, old+" --") != 1 {
 				r.t.Fatalf("%s: there is not one limit %q", name, old)
 			}
-			patient = strings.Replace(patient, old, other, 1)
+			pairs = append(pairs, old, other)
 		}
+		patient = strings.NewReplacer(pairs...).Replace(patient)
 	}
 	to := filepath.Join(r.folder, name)
 	if err := os.WriteFile(to, []byte(front+r.replaced.Replace(patient)), 0o644); err != nil {
@@ -193,7 +196,7 @@ var forged = func() (all []string) {
 }()
 
 // identity is what the service hears of the caller, whatever spelling its headers have.
-func (h *heard) identity() map[string][]string {
+func (h heard) identity() map[string][]string {
 	all := map[string][]string{}
 	for name, values := range h.Header {
 		name = strings.Map(func(c rune) rune {
@@ -257,7 +260,7 @@ func (r *recipe) holds() {
 			t.Errorf("%s %s again: %d %v %q", method, path, answer.StatusCode, answer.Header, said)
 		}
 	}
-	if answer, _ := r.send("GET", "/", "", forged...); answer.StatusCode != 401 || answer.Header.Get("WWW-Authenticate") != "Bearer" || r.served() != nil {
+	if answer, _ := r.send("GET", "/", "", forged...); answer.StatusCode != 401 || answer.Header.Get("WWW-Authenticate") != `Bearer realm="svid"` || r.served() != nil {
 		t.Errorf("no token: %d %v", answer.StatusCode, answer.Header)
 	}
 	// A caller that no --allow lets in hears so, however often it asks, and is not told to try again. Its token stays good. (nginx's
@@ -299,6 +302,8 @@ func (r *recipe) holds() {
 	if got := r.served(); answer.StatusCode != 200 || got == nil || got.Body != body {
 		t.Errorf("a long body: %d", answer.StatusCode)
 	}
+	r.opensNoTunnel()
+	r.keepsTrailers()
 	// Without its sidecar nothing is let through, and nor is it if that does not answer in time.
 	r.end()
 	unavailable := func(what string) {
@@ -345,20 +350,35 @@ func (r *recipe) holds() {
 func TestCaddyRecipe(t *testing.T) {
 	t.Parallel()
 	r := newRecipe(t)
+	r.runsCaddy("")
+	r.holds()
+}
+
+// Without TLS Caddy speaks HTTP/2 only where it is told to.
+func TestCaddyRecipeOverHTTP2(t *testing.T) {
+	t.Parallel()
+	r := newRecipe(t)
+	r.runsCaddy("\tservers {\n\t\tprotocols h1 h2c\n\t}\n")
+	r.holdsOverHTTP2()
+}
+
+// runsCaddy starts Caddy, with more options of its own.
+func (r *recipe) runsCaddy(options string) {
+	r.t.Helper()
 	_, port, _ := net.SplitHostPort(r.front)
 	r.replaced = strings.NewReplacer(":8080 {", ":"+port+" {", "127.0.0.1:9901", r.address, "127.0.0.1:8081", r.replaced.Replace("127.0.0.1:8081"))
 	home := []string{"HOME=" + r.folder, "XDG_DATA_HOME=" + r.folder, "XDG_CONFIG_HOME=" + r.folder}
 	r.begin = func() {
-		file := r.file("Caddyfile", "{\n\tadmin off\n\tauto_https off\n}\n")
+		file := r.file("Caddyfile", "{\n\tadmin off\n\tauto_https off\n"+options+"}\n")
 		r.runs(home, "caddy", "run", "--config", file, "--adapter", "caddyfile")
 	}
 	r.begin()
-	r.holds()
 }
 
 func TestHAProxyRecipe(t *testing.T) {
 	t.Parallel()
 	r := newRecipe(t)
+	r.trailers = true
 	given := r.replaced
 	r.begin = func() {
 		r.replaced = given
@@ -366,6 +386,15 @@ func TestHAProxyRecipe(t *testing.T) {
 	}
 	r.begin()
 	r.holds()
+}
+
+// HAProxy speaks HTTP/2 by the same port, as a client begins.
+func TestHAProxyRecipeOverHTTP2(t *testing.T) {
+	t.Parallel()
+	r := newRecipe(t)
+	r.trailers = true
+	r.runsHAProxy("", "")
+	r.holdsOverHTTP2()
 }
 
 // HAProxy goes on where Lua fails. Nothing passes then, be it before the sidecar is asked or behind its refusal.

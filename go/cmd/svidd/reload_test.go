@@ -114,7 +114,7 @@ func TestOptionsAreReadAgain(t *testing.T) {
 func TestAudiencesAndCallersAreReadAgain(t *testing.T) {
 	t.Parallel()
 	nats := natstest.Start(t)
-	for _, mode := range [][]string{{"--replay=once", "--state=" + filepath.Join(t.TempDir(), "once")}, {"--replay=reuse"}, {"--replay=strict", "--nats=" + nats.URL}} {
+	for _, mode := range [][]string{{"--replay=once", "--state=" + filepath.Join(t.TempDir(), "once")}, {"--replay=reuse"}, {"--replay=strict", "--store=" + nats.URL}} {
 		t.Run(mode[0], func(t *testing.T) {
 			config := filepath.Join(t.TempDir(), "svidd.json")
 			write := func(audiences, allow []string, more string) {
@@ -213,7 +213,7 @@ func quoted(texts []string) string {
 	return strings.Join(all, ", ")
 }
 
-// --check-config looks into the state folder and at the places of sockets, and asks the servers of the group's log.
+// --check-config looks into the state folder and at the places of sockets, and asks the servers of the group's store and log.
 func TestCheckConfigLooksAtTheFoldersAndServers(t *testing.T) {
 	t.Parallel()
 	folder := t.TempDir()
@@ -255,18 +255,21 @@ func TestCheckConfigLooksAtTheFoldersAndServers(t *testing.T) {
 		{[]string{"--metrics", "unix:" + filepath.Join(folder, "none", "s")}, "--metrics: stat", ""},
 		{[]string{"--nats", "nats://svidd:secret@" + answers.Addr().String()}, "", ""},
 		{[]string{"--nats", "nats://svidd:secret@" + nobody}, "", "nothing answers at " + nobody},
-		{[]string{"--group-log", "redis://svidd:secret@" + nobody}, "", "nothing answers at " + nobody},
-		{[]string{"--group-log", "postgres://svidd:secret@" + nobody + "/db?sslmode=disable"}, "", "nothing answers at " + nobody},
+		{[]string{"--store", "redis://svidd:secret@" + nobody}, "", "nothing answers at " + nobody},
+		{[]string{"--store", "postgres://svidd:secret@" + nobody + "/db?sslmode=disable"}, "", "nothing answers at " + nobody},
 		{[]string{"--nats", "nats://svidd:secret@h:0"}, "address 1 has a port that is none", ""},
 		{[]string{"--nats", "nats://h:4222,nats://svidd:secret@h:70000"}, "address 2 has a port that is none", ""},
 		{[]string{"--nats", "nats://svidd:secret@h:4222/svid"}, "address 1 must end with its port", ""},
 		{[]string{"--nats", "nats://svidd:secret@:4222"}, "address 1 is not like", ""},
 	} {
 		replay := "--replay=reuse"
-		if strings.Contains(row.args[1], "://") && row.args[0] == "--group-log" {
+		if row.args[0] == "--store" {
 			replay = "--replay=strict"
 		}
 		args := append([]string{"serve", "--check-config", "--audience=a", "--longest=1h", replay, bundleOption(bundleFile(t, example))}, row.args...)
+		if row.args[0] == "--nats" {
+			args = append(args, "--replay=once", "--state="+filepath.Join(folder, "of nats"))
+		}
 		status, out, err := here("", args...)
 		isGood := status == 0 && out == "svidd: the options are good\n"
 		if isGood != (row.want == "") || !strings.Contains(err, row.want) || !isGood && (status != 2 || strings.Count(err, "\n") != 1) {

@@ -201,8 +201,12 @@ func (s *sidecar) open(ctx context.Context) error {
 	if err != nil {
 		return err
 	}
+	store, err := s.store(s.said)
+	if err != nil {
+		return err
+	}
 	o := guard.Options{
-		Audiences: s.audiences, Bundles: specs, Allow: s.allow, Mode: guard.Mode(s.replay), State: s.state, Log: s.groupLog(), Longest: s.longest.value,
+		Audiences: s.audiences, Bundles: specs, Allow: s.allow, Mode: guard.Mode(s.replay), State: s.state, Store: store, Log: s.groupLog(), Longest: s.longest.value,
 		Ahead: s.ahead.value, RSABits: s.rsaBits, Wait: time.Duration(s.wait), Summaries: time.Duration(s.summaries), Lines: s.log, Now: clock, Failed: s.fail,
 	}
 	if o.Ahead == 0 {
@@ -214,6 +218,9 @@ func (s *sidecar) open(ctx context.Context) error {
 	go s.reloadAll(ctx)
 	return nil
 }
+
+// said logs what the group's store says.
+func (s *sidecar) said(event string, fields ...any) { s.log.Event(event, fields...) }
 
 // reload lets the options and the bundles be read again. It does not wait for that, since a file may hang.
 func (s *sidecar) reload() {

@@ -214,17 +214,17 @@ func TestWhatIsWrongWithTheOptionsIsSaidAtOnce(t *testing.T) {
 	}{
 		{[]string{"--state", t.TempDir()}, 0, "good"},
 		{nil, 2, "--state is missing"},
-		{[]string{"--replay", "strict"}, 2, "--nats is missing"},
-		{[]string{"--replay", "strict", "--nats", "nats://127.0.0.1:1"}, 0, "good"},
+		{[]string{"--replay", "strict"}, 2, "--store is missing"},
+		{[]string{"--replay", "strict", "--store", "nats://127.0.0.1:1"}, 0, "good"},
 		{[]string{"--replay", "reuse"}, 0, "good"},
 		{[]string{"--replay", "reuse", "--longest", "0"}, 2, "--longest"},
 		{[]string{"--replay", "reuse", "--longest", "soon"}, 2, "whole number"},
 		{[]string{"--replay", "reuse", "--bundle", "nothing"}, 2, "DOMAIN=FILE"},
 		{[]string{"--replay", "reuse", "what"}, 2, "no argument"},
 		{[]string{"--replay", "reuse", "--ahead", "86401"}, 2, "--ahead"},
-		{[]string{"--replay", "strict", "--nats", "nats://svidd:secret@[::1"}, 2, "--nats: address 1"},
-		{[]string{"--replay", "strict", "--nats", "nats://h", "--nats-cert", "a"}, 2, "together"},
-		{[]string{"--replay", "strict", "--nats", "nats://h", "--nats-ca", "/nothing"}, 2, "no such file"},
+		{[]string{"--state", t.TempDir(), "--nats", "nats://svidd:secret@[::1"}, 2, "--nats: address 1"},
+		{[]string{"--replay", "strict", "--store", "nats://h", "--nats-cert", "a"}, 2, "together"},
+		{[]string{"--replay", "strict", "--store", "nats://h", "--nats-ca", "/nothing"}, 2, "no such file"},
 	} {
 		status, out, err := here("", append(append([]string(nil), good...), row.more...)...)
 		if status != row.status || !strings.Contains(out+err, row.want) {

@@ -199,7 +199,7 @@ func TestATokenOnTheCommandLineIsNotPrinted(t *testing.T) {
 	one := token(t, "shown", lasting)
 	_, secret, _ := strings.Cut(one, ".")
 	for _, args := range [][]string{{one}, {"serve", one}, {"verify", one}, {"withdraw", one}, {"withdraw", "--admin", "none", one, one}, {"report", one},
-		{"resume", one}, {"ready", one}, {"schema", one}} {
+		{"ready", one}, {"schema", one}} {
 		status, out, err := svidd(t, "", args...)
 		if status == 0 || strings.Contains(out+err, secret) {
 			t.Errorf("%.20q: %d %q %q", args, status, out, err)

@@ -26,6 +26,7 @@ const postgresBin = "/usr/lib/postgresql/15/bin"
 type Postgres struct {
 	process
 	URL, Address, Dir string
+	Env               []string // more of the environment of its processes
 	args              []string
 	as                *syscall.Credential
 }
@@ -165,7 +166,7 @@ func Own(dir string) error {
 func (s *Postgres) Command(name string, args ...string) *exec.Cmd {
 	run := exec.Command(filepath.Join(postgresBin, name), args...)
 	run.Dir = filepath.Dir(s.Dir)
-	run.Env = append(os.Environ(), "LC_ALL=C")
+	run.Env = append(append(os.Environ(), "LC_ALL=C"), s.Env...)
 	run.SysProcAttr = &syscall.SysProcAttr{Credential: s.as}
 	return run
 }

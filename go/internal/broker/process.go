@@ -47,7 +47,7 @@ func (p *process) Kill() {
 		return
 	}
 	p.run.Process.Signal(syscall.SIGSTOP) // From here on it starts nothing.
-	started := children(p.run.Process.Pid)
+	started := Children(p.run.Process.Pid)
 	p.end(syscall.SIGKILL)
 	for _, pid := range started {
 		syscall.Kill(pid, syscall.SIGKILL)
@@ -77,13 +77,13 @@ func (p *process) all(signal syscall.Signal) {
 		return
 	}
 	p.run.Process.Signal(signal)
-	for _, pid := range children(p.run.Process.Pid) {
+	for _, pid := range Children(p.run.Process.Pid) {
 		syscall.Kill(pid, signal)
 	}
 }
 
-// children are the processes that one has started.
-func children(parent int) (pids []int) {
+// Children are the processes that one has started.
+func Children(parent int) (pids []int) {
 	files, _ := filepath.Glob("/proc/[0-9]*/stat")
 	for _, name := range files {
 		text, err := os.ReadFile(name)

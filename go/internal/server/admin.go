@@ -13,7 +13,7 @@ import (
 const mostAdminBody = 2 * svid.MaxToken
 
 // forgets is the warning of a withdrawal that is in memory alone.
-const forgets = "the sidecar forgets this withdrawal when it ends, since it has neither --state nor --nats"
+const forgets = "the sidecar forgets this withdrawal when it ends, since it has neither --state nor --store"
 
 // A Withdrawal is the body of POST /withdraw: a token, or its key and expiry.
 type Withdrawal struct {
@@ -22,15 +22,8 @@ type Withdrawal struct {
 	Exp   uint64 `json:"exp,omitempty"`
 }
 
-// Missing is the body of an answer to GET or POST /resume.
-type Missing struct {
-	// Until is when values of the bucket that are missing must have expired, in seconds since 1970; 0 if none is missing.
-	Until uint64 `json:"until"`
-}
-
-// Admin answers on the admin socket: POST /withdraw, POST /reload, GET and POST
-// /resume, GET /messages (the whole record, as docs/FORMATS.md has messages), and
-// what Handler has. Nothing of it may be reachable by who may not withdraw tokens.
+// Admin answers on the admin socket: POST /withdraw, POST /reload, GET /messages
+// (the whole record, as docs/FORMATS.md has messages), and what Handler has. Nothing of it may be reachable by who may not withdraw tokens.
 func (e *Engine) Admin(reload func()) http.Handler {
 	mux := http.NewServeMux()
 	mux.HandleFunc("/withdraw", only(http.MethodPost, e.serveWithdraw))
@@ -44,29 +37,8 @@ func (e *Engine) Admin(reload func()) http.Handler {
 		reload()
 		w.WriteHeader(http.StatusAccepted)
 	}))
-	mux.HandleFunc("/resume", e.serveResume)
 	mux.Handle("/", e.Handler())
 	return mux
-}
-
-// serveResume says until when the engine accepts nothing, and lets it go on where it is asked by POST.
-func (e *Engine) serveResume(w http.ResponseWriter, r *http.Request) {
-	until := e.deafUntil()
-	switch r.Method {
-	case http.MethodGet:
-	case http.MethodPost:
-		var err error
-		if until, err = e.Resume(); err != nil {
-			http.Error(w, err.Error(), http.StatusServiceUnavailable)
-			return
-		}
-	default:
-		w.Header().Set("Allow", "GET, POST")
-		http.Error(w, "only GET and POST", http.StatusMethodNotAllowed)
-		return
-	}
-	w.Header().Set("Content-Type", "application/json")
-	_ = json.NewEncoder(w).Encode(Missing{until})
 }
 
 // only answers 405 to every other method.
@@ -92,7 +64,7 @@ func (e *Engine) serveWithdraw(w http.ResponseWriter, r *http.Request) {
 		http.Error(w, err.Error(), http.StatusUnprocessableEntity)
 		return
 	}
-	use, err := e.Withdraw(key, exp)
+	use, usedBy, err := e.Withdraw(key, exp)
 	switch {
 	case errors.Is(err, svid.ErrGone):
 		http.Error(w, err.Error(), http.StatusUnprocessableEntity)
@@ -100,7 +72,10 @@ func (e *Engine) serveWithdraw(w http.ResponseWriter, r *http.Request) {
 		http.Error(w, err.Error(), http.StatusServiceUnavailable)
 	default:
 		answer := map[string]any{"key": use.Key.String(), "exp": use.Expires}
-		if e.Journal == nil && !e.Grouped {
+		if usedBy != (svid.ValidatorID{}) {
+			answer["used_by"] = usedBy.String()
+		}
+		if e.Journal == nil && !e.Grouped && !e.Stored {
 			answer["warning"] = forgets
 		}
 		w.Header().Set("Content-Type", "application/json")

@@ -1,6 +1,7 @@
 package server
 
 import (
+	"context"
 	"errors"
 	"fmt"
 	"net/http"
@@ -60,17 +61,17 @@ func TestAWithdrawalOfAFullDisk(t *testing.T) {
 func TestAWithdrawalReachesTheGroupWithoutADisk(t *testing.T) {
 	for _, mode := range []Mode{Once, Strict, Reuse} {
 		for what, kept := range map[string]*disk{"full": {fault: errors.New("no space left on device")}, "hangs": {hangs: make(chan struct{})}} {
-			e := ready(t, engine(t, Options{Mode: mode, Grouped: true, Journal: kept, Wait: 100 * time.Millisecond}))
-			m := (&broker{}).join(e)
+			o := inStrict(Options{Journal: kept, Wait: 100 * time.Millisecond})
+			o.Mode = mode
+			store := newShop()
+			e := store.use(t, ready(t, engine(t, o)))
 			w := withdraw(e)
 			if w.Code != 503 || !strings.Contains(w.Body.String(), "withdrawn here, but the withdrawal could not be kept: ") {
 				t.Errorf("%s, the disk is %s: %d %s", mode, what, w.Code, w.Body)
 			}
-			m.mu.Lock()
-			if len(m.log) != 1 {
-				t.Errorf("%s, the disk is %s: the group has %d values, and not the withdrawal", mode, what, len(m.log))
+			if these, _, err := store.Withdrawals(context.Background(), ""); err != nil || len(these) != 1 {
+				t.Errorf("%s, the disk is %s: the store has %d withdrawals (%v)", mode, what, len(these), err)
 			}
-			m.mu.Unlock()
 			if kept.hangs != nil {
 				close(kept.hangs)
 			}

@@ -14,10 +14,10 @@ func TestWhoMayCall(t *testing.T) {
 	for mode, make := range map[Mode]func(Options) *Engine{
 		Once:   func(o Options) *Engine { o.Journal = &disk{}; return ready(t, engine(t, o)) },
 		Reuse:  func(o Options) *Engine { return ready(t, engine(t, o)) },
-		Strict: func(o Options) *Engine { e := engine(t, o); e = ready(t, e); (&broker{}).join(e); return e },
+		Strict: func(o Options) *Engine { return newShop().use(t, ready(t, engine(t, inStrict(o)))) },
 	} {
 		t.Run(string(mode), func(t *testing.T) {
-			e := make(Options{Mode: mode, Grouped: mode == Strict, Allow: []string{"spiffe://example.org/other", "spiffe://example.com"}})
+			e := make(Options{Mode: mode, Allow: []string{"spiffe://example.org/other", "spiffe://example.com"}})
 			good := token("a")
 			for range [2]int{} {
 				w := request(e.Handler(), "GET", "/check", "Bearer "+good)

@@ -2,246 +2,241 @@ package server
 
 import (
 	"context"
+	"errors"
 	"fmt"
-	"sort"
 	"time"
 
-	"svid.example/go/v2/carriers"
+	"svid.example/go/v2/claims"
 	"svid.example/go/v2/svid"
 )
 
 const (
-	// claimPause is between two values with claims: those that come meanwhile share the next one. Nobody waits for it at
-	// a quiet time.
-	claimPause = time.Millisecond
-	// claimCompany is the same at a busy time, until as many claims wait as requests are being worked on. A value costs the
-	// same with more claims, and the processors have those requests to work on until it is back.
-	claimCompany = 3 * time.Millisecond
-	// claimFlight is how long the next value waits for the broker's answer to the last one: so a broker that is busy gets
-	// fewer values, with more claims each.
-	claimFlight = 20 * time.Millisecond
-	// mostClaims is how many claims share a value. It has 33 kB then: each broker takes that.
-	mostClaims = 512
+	// nextCall is how long claims that wait for company wait at most for the call that is under way: then another call goes out
+	// beside it, so that one slow answer holds up nobody else.
+	nextCall = 20 * time.Millisecond
+	// mostCalls is how many calls may be under way.
+	mostCalls = 64
+	// firstRetry is the pause before claims without an answer are put again. It doubles up to lastRetry while nothing is answered.
+	firstRetry = 10 * time.Millisecond
+	lastRetry  = 250 * time.Millisecond
+	// lostLook is how often expired tokens of other owners are dropped.
+	lostLook = time.Minute
 )
 
-// claims are those of this sidecar's requests, on their way through the bucket: each is a request whose outcome is open. What
-// becomes of them is for the validator to say.
-type claims struct {
+var (
+	// ErrLost: the store has lost entries, so whether another member accepted the token is unknown.
+	ErrLost = errors.New("the store has lost entries, and a claim of the token may be among them: whether it was used is unknown")
+
+	// errFar: the token lives longer than the store's terms allow.
+	errFar = errors.New("the token lives longer than the group's store keeps claims: give all members the same --longest, and set their clocks right")
+)
+
+// A Batch is claims that go to the store in one call: the effect Claim puts them, and sets Found.
+type Batch struct {
+	Claims []claims.Claim
+	Found  []claims.Found
+	Within time.Duration // how long anybody waits for it
+
+	requests []*Request // those that the claims are of
+}
+
+// has says whether a claim of the batch is this request's.
+func (b *Batch) has(r *Request) bool {
+	for _, one := range b.requests {
+		if one == r {
+			return true
+		}
+	}
+	return false
+}
+
+// Claimed: the effect Claim is done.
+type Claimed struct{ *Batch }
+
+// claimTable has the requests whose claims have no outcome yet. What an outcome is, the library says.
+type claimTable struct {
 	requests int                        // that are being worked on, or wait for an outcome
-	open     map[svid.TokenKey]*Request // whose outcome is open, one a token
-	editions map[uint64]int             // of the bundles by which those were judged, and how many by each
-	gather   []*Request                 // these wait for a value to go out
-	sent     []*value                   // those that are on their way, by their numbers
-	number   uint64                     // of the last value
-	at       time.Duration              // when that went out
-	flying   bool                       // the broker has not answered to it
-	due      time.Duration              // when the next one is to be tried, where claims wait
+	open     map[svid.TokenKey]*Request // whose claim has no outcome, one a token
+	gather   []*Request                 // these wait for a call; some may be over already
+	again    []*Request                 // these had no answer, and are put again at retryAt
+	calls    int                        // that are under way
+	at       time.Duration              // when the last one went out
+	pause    time.Duration              // before the next retry
+	retryAt  time.Duration              // never where none waits for it
+	due      time.Duration              // when a call is to be tried next, where claims wait
+	over     int                        // how many of gather and again are over already
+	lost     lostClaims
 }
 
-// A value has claims that go into the bucket together.
-type value struct {
-	put    Put
-	claims []*Request
-	open   int // of these
-	late   timer
-}
-
-func newClaims(now time.Duration) claims {
-	return claims{open: make(map[svid.TokenKey]*Request), editions: make(map[uint64]int), at: now - claimFlight, due: never}
+func newClaims(now time.Duration) claimTable {
+	return claimTable{open: make(map[svid.TokenKey]*Request), at: now - nextCall, pause: firstRetry, due: never, retryAt: never, lost: newLostClaims(now)}
 }
 
 // begin opens the claim of a request that was judged.
-func (c *claims) begin(r *Request) {
-	r.open = true
+func (c *claimTable) begin(r *Request) {
+	r.open, r.waits = true, true
 	c.open[r.Accepted.Use.Key] = r
-	c.editions[r.Accepted.Edition()]++
 	c.gather = append(c.gather, r)
 }
 
-// next is the value that is to go out now, if one is. Else due says when to ask again, where claims wait.
-func (c *claims) next(now time.Duration) *value {
-	c.due = never
-	if len(c.gather) == 0 {
+// next returns the requests whose claims are to go out now, in one call. Else due says when to ask again, where some wait.
+func (c *claimTable) next(now time.Duration) (these []*Request) {
+	if c.retryAt <= now {
+		c.gather, c.again, c.retryAt = append(c.gather, c.again...), nil, never
+	}
+	if c.due = never; len(c.gather) == 0 {
 		return nil
 	}
-	pause := claimPause
-	if working := c.requests - len(c.open); c.flying {
-		pause = claimFlight
-	} else if working > len(c.gather) {
-		pause = claimCompany
-	}
-	if due := c.at + pause; due > now {
-		c.due = due
+	if c.calls > 0 && c.at+nextCall > now || c.calls >= mostCalls {
+		if c.calls < mostCalls {
+			c.due = c.at + nextCall
+		}
 		return nil
 	}
-	these := c.gather
-	if len(these) > mostClaims {
-		these = these[:mostClaims:mostClaims]
+	taken := 0
+	for _, r := range c.gather {
+		if len(these) == claims.MostClaims {
+			break
+		}
+		if taken++; r.open {
+			r.waits = false
+			these = append(these, r)
+		} else {
+			c.over--
+		}
 	}
-	c.gather = append([]*Request(nil), c.gather[len(these):]...)
-	c.number++
-	v := &value{claims: these, open: len(these)}
-	v.put = Put{Kind: carriers.Claims, Number: c.number, Uses: make([]svid.Use, len(these))}
-	for i, r := range these {
-		r.value = v
-		v.put.Uses[i] = r.Accepted.Use
+	if c.gather = c.gather[taken:]; len(c.gather) == 0 {
+		c.gather = nil
+	} else {
+		c.due = now + nextCall
 	}
-	c.sent = append(c.sent, v)
-	c.at, c.flying = now, true
-	if len(c.gather) > 0 {
-		c.due = now + claimFlight
+	return these
+}
+
+// nextDue is when next is to be called.
+func (c *claimTable) nextDue() time.Duration {
+	if c.retryAt < c.due {
+		return c.retryAt
 	}
-	return v
+	return c.due
 }
 
 // finish takes a claim away whose outcome is there.
-func (c *claims) finish(timers *timers, r *Request) {
+func (c *claimTable) finish(r *Request) {
 	r.open = false
 	delete(c.open, r.Accepted.Use.Key)
-	c.unjudged(r)
-	v := r.value
-	if v == nil {
+	if !r.waits {
 		return
 	}
-	if v.open--; v.open > 0 {
-		return
-	}
-	timers.stop(&v.late)
-	if i := c.index(v.put.Number); i < len(c.sent) && c.sent[i] == v {
-		c.sent = append(c.sent[:i], c.sent[i+1:]...)
+	if c.over++; c.over > 64 && c.over > (len(c.gather)+len(c.again))/2 {
+		c.gather, c.again, c.over = openOnes(c.gather), openOnes(c.again), 0
 	}
 }
 
-// index is where a value of this number stands, or would stand, among those that are on their way.
-func (c *claims) index(number uint64) int {
-	return sort.Search(len(c.sent), func(i int) bool { return c.sent[i].put.Number >= number })
-}
-
-// judgedBefore returns the claims that are on their way and were judged by other bundles than these.
-func (c *claims) judgedBefore(edition uint64) (all []*Request) {
-	if n := len(c.editions); n == 0 || n == 1 && c.editions[edition] > 0 {
-		return nil
-	}
-	for _, v := range c.sent {
-		for _, r := range v.claims {
-			if r.open && r.Accepted.Edition() != edition {
-				all = append(all, r)
-			}
+// openOnes are those whose claim has no outcome yet.
+func openOnes(all []*Request) (left []*Request) {
+	for _, r := range all {
+		if r.open {
+			left = append(left, r)
 		}
 	}
-	return all
+	return left
 }
 
-// unjudged takes a claim out of the count of those that were judged by its bundles.
-func (c *claims) unjudged(r *Request) {
-	edition := r.Accepted.Edition()
-	if c.editions[edition]--; c.editions[edition] == 0 {
-		delete(c.editions, edition)
+// retry lets claims that had no answer be put again.
+func (c *claimTable) retry(now time.Duration, these []*Request) {
+	if len(these) == 0 {
+		return
+	}
+	c.again = append(c.again, these...)
+	if c.retryAt == never {
+		c.retryAt = now + c.pause
+		if c.pause *= 2; c.pause > lastRetry {
+			c.pause = lastRetry
+		}
 	}
 }
 
-// sendClaims sends the claims that are to go out now, in one value, and lets others follow. A value that has not come back
-// in time ends its claims.
+// sendClaims puts the claims that are to go out now.
 func (m *Machine) sendClaims() {
-	if v := m.claims.next(m.now.Up); v != nil {
-		m.timers.set(&v.late, m.now.Up+m.Wait, v)
-		m.send(&v.put, m.Wait, v)
+	for {
+		these := m.claims.next(m.now.Up)
+		if len(these) == 0 {
+			return
+		}
+		m.claims.calls++
+		m.claims.at = m.now.Up
+		b := &Batch{Claims: make([]claims.Claim, len(these)), Found: make([]claims.Found, len(these)), Within: m.Wait, requests: these}
+		for i, r := range these {
+			use := &r.Accepted.Use
+			b.Claims[i] = claims.Claim{Key: use.Key, Owner: svid.OwnerOfLife(m.ValidatorID, m.Life, use.Expires), Expires: use.Expires}
+		}
+		m.do(PutClaims{b})
 	}
 }
 
-// isLate: the value has not come back in time.
-func (v *value) isLate(m *Machine) { m.claimsLanded(v, context.DeadlineExceeded) }
-
-// landed: the broker has stored the value, or Err says why not.
-func (v *value) landed(m *Machine, err error) {
-	m.claimsLanded(v, err)
+// Claims were answered, or not. Each answer ends a claim that is still open; whoever was late, or left, has its answer already.
+func (b Claimed) happen(m *Machine) {
+	m.claims.calls--
+	var again []*Request
+	for i, r := range b.requests {
+		if !r.open {
+			continue
+		}
+		if b.Found[i].Err == nil {
+			m.claims.pause = firstRetry
+			m.claimed(r, &b.Claims[i], &b.Found[i])
+		} else {
+			r.fault, r.waits = b.Found[i].Err, true
+			again = append(again, r)
+		}
+	}
+	m.claims.retry(m.now.Up, again)
 	m.sendClaims()
 }
 
-// claimsLanded records that the broker has stored a value, or else why not. In the second case its claims end that are still
-// open.
-func (m *Machine) claimsLanded(v *value, err error) {
-	if v.put.Number == m.claims.number {
-		m.claims.flying = false
+// claimed ends the claim of a request by what the store answered to it.
+func (m *Machine) claimed(r *Request, mine *claims.Claim, found *claims.Found) {
+	if m.isOutdated(r) { // Its caller was admitted by the rules of before. It comes again, and finds its own claim.
+		m.outcome(r, errOtherRules)
+		return
 	}
-	if err != nil {
-		m.fail(v.claims, fmt.Errorf("the token could not be claimed: %w", err))
-	}
+	moment := svid.ClaimMoment(m.now.Wall, found.Time, m.Ahead)
+	outcome := svid.Claim{Owner: mine.Owner, Expires: mine.Expires}.Outcome(
+		svid.Found{Owner: found.Owner, Time: found.Time, Deaf: found.Deaf}, m.Terms.Lasts, moment)
+	err := m.ofOutcome(r, outcome, found.Owner)
+	m.count(err)
+	m.outcome(r, err)
 }
 
-// fail ends those of claims that are open, and whose outcome stays unknown, and says how many these are.
-func (m *Machine) fail(these []*Request, err error) (failed int) {
-	for _, r := range these {
-		if r.open {
-			m.metrics.ClaimsFailed.Add(1)
-			m.outcome(r, err)
-			failed++
+// ofOutcome is the answer to a request by the outcome of its claim. A claim that is the request's own is judged once more, and the
+// record gains its use: so of all requests with the token one is accepted.
+func (m *Machine) ofOutcome(r *Request, outcome svid.ClaimOutcome, owner claims.Owner) error {
+	use := &r.Accepted.Use
+	switch outcome {
+	case svid.ClaimMine:
+		accepted, err := m.validator.CheckToken(m.now.Wall, &r.read)
+		if err == nil {
+			r.Accepted = accepted
+			m.keepSoon(accepted.Use)
 		}
+		return err
+	case svid.ClaimTaken:
+		r.Owner = owner.ValidatorID()
+		m.claims.lost.add(m.now.Up, *use, r.Owner)
+		return svid.Replayed
+	case svid.ClaimWithdrawn:
+		m.hear([]claims.Withdrawal{{Key: use.Key, Expires: use.Expires}})
+		return svid.Withdrawn
+	case svid.ClaimExpired:
+		return svid.Expired
+	case svid.ClaimDeaf:
+		return ErrLost
+	case svid.ClaimFar:
+		return errFar
 	}
-	return failed
+	return fmt.Errorf("the claim has the outcome %v", outcome)
 }
-
-// failAll ends all claims that are on their way.
-func (m *Machine) failAll(err error) (failed int) {
-	for _, v := range append([]*value(nil), m.claims.sent...) {
-		failed += m.fail(v.claims, err)
-	}
-	return failed
-}
-
-// endClaims ends claims whose uses were read in the bucket, and returns how many. Only a claim that is on its way ends so: one
-// whose value has not gone out is open still.
-func (m *Machine) endClaims(read []svid.LogUse) (ended int) {
-	c := &m.claims
-	for i := range read {
-		use := &read[i].Use
-		if use.ValidatorID != m.ValidatorID {
-			continue
-		}
-		if mine := c.open[use.Key]; mine != nil && mine.value != nil && mine.Accepted.Use == *use {
-			if mine.value.put.Number == c.number {
-				c.flying = false // The broker has stored its value, though the answer may come later.
-			}
-			err := outcomeOf(read[i].Fate)
-			m.count(err)
-			m.outcome(mine, err)
-			ended++
-		}
-	}
-	return ended
-}
-
-// judgeRenewed judges claims again, by their tokens, that were judged by other bundles than the validator has. It may refuse
-// them now. Then their uses are in the bucket all the same, and the tokens are burnt.
-func (m *Machine) judgeRenewed(now, edition uint64) {
-	c := &m.claims
-	for _, r := range c.judgedBefore(edition) {
-		again, err := m.validator.JudgeToken(now, &r.read)
-		r.read.Close()
-		if err != nil {
-			m.count(err)
-			m.outcome(r, err)
-			continue
-		}
-		c.unjudged(r)
-		again.Use = r.Accepted.Use // with the time of the claim, as the bucket has it
-		r.Accepted = again
-		c.editions[again.Edition()]++
-	}
-}
-
-// outcomeOf is what becomes of a claim whose use has this fate.
-func outcomeOf(fate svid.Fate) error {
-	err := outcomes[fate]
-	if fate != svid.FateAccepted && err == nil {
-		err = fmt.Errorf("the claim has the fate %v", fate)
-	}
-	return err
-}
-
-// outcomes are those of claims, by their fates. A first claim that is not accepted is one behind values that are missing.
-var outcomes = map[svid.Fate]error{svid.FateFirst: ErrMissed, svid.FateTooFarAhead: errEarly, svid.FateExpired: svid.Expired,
-	svid.FateWithdrawn: svid.Withdrawn, svid.FateReplayed: svid.Replayed}
 
 // count counts the outcome of a claim.
 func (m *Machine) count(err error) {
@@ -253,4 +248,47 @@ func (m *Machine) count(err error) {
 	default:
 		m.metrics.ClaimsFailed.Add(1)
 	}
+}
+
+// failed is why a claim has no outcome.
+func (r *Request) failed(why error) error {
+	if r.fault != nil && errors.Is(why, context.DeadlineExceeded) {
+		return fmt.Errorf("the token could not be claimed: %w; the store's last answer: %v", why, r.fault)
+	}
+	return fmt.Errorf("the token could not be claimed: %w", why)
+}
+
+// lostClaims are tokens that others have claimed, until they expire: the next try of one asks no store. There are two generations, so
+// that dropping the old ones takes one step.
+type lostClaims struct {
+	young, old map[svid.TokenKey]lostClaim
+	turned     time.Duration
+}
+
+type lostClaim struct {
+	expires uint64
+	owner   svid.ValidatorID
+}
+
+// mostLost is how many there are in a generation.
+const mostLost = 1 << 16
+
+func newLostClaims(now time.Duration) lostClaims {
+	return lostClaims{young: map[svid.TokenKey]lostClaim{}, turned: now}
+}
+
+func (l *lostClaims) add(now time.Duration, use svid.Use, owner svid.ValidatorID) {
+	if len(l.young) >= mostLost || now-l.turned > lostLook && len(l.young) > 0 {
+		l.young, l.old, l.turned = map[svid.TokenKey]lostClaim{}, l.young, now
+	}
+	l.young[use.Key] = lostClaim{use.Expires, owner}
+}
+
+// owner is whose claim this token is. (One that has expired is refused by its judgment.)
+func (l *lostClaims) owner(use *svid.Use) (owner svid.ValidatorID, lost bool) {
+	is, lost := l.young[use.Key]
+	if !lost {
+		is, lost = l.old[use.Key]
+	}
+	return is.owner, lost && is.expires == use.Expires
 }

@@ -194,19 +194,19 @@ func TestReadyzTellsOfADiskThatKeepsNothing(t *testing.T) {
 		}
 	}
 	// The engine tries by itself, and an acceptance that is kept is enough.
-	for what, mend := range map[string]func(e *Engine){
-		"a request": func(e *Engine) {
+	for what, mend := range map[string]func(e *Engine) (end func()){
+		"a request": func(e *Engine) func() {
 			if err := check(e, token("b")); err != nil {
 				t.Error(err)
 			}
+			return func() {}
 		},
-		"by itself": func(e *Engine) {
+		"by itself": func(e *Engine) func() {
 			ctx, cancel := context.WithCancel(context.Background())
 			ended := make(chan struct{})
 			go func() { e.Run(ctx); close(ended) }()
 			await(t, "ready", func() bool { return e.Ready() == nil })
-			cancel()
-			<-ended
+			return func() { cancel(); <-ended }
 		},
 	} {
 		d := &disk{fault: errors.New("no space left on device")}
@@ -217,10 +217,11 @@ func TestReadyzTellsOfADiskThatKeepsNothing(t *testing.T) {
 		d.mu.Lock()
 		d.fault = nil
 		d.mu.Unlock()
-		mend(e)
+		end := mend(e)
 		if err := e.Ready(); err != nil {
 			t.Errorf("%s: %v", what, err)
 		}
+		end()
 	}
 }
 
@@ -252,9 +253,9 @@ func TestAClientHearsAWordOfWhatFailed(t *testing.T) {
 			return ready(t, engine(t, Options{Mode: Once, Journal: &disk{fault: errors.New(secret)}, Log: log}))
 		}},
 		{"NotClaimed", func(t *testing.T, log *Log) *Engine {
-			e := ready(t, engine(t, Options{Mode: Strict, Grouped: true, Log: log}))
-			m := (&broker{}).join(e)
-			m.held, m.fault = true, errors.New(secret)
+			store := newShop()
+			e := store.use(t, ready(t, engine(t, inStrict(Options{Wait: 30 * time.Millisecond, Log: log}))))
+			store.fail(errors.New(secret))
 			return e
 		}},
 	} {

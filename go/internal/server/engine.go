@@ -18,6 +18,7 @@ import (
 	"time"
 
 	"svid.example/go/v2/carriers"
+	"svid.example/go/v2/claims"
 	"svid.example/go/v2/svid"
 	"svid.example/go/v2/svidhttp"
 )
@@ -38,8 +39,6 @@ type Journal interface {
 	AppendUses(ctx context.Context, uses ...svid.Use) error
 	// KeepUses does not wait: kept hears that in its place, soon after, unless an error is returned.
 	KeepUses(kept func(error), uses ...svid.Use) error
-	// AppendMark does the same for what Engine.Mark returns. Each append and each snapshot has that.
-	AppendMark(ctx context.Context) error
 	// Size is how many bytes were appended since the last snapshot. It waits for no disk.
 	Size() int64
 	// Snapshot replaces snapshot and journal by what write writes, and loses
@@ -76,7 +75,10 @@ type Options struct {
 	ValidatorID svid.ValidatorID
 	Journal     Journal       // nil keeps nothing on the disk
 	Grouped     bool          // the engine is not ready before it joined a group
-	Wait        time.Duration // for the disk and the group, in one request
+	Stored      bool          // the engine is not ready before it reached the group's store (UseStore)
+	Terms       claims.Terms  // of that store
+	Life        svid.Life     // another one for each start: NewEngine draws it
+	Wait        time.Duration // for the disk, the group and the store, in one request
 	Now         func() uint64 // nil is svid.Now
 	Log         *Log
 }
@@ -88,6 +90,7 @@ type Engine struct {
 	keyring   *svid.Keyring
 	validator *svid.Validator
 	group     atomic.Pointer[joined]
+	store     atomic.Pointer[reached]
 	caughtUp  atomic.Bool           // the machine knows that the group's bucket is read
 	renewing  sync.Mutex            // held while bundles are replaced
 	ruling    sync.Mutex            // held while the rules are
@@ -116,11 +119,14 @@ type Engine struct {
 // joined is the group once it is there.
 type joined struct{ Group }
 
+// reached is the group's store once it was opened.
+type reached struct{ claims.Store }
+
 // noBundles are the bundles before the first ones are read.
 var noBundles = []byte("{}")
 
-// NewEngine returns an engine that is not ready: it wants SetBundles, Load, and
-// where Options.Grouped is set, Join.
+// NewEngine returns an engine that is not ready: it wants SetBundles, Load, where
+// Options.Grouped is set Join, and where Options.Stored is set UseStore.
 func NewEngine(o Options) (*Engine, error) {
 	isReal := o.Now == nil
 	if isReal {
@@ -129,6 +135,11 @@ func NewEngine(o Options) (*Engine, error) {
 	if o.Step == 0 {
 		o.Step = svid.NoLimit
 	}
+	life, err := svid.NewLife()
+	if err != nil {
+		return nil, err
+	}
+	o.Life = life
 	keyring, err := svid.OpenKeyring(svid.KeyringOptions{Bundles: noBundles, RSABits: o.RSABits})
 	if err != nil {
 		return nil, err
@@ -173,18 +184,44 @@ func (e *Engine) time() Time {
 // step lets something happen to the machine, and does what is to be done then.
 func (e *Engine) step(event Event) { e.stepFor(nil, event) }
 
-// stepFor does so in a goroutine that waits for the answer to a call, and so does itself what that call wants.
+// stepFor does so in a goroutine that waits for the answer to a call, and so does itself what that call wants: behind all else, which waits
+// for others.
 func (e *Engine) stepFor(own *Request, event Event) {
 	var room [4]Effect
 	now := e.time()
 	e.mu.Lock()
+	now.Up = time.Since(e.start) // What is late by now is late, however long the lock was waited for.
 	e.machine.Step(now, event)
 	effects := e.machine.Effects(room[:0])
 	e.arm()
 	e.mu.Unlock()
-	for _, effect := range effects {
-		e.do(own, effect)
+	last := -1
+	for i, effect := range effects {
+		if last < 0 && takesLong(own, effect) {
+			last = i
+		} else {
+			e.do(own, effect)
+		}
 	}
+	if last >= 0 {
+		e.do(own, effects[last])
+	}
+}
+
+// takesLong says whether do comes back late from an effect, since it does itself what its own call wants.
+func takesLong(own *Request, effect Effect) bool {
+	switch effect := effect.(type) {
+	case Verify:
+		return true
+	case PutClaims:
+		return isOwn(own, effect)
+	}
+	return false
+}
+
+// isOwn says whether the goroutine of a request puts the claims itself: it waits for the answer anyway.
+func isOwn(own *Request, effect PutClaims) bool {
+	return own != nil && own.patient && effect.has(own)
 }
 
 // tick lets happen what is due.
@@ -229,6 +266,14 @@ func (e *Engine) do(own *Request, effect Effect) {
 		} else {
 			go e.appendInTime(effect.Write)
 		}
+	case PutClaims:
+		if isOwn(own, effect) {
+			e.put(effect.Batch)
+		} else {
+			go e.put(effect.Batch)
+		}
+	case WithdrawAtStore:
+		go e.withdrawAtStore(effect.StoreWithdraw)
 	case Send:
 		go e.send(effect.Put)
 	case Snapshot:
@@ -290,6 +335,7 @@ func (e *Engine) hear() {
 		}
 		all = all[len(these):]
 		e.mu.Lock()
+		now.Up = time.Since(e.start)
 		for _, w := range these {
 			e.machine.Step(now, Kept{w})
 		}
@@ -308,20 +354,11 @@ func (e *Engine) kept(w *Write, err error) {
 	e.step(Kept{w})
 }
 
-// append brings uses to the disk, or a mark, and waits for that until ctx ends.
-func (e *Engine) append(ctx context.Context, w *Write) {
-	if len(w.Uses) == 0 {
-		e.kept(w, e.Journal.AppendMark(ctx))
-	} else {
-		e.kept(w, e.Journal.AppendUses(ctx, w.Uses...))
-	}
-}
-
-// appendInTime does so for no longer than anybody waits for it: a disk that hangs gathers no goroutines.
+// appendInTime brings uses to the disk, and waits for that no longer than anybody else does: a disk that hangs gathers no goroutines.
 func (e *Engine) appendInTime(w *Write) {
 	ctx, cancel := context.WithTimeout(e.life, w.Within)
 	defer cancel()
-	e.append(ctx, w)
+	e.kept(w, e.Journal.AppendUses(ctx, w.Uses...))
 }
 
 // send puts a value into the group's log, and tries for as long as it is worth it.
@@ -421,6 +458,9 @@ func (e *Engine) Drain() { e.step(Drain{}) }
 // does not drain.
 func (e *Engine) Ready() error {
 	e.look()
+	if e.folderMoved() {
+		return errMoved
+	}
 	now := e.time()
 	e.mu.Lock()
 	err := e.machine.Ready(now)
@@ -429,15 +469,6 @@ func (e *Engine) Ready() error {
 		return err
 	}
 	return e.canKeep()
-}
-
-// deafUntil is until when the engine accepts nothing, since values of the bucket are missing: 0 if it does.
-func (e *Engine) deafUntil() uint64 {
-	now := e.time()
-	e.mu.Lock()
-	defer e.mu.Unlock()
-	e.machine.goTo(now)
-	return e.machine.deafUntil()
 }
 
 // untold is how many uses wait to be told to the group.
@@ -464,14 +495,14 @@ func (e *Engine) Check(ctx context.Context, token string) (svid.Accepted, error)
 }
 
 // checkBy judges a token, and returns the rules by which it did.
-func (e *Engine) checkBy(ctx context.Context, token string) (accepted svid.Accepted, rules *Rules, err error) {
+func (e *Engine) checkBy(ctx context.Context, v *verdict) (rules *Rules) {
 	e.look()
 	for rules = e.rules.Load(); ; {
-		if err := e.admit(rules, token); err != nil {
-			return svid.Accepted{}, rules, err
+		if v.err = e.admit(rules, v.token); v.err != nil {
+			return rules
 		}
-		if accepted, rules, err = e.judge(ctx, rules, token); err != errOtherRules {
-			return accepted, rules, err
+		if rules = e.judge(ctx, rules, v); v.err != errOtherRules {
+			return rules
 		}
 	}
 }
@@ -481,21 +512,22 @@ func (e *Engine) checkBy(ctx context.Context, token string) (accepted svid.Accep
 const mostTries = 16
 
 // judge lets the machine judge the token of an admitted caller. Where it answers errOtherRules, it returns these.
-func (e *Engine) judge(ctx context.Context, rules *Rules, token string) (svid.Accepted, *Rules, error) {
-	r := e.judgeOnce(ctx, rules, token)
+func (e *Engine) judge(ctx context.Context, rules *Rules, v *verdict) *Rules {
+	r := e.judgeOnce(ctx, rules, v.token)
 	for tries := 1; tries < mostTries && r.isOfOldBundles(); tries++ {
 		e.verified.forget(r.recalled)
-		r = e.judgeOnce(ctx, rules, token)
+		r = e.judgeOnce(ctx, rules, v.token)
 	}
 	if e.Mode == Reuse && r.Err == nil {
-		e.verified.keep(r.recalled, token, r.Key)
+		e.verified.keep(r.recalled, v.token, r.Key)
 	}
-	return r.Accepted, r.rules, e.ofBundles(token, r.Err)
+	v.accepted, v.owner, v.err = r.Accepted, r.Owner, e.ofBundles(v.token, r.Err)
+	return r.rules
 }
 
 func (e *Engine) judgeOnce(ctx context.Context, rules *Rules, token string) *Request {
 	r := NewRequest(token)
-	r.rules = rules
+	r.rules, r.patient = rules, isPatient(ctx)
 	if e.Mode != Reuse { // (there the answer comes at once)
 		r.done = make(chan struct{})
 	}
@@ -559,23 +591,16 @@ func (e *Engine) isToHaveBundle(domain string) bool {
 
 // Withdraw withdraws the token of this key, which expires at exp, here and in the
 // group. An error that says the group was not told leaves the token withdrawn here;
-// the same call can be made again.
-func (e *Engine) Withdraw(key svid.TokenKey, exp uint64) (svid.Use, error) {
+// the same call can be made again. usedBy is who accepted the token before, as the
+// group's store has it; zeros where nobody did, or there is no store.
+func (e *Engine) Withdraw(key svid.TokenKey, exp uint64) (use svid.Use, usedBy svid.ValidatorID, err error) {
 	e.look()
 	w := &Withdraw{Key: key, Expires: exp}
 	e.call(&w.Call, w)
 	if w.Err != nil {
-		return svid.Use{}, w.Err
+		return svid.Use{}, usedBy, w.Err
 	}
-	return w.Use, nil
-}
-
-// Resume lets the engine accept tokens though values of the bucket are missing, and returns until when these may live: 0 if none
-// is missing.
-func (e *Engine) Resume() (until uint64, err error) {
-	r := &Resume{}
-	e.call(&r.Call, r)
-	return r.Until, r.Err
+	return w.Use, w.UsedBy.ValidatorID(), nil
 }
 
 // call lets a call happen, and waits for its answer.
@@ -632,37 +657,12 @@ func (e *Engine) Load(messages []byte) error {
 	return l.Err
 }
 
-// Recall tells the engine where an earlier life of it was in the bucket, as the state folder has it. It comes before Load.
-func (e *Engine) Recall(mark svid.Mark) {
-	r := &Recall{Mark: mark}
-	for e.step(r); r.Again > 0 && e.pause(r.Again); e.step(r) {
-	}
-}
+// Begin is part of carriers.Sink. The record takes values in any order, so nothing is to be done.
+func (e *Engine) Begin(carriers.Start) {}
 
-// Begin lets the engine read a bucket from its first value on. In mode strict the validator reads it as its log.
-func (e *Engine) Begin(log carriers.Start) {
-	b := &Begin{Log: log}
-	for e.step(b); b.Again > 0 && e.pause(b.Again); e.step(b) {
-	}
-}
-
-// Take gives the record values of the group, in their order. An error says that a value is put aside: it is no message, or
-// of a time further ahead than Options.Ahead.
-//
-// In mode strict the validator reads them as its log, and the claims of this engine end that stand in them.
-func (e *Engine) Take(values []carriers.Value) []error {
-	if e.Mode != Strict {
-		return e.takeAll(values)
-	}
-	r := &Reading{Values: values}
-	for e.step(r); !r.Done; e.step(r) {
-		e.pause(r.Again) // (At its end the machine reads no more.)
-	}
-	return r.Asides
-}
-
-// takeAll takes values by pieces, so that nobody waits for long meanwhile.
-func (e *Engine) takeAll(values []carriers.Value) (errs []error) {
+// Take gives the record values of the group, by pieces, so that nobody waits for long meanwhile. An error says that a value is put
+// aside: it is no message, or of a time further ahead than Options.Ahead.
+func (e *Engine) Take(values []carriers.Value) (errs []error) {
 	for from := 0; from < len(values); {
 		to := from
 		for bytes := 0; to < len(values) && bytes < takePiece; to++ {
@@ -695,10 +695,6 @@ func (e *Engine) pause(d time.Duration) bool {
 		return true
 	}
 }
-
-// Mark is where the validator is in the group's bucket: what the state folder is to have with each append, and with a
-// snapshot. Where it reads no bucket, ok is false.
-func (e *Engine) Mark() (mark svid.Mark, ok bool) { return e.machine.Mark() }
 
 // Summary returns the summary of the record, for another sidecar to answer.
 func (e *Engine) Summary() ([]byte, error) { return e.machine.Summary() }

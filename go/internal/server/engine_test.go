@@ -138,7 +138,7 @@ func TestAWithdrawalThatIsNotDone(t *testing.T) {
 	if w := withdraw(unready); w.Code != 503 || len(saved(t, unready)) != 17 {
 		t.Errorf("before all is read: %d %s", w.Code, w.Body)
 	}
-	for _, mode := range []Mode{Once, Strict, Reuse} {
+	for _, mode := range []Mode{Once, Reuse} {
 		e := ready(t, engine(t, Options{Mode: mode, Grouped: true, Journal: &disk{}}))
 		m := (&broker{}).join(e)
 		m.fault = errors.New("no servers")
@@ -272,10 +272,13 @@ func TestLateMessagesHaveABound(t *testing.T) {
 // Everything at once, for the race detector; and each token is accepted once in the modes that say so.
 func TestEverythingAtOnce(t *testing.T) {
 	for _, mode := range []Mode{Once, Strict, Reuse} {
-		b := &broker{}
 		var out bytes.Buffer
-		e := ready(t, engine(t, Options{Mode: mode, Grouped: true, Journal: &disk{}, Log: NewLog(&out, All)}))
-		b.join(e)
+		o := inStrict(Options{Grouped: mode == Once, Journal: &disk{}, Log: NewLog(&out, All)})
+		o.Mode = mode
+		e := newShop().use(t, ready(t, engine(t, o)))
+		if mode == Once {
+			(&broker{}).join(e)
+		}
 		ctx, cancel := context.WithCancel(context.Background())
 		ran := make(chan struct{})
 		go func() { defer close(ran); e.Run(ctx) }()

@@ -4,7 +4,6 @@ import (
 	"bytes"
 	"context"
 	"encoding/json"
-	"fmt"
 	"io"
 	"net/http"
 	"net/http/httptest"
@@ -13,6 +12,8 @@ import (
 	"time"
 
 	"svid.example/go/v2/carriers"
+	"svid.example/go/v2/claims"
+	"svid.example/go/v2/claims/memory"
 	"svid.example/go/v2/internal/issuer"
 	"svid.example/go/v2/internal/patience"
 	"svid.example/go/v2/svid"
@@ -32,7 +33,6 @@ var example = func() *issuer.Issuer {
 type disk struct {
 	mu     sync.Mutex
 	kept   []byte
-	marks  int // how often a mark alone was appended
 	fault  error
 	before func()        // called as an append begins
 	hangs  chan struct{} // where it is not nil, an append waits for it
@@ -50,8 +50,6 @@ func (d *disk) KeepUses(kept func(error), uses ...svid.Use) error {
 	go func() { kept(d.AppendUses(context.Background(), uses...)) }()
 	return nil
 }
-
-func (d *disk) AppendMark(ctx context.Context) error { return d.append(ctx, func() { d.marks++ }) }
 
 func (d *disk) append(ctx context.Context, keep func()) error {
 	if d.before != nil {
@@ -201,7 +199,6 @@ func (b *broker) join(e *Engine) *tie {
 	m := &tie{broker: b, engine: e, ready: make(chan struct{})}
 	close(m.ready)
 	b.members = append(b.members, m)
-	e.Begin(carriers.Start{})
 	e.Join(m)
 	return m
 }
@@ -245,17 +242,93 @@ func ready(t testing.TB, e *Engine) *Engine {
 	return e
 }
 
-// strict returns engines of one group in mode strict.
-func strict(t testing.TB, n int) ([]*Engine, *broker) {
+// A shop is a group's store in memory, which a test can hold and let fail.
+type shop struct {
+	memory.Store
+	mu    sync.Mutex
+	calls [][]claims.Claim // that came
+	held  chan struct{}    // Put answers once it is closed; nil answers at once
+	fault error            // what is answered to each claim, which is stored all the same
+}
+
+func newShop() *shop {
+	return &shop{Store: memory.Store{Now: func() uint64 { return moment }, Terms: claims.Terms{Lasts: 3660, Margin: 90, Back: 60}}}
+}
+
+func (s *shop) Put(ctx context.Context, these []claims.Claim, found []claims.Found) {
+	s.Store.Put(ctx, these, found)
+	s.mu.Lock()
+	s.calls = append(s.calls, append([]claims.Claim(nil), these...))
+	held, fault := s.held, s.fault
+	s.mu.Unlock()
+	if held != nil {
+		select {
+		case <-held:
+		case <-ctx.Done():
+			fault = ctx.Err()
+		}
+	}
+	for i := range found {
+		if fault != nil {
+			found[i] = claims.Found{Err: fault}
+		}
+	}
+}
+
+// hold lets no Put answer before the function that it returns was called.
+func (s *shop) hold() (release func()) {
+	s.mu.Lock()
+	defer s.mu.Unlock()
+	held := make(chan struct{})
+	s.held = held
+	return func() {
+		s.mu.Lock()
+		defer s.mu.Unlock()
+		s.held = nil
+		close(held)
+	}
+}
+
+// fail lets each Put answer this.
+func (s *shop) fail(err error) {
+	s.mu.Lock()
+	defer s.mu.Unlock()
+	s.fault = err
+}
+
+// puts is how many calls came.
+func (s *shop) puts() int {
+	s.mu.Lock()
+	defer s.mu.Unlock()
+	return len(s.calls)
+}
+
+// use gives an engine the store.
+func (s *shop) use(t testing.TB, e *Engine) *Engine {
 	t.Helper()
-	b := &broker{}
+	state, err := s.Open(context.Background())
+	if err != nil {
+		t.Fatal(err)
+	}
+	e.UseStore(s, state)
+	return e
+}
+
+// inStrict are options of mode strict.
+func inStrict(o Options) Options {
+	o.Mode, o.Stored, o.Terms = Strict, true, claims.Terms{Lasts: 3660, Margin: 90, Back: 60}
+	return o
+}
+
+// strict returns engines of one group in mode strict.
+func strict(t testing.TB, n int) ([]*Engine, *shop) {
+	t.Helper()
+	s := newShop()
 	var all []*Engine
 	for i := 0; i < n; i++ {
-		e := ready(t, engine(t, Options{Mode: Strict, Grouped: true, ValidatorID: svid.ValidatorID{byte(i + 1)}}))
-		b.join(e)
-		all = append(all, e)
+		all = append(all, s.use(t, ready(t, engine(t, inStrict(Options{ValidatorID: svid.ValidatorID{byte(i + 1)}})))))
 	}
-	return all, b
+	return all, s
 }
 
 func token(id string) string {
@@ -290,72 +363,14 @@ func wantUses(t *testing.T, all []*Engine, want int) {
 	}
 }
 
-// claimed sends a token to an engine whose reading is held, and returns once its claim is in the log.
-func claimed(m *tie, token string) (answer chan error) {
-	m.mu.Lock()
-	m.held = true
-	before := len(m.log)
-	m.mu.Unlock()
+// claimed sends a token to an engine, and returns once a call with its claim is in the store.
+func claimed(t *testing.T, s *shop, e *Engine, token string) (answer chan error) {
+	t.Helper()
+	before := s.puts()
 	answer = make(chan error, 1)
-	go func() { answer <- check(m.engine, token) }()
-	for in := before; in == before; time.Sleep(time.Millisecond) {
-		m.mu.Lock()
-		in = len(m.log)
-		m.mu.Unlock()
-	}
+	go func() { answer <- check(e, token) }()
+	await(t, "the claim", func() bool { return s.puts() > before })
 	return answer
-}
-
-// gather sends tokens to an engine whose claims do not go out yet, and returns once all of them wait.
-func gather(t *testing.T, m *tie, tokens []string) (answers []chan error) {
-	t.Helper()
-	m.hold(true)
-	m.engine.step(doing(waitAnHour))
-	want := gathered(m.engine) + len(tokens)
-	for _, one := range tokens {
-		answer := make(chan error, 1)
-		answers = append(answers, answer)
-		go func(one string) { answer <- check(m.engine, one) }(one)
-	}
-	await(t, "all claims", func() bool { return gathered(m.engine) == want })
-	return answers
-}
-
-// send lets claims that gather gathered go out in one value, and returns once that is in the log.
-func send(t *testing.T, m *tie) {
-	t.Helper()
-	m.mu.Lock()
-	before := len(m.log)
-	m.mu.Unlock()
-	m.engine.step(doing(sendNow))
-	await(t, "the value", func() bool {
-		m.mu.Lock()
-		defer m.mu.Unlock()
-		return len(m.log) == before+1
-	})
-}
-
-// inOrderOf returns tokens and the uses of their claims, in the order in which a value has those.
-func inOrderOf(t *testing.T, e *Engine, count int) (tokens []string, uses []svid.Use) {
-	t.Helper()
-	byKey := make(map[svid.TokenKey]string)
-	for i := 0; i < count; i++ {
-		one := token(fmt.Sprint("of a value ", i))
-		found, err := e.Find(one)
-		if err != nil {
-			t.Fatal(err)
-		}
-		byKey[found.Key] = one
-		uses = append(uses, svid.Use{Key: found.Key, Expires: found.Expires, At: moment, ValidatorID: e.ValidatorID})
-	}
-	uses, err := svid.Uses(batchesOf(uses))
-	if err != nil {
-		t.Fatal(err)
-	}
-	for _, use := range uses {
-		tokens = append(tokens, byKey[use.Key])
-	}
-	return tokens, uses
 }
 
 // wantClaims wants so many claims to have ended in each way.
@@ -368,22 +383,6 @@ func wantClaims(t *testing.T, e *Engine, won, lost, failed uint64) {
 	if n := withClaims(e, keptOf); n != 0 {
 		t.Errorf("%d claims are kept", n)
 	}
-}
-
-// claimOf is a claim of a token that is judged, and not opened.
-func claimOf(t *testing.T, e *Engine, token string) *Request {
-	t.Helper()
-	r := NewRequest(token)
-	r.done = make(chan struct{})
-	var err error
-	if r.Key, err = e.keyring.VerifyToken(&r.read); err != nil {
-		t.Fatal(err)
-	}
-	if r.Accepted, err = e.validator.JudgeToken(moment, &r.read); err != nil {
-		t.Fatal(err)
-	}
-	r.read.Close()
-	return r
 }
 
 // request sends one to a handler.
@@ -442,15 +441,15 @@ func kept(t testing.TB, e *Engine) {
 	}
 }
 
-// claims are the claims of an engine.
-func withClaims[A any](e *Engine, look func(c *claims) A) A {
+// withClaims looks at the claims of an engine.
+func withClaims[A any](e *Engine, look func(c *claimTable) A) A {
 	e.mu.Lock()
 	defer e.mu.Unlock()
 	return look(&e.machine.claims)
 }
 
 // keptOf is how many claims are kept.
-func keptOf(c *claims) int { return len(c.open) + len(c.sent) + len(c.gather) }
+func keptOf(c *claimTable) int { return len(c.open) + len(c.gather) + len(c.again) - c.over }
 
 // again lets an engine give the disk once more what it did not take, and waits for that.
 func again(t testing.TB, e *Engine) {
@@ -458,15 +457,3 @@ func again(t testing.TB, e *Engine) {
 	e.step(doing((*Machine).keepAgain))
 	kept(t, e)
 }
-
-// waitAnHour lets no claims go out for an hour.
-func waitAnHour(m *Machine) { m.claims.at = m.now.Up + time.Hour }
-
-// sendNow lets the claims that wait go out.
-func sendNow(m *Machine) {
-	m.claims.at = m.now.Up - time.Hour
-	m.sendClaims()
-}
-
-// gathered is how many claims wait to go out.
-func gathered(e *Engine) int { return withClaims(e, func(c *claims) int { return len(c.gather) }) }

@@ -78,8 +78,9 @@ func (e *Engine) serveCheck(w http.ResponseWriter, r *http.Request) {
 type verdict struct {
 	token    string
 	accepted svid.Accepted
-	audience string // the first of the engine's that an accepted token names
-	err      error  // nil for an accepted token, a svid.NoBearer for none; else as that of Engine.Check
+	audience string           // the first of the engine's that an accepted token names
+	err      error            // nil for an accepted token, a svid.NoBearer for none; else as that of Engine.Check
+	owner    svid.ValidatorID // whose claim the token is, where the group's store said so; else zeros
 }
 
 // judgeBearer judges the bearer token of these fields Authorization, counts that, and logs it.
@@ -100,8 +101,7 @@ func (e *Engine) judgeBearer(ctx context.Context, who caller, authorization []st
 // judgeToken judges a token, counts that, and logs it.
 func (e *Engine) judgeToken(ctx context.Context, who caller, token string) verdict {
 	from, v := time.Now(), verdict{token: token}
-	var rules *Rules
-	if v.accepted, rules, v.err = e.checkBy(ctx, token); v.err == nil {
+	if rules := e.checkBy(ctx, &v); v.err == nil {
 		v.audience = rules.audience(token)
 	}
 	e.note(from, who, v)
@@ -143,8 +143,8 @@ func (e *Engine) ReasonOf(err error) string {
 		return "NotReady"
 	case errors.Is(err, ErrNoBundle):
 		return "NoBundle"
-	case errors.Is(err, ErrMissed):
-		return "ValuesMissing"
+	case errors.Is(err, ErrLost):
+		return "EntriesLost"
 	case errors.Is(err, svid.ErrJump):
 		return "ClockJump"
 	case errors.Is(err, svid.ErrNoMemory):
@@ -183,7 +183,7 @@ func (e *Engine) writeDecision(at time.Time, took time.Duration, level Level, wh
 		who.request = names.next()
 	}
 	said := readUnverified(v.token)
-	d := decision{Time: at, Level: level.String(), Request: who.request, Client: who.client, ValidatorID: e.ValidatorID, Micros: took.Microseconds()}
+	d := decision{Time: at, Level: level.String(), Request: who.request, Client: who.client, ValidatorID: e.ValidatorID, UsedBy: v.owner, Micros: took.Microseconds()}
 	switch {
 	case err == nil:
 		d.Event, d.Subject, d.KeyID = "accepted", v.accepted.ID, said.KeyID

@@ -7,7 +7,6 @@ import (
 	"testing"
 	"time"
 
-	"svid.example/go/v2/carriers"
 	"svid.example/go/v2/svid"
 )
 
@@ -51,88 +50,6 @@ func TestAClockThatJumpsAhead(t *testing.T) {
 	}
 	if b.pass(time.Second); b.count(JumpedAhead{}) != 1 {
 		t.Errorf("the clock stays there: given up %d times", b.count(JumpedAhead{}))
-	}
-}
-
-// Behind a gap the validator counts by the clock until when it accepts nothing. So while that has jumped, nothing is read, which is
-// said once a minute. The end of the machine ends the wait. So it is where a log begins anew, of which values were missed.
-func TestAGapWhileTheClockIsTooFarAhead(t *testing.T) {
-	var log bytes.Buffer
-	b := benchOf(t, Options{Mode: Strict, Grouped: true, Log: NewLog(&log, Errors)})
-	use := svid.Use{Key: svid.TokenKey{1}, Expires: moment + 300, At: moment, ValidatorID: svid.ValidatorID{9}}
-	value := func(position uint64) *Reading {
-		return &Reading{Values: []carriers.Value{{Kind: carriers.Claims, Position: position, Message: batchOf(use)}}}
-	}
-	deaf := func(want uint64) {
-		t.Helper()
-		if b.machine.log.deaf != want {
-			t.Errorf("it accepts nothing until %d, want %d", b.machine.log.deaf, want)
-		}
-	}
-	b.step(Run{})
-	b.now.Wall += 100_000
-	r := value(2)
-	for i := 0; i < 5; i++ {
-		if b.step(r); r.Done || r.Again != readPause {
-			t.Fatal("it was read", r)
-		}
-		b.pass(r.Again)
-	}
-	if n := strings.Count(log.String(), `"event":"log"`); n != 1 {
-		t.Errorf("%d lines: %s", n, &log)
-	}
-	deaf(0)
-	b.now.Wall = moment + 50
-	if b.step(r); !r.Done || r.Asides != nil {
-		t.Error(r)
-	}
-	deaf(moment + 50 + 3600 + 60)
-
-	b.now.Wall += 100_000
-	begin := &Begin{Log: carriers.Start{Ready: 7, Missed: true}}
-	for i := 0; i < 5; i++ {
-		if b.step(begin); begin.Again != readPause {
-			t.Fatal("it begins", begin)
-		}
-	}
-	deaf(moment + 50 + 3600 + 60)
-	b.now.Wall = moment + 100
-	if b.step(begin); begin.Again != 0 {
-		t.Error(begin)
-	}
-	deaf(moment + 100 + 3600 + 60)
-
-	// And where an earlier life has read more than the log has.
-	b.now.Wall += 100_000
-	recall := &Recall{Mark: svid.Mark{Passed: 8}}
-	if b.step(recall); recall.Again != readPause {
-		t.Error("it is taken over", recall)
-	}
-	deaf(moment + 100 + 3600 + 60)
-	b.now.Wall = moment + 150
-	if b.step(recall); recall.Again != 0 {
-		t.Error(recall)
-	}
-	deaf(moment + 150 + 3600 + 60)
-
-	b.now.Wall += 100_000
-	r = value(4)
-	b.step(r)
-	if b.step(End{}); r.Done || b.count(Ended{}) != 0 {
-		t.Error("it is read, or the end does not wait for it", r)
-	}
-	if b.step(r); !r.Done || r.Asides[0] != errEnded || b.count(Ended{}) != 1 {
-		t.Error(r, b.count(Ended{}))
-	}
-	begin = &Begin{Log: carriers.Start{Ready: 9, Missed: true}}
-	if b.step(begin); begin.Again != 0 {
-		t.Error("it goes on behind the end", begin)
-	}
-	deaf(moment + 150 + 3600 + 60)
-	recall = &Recall{Mark: svid.Mark{Passed: 10}}
-	load := &Load{}
-	if b.step(recall, load); recall.Again != 0 || load.Err != errEnded {
-		t.Error("what an earlier life knew is taken for known", recall, load)
 	}
 }
 

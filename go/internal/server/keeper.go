@@ -19,9 +19,18 @@ const (
 	mostAtOnce = 1 << 17
 )
 
-var errUnkept = errors.New("the state folder is too slow: uses are kept by the group's bucket alone")
+var errUnkept = errors.New("the state folder is too slow: uses are kept by the group's store alone")
 
-// A Write is uses that are to come to the disk, or where it has none, the validator's mark.
+// errMoved: in mode once every token would be answered 503, until a restart.
+var errMoved = errors.New("the state folder is no longer at its path: the log says why")
+
+// folderMoved says whether the path of the state folder leads elsewhere, so that it takes nothing any more.
+func (e *Engine) folderMoved() bool {
+	j, ok := e.Journal.(interface{ Moved() bool })
+	return ok && e.Mode == Once && j.Moved()
+}
+
+// A Write is uses that are to come to the disk.
 type Write struct {
 	Uses   []svid.Use
 	Within time.Duration // how long anybody waits for it
@@ -58,17 +67,15 @@ type keeper struct {
 	due    time.Duration // when the next ones are to be brought there
 	faults seldom
 
-	unmarked bool   // the state folder does not have the validator's mark, which has changed
-	marking  int    // how many marks are on their way
-	unkept   *Write // what the state folder did not take last, nil where it takes all
-	again    *Write // that, on its way once more
+	unkept *Write // what the state folder did not take last, nil where it takes all
+	again  *Write // that, on its way once more
 
 	size   int64 // bytes that the state folder has beside the snapshot
 	saved  int64 // the length of the last snapshot
 	saving bool  // a snapshot is being taken
 }
 
-// keep brings uses to the disk, where there is a state folder, or a mark, and lets by go on once they are there, or after
+// keep brings uses to the disk, where there is a state folder, and lets by go on once they are there, or after
 // Options.Wait at the latest.
 func (m *Machine) keep(w *Write, by writer) {
 	if m.Journal == nil {
@@ -100,7 +107,7 @@ func (w *Write) end(m *Machine, err error) {
 	if err != nil && w != m.keeper.again {
 		m.metrics.JournalFailures.Add(1)
 	}
-	if len(w.Uses) > 0 && w != m.keeper.again {
+	if w != m.keeper.again {
 		if m.keeper.unkept = nil; err != nil {
 			m.keeper.unkept = w
 		}
@@ -115,9 +122,6 @@ func (m *Machine) keepAgain() {
 	if k.unkept != nil && k.again == nil {
 		k.again = &Write{Uses: k.unkept.Uses}
 		m.keep(k.again, retry{k.unkept})
-	}
-	if k.unmarked {
-		m.markSoon()
 	}
 }
 
@@ -181,44 +185,8 @@ func (m *Machine) seldom(event string, err error) {
 	m.keeper.faults.log(m.now.Up, m.Log, event, err)
 }
 
-// Mark is where the validator is in the group's bucket: what the state folder is to have with each append, and with a
-// snapshot. Where it reads no bucket, ok is false.
-func (m *Machine) Mark() (mark svid.Mark, ok bool) {
-	mark, _, err := m.validator.LogMark()
-	return mark, err == nil
-}
-
-// markSoon brings the mark to the disk at once, where there is a state folder, and nobody waits for that: the moment until
-// which the validator accepts nothing is another one. If it fails, it is tried again each second.
-func (m *Machine) markSoon() {
-	if m.Journal == nil {
-		return
-	}
-	if m.keeper.unmarked = true; !m.loaded {
-		return // Load does it: before that, the folder takes nothing.
-	}
-	m.keeper.unmarked = false
-	m.keeper.marking++
-	m.keep(new(Write), mark{})
-}
-
-// mark is the write of a mark.
-type mark struct{}
-
-func (mark) written(m *Machine, err error) {
-	m.keeper.marking--
-	m.marked(err)
-}
-
-func (m *Machine) marked(err error) {
-	if err != nil {
-		m.keeper.unmarked = true
-		m.seldom("journal", &notKept{"position in the bucket", err})
-	}
-}
-
 // isKeeping says whether something is on its way to the disk for which nobody waits.
 func (m *Machine) isKeeping() bool {
 	k := &m.keeper
-	return k.busy || len(k.uses) > 0 || k.marking > 0
+	return k.busy || len(k.uses) > 0
 }

@@ -13,9 +13,19 @@ const lookPause = 50 * time.Millisecond
 type whoLeft struct{}
 
 // WithLeaving is a context that never ends by itself as its client leaves: hasLeft says whether it has. In mode strict the engine asks that now
-// and then while a request waits, and takes its claim back if it was not sent.
+// and then while a request waits for others, and takes its claim back if it was not put. (A request that puts its own claim waits for
+// the store.)
 func WithLeaving(ctx context.Context, hasLeft func() bool) context.Context {
 	return context.WithValue(ctx, whoLeft{}, hasLeft)
+}
+
+// isPatient says whether a context never ends by itself.
+func isPatient(ctx context.Context) bool {
+	if ctx.Done() == nil {
+		return true
+	}
+	_, looks := ctx.Value(whoLeft{}).(func() bool)
+	return looks
 }
 
 // A pulse is a channel that ends every lookPause, while somebody wants it: one timer for all who wait.

@@ -3,6 +3,7 @@ package server
 import (
 	"context"
 	"errors"
+	"fmt"
 	"sync/atomic"
 	"testing"
 	"time"
@@ -33,30 +34,47 @@ func wantAnswer(t *testing.T, answer chan error, want error) {
 	}
 }
 
-// While a claim has no outcome, it is looked now and then whether its client has left. It ends soon after that.
+// occupied claims as many tokens as there may be calls: a claim that comes then waits.
+func occupied(t *testing.T, store *shop, e *Engine) (answers []chan error) {
+	t.Helper()
+	for i := 0; i < mostCalls; i++ {
+		answers = append(answers, claimed(t, store, e, token(fmt.Sprint("first", i))))
+	}
+	return answers
+}
+
+// While a claim waits for a call, it is looked now and then whether its client has left. It ends soon after that.
 func TestAClientThatLeavesIsFound(t *testing.T) {
-	all, b := strict(t, 1)
-	e, m := all[0], b.members[0]
+	all, store := strict(t, 1)
+	e := all[0]
 	e.Wait = time.Minute
-	m.held = true
+	release := store.hold()
+	first := occupied(t, store, e)
 	looks, left, answer := checkLooking(e, token("a"))
 	await(t, "some looks", func() bool { return looks.Load() > 2 })
 	left.Store(true)
 	wantAnswer(t, answer, context.Canceled)
-	wantClaims(t, e, 0, 0, 1)
+	release()
+	for _, answer := range first {
+		wantAnswer(t, answer, nil)
+	}
+	wantClaims(t, e, mostCalls, 0, 1)
 }
 
 // A client that waits gets its answer, however often it was looked.
 func TestAClientThatWaitsIsAnswered(t *testing.T) {
-	all, b := strict(t, 1)
-	e, m := all[0], b.members[0]
+	all, store := strict(t, 1)
+	e := all[0]
 	e.Wait = time.Minute
-	m.held = true
+	release := store.hold()
+	first := occupied(t, store, e)
 	looks, _, answer := checkLooking(e, token("a"))
 	await(t, "some looks", func() bool { return looks.Load() > 2 })
-	m.hold(false)
-	wantAnswer(t, answer, nil)
-	wantClaims(t, e, 1, 0, 0)
+	release()
+	for _, answer := range append(first, answer) {
+		wantAnswer(t, answer, nil)
+	}
+	wantClaims(t, e, mostCalls+1, 0, 0)
 }
 
 // All who wait share a beat, and the next one is another. Where nobody waits, there is none.

@@ -8,54 +8,53 @@ import (
 	"runtime"
 	"strings"
 	"testing"
-
-	"svid.example/go/v2/carriers"
 )
 
 func TestNothingIsJudgedBeforeAllIsRead(t *testing.T) {
-	e := engine(t, Options{Mode: Strict, Grouped: true})
-	m := &tie{broker: &broker{}, engine: e, ready: make(chan struct{})}
+	bundles := func(e *Engine) {
+		if err := e.SetBundles(map[string]json.RawMessage{"example.org": example.JWKSet()}); err != nil {
+			t.Fatal(err)
+		}
+	}
+	load := func(e *Engine) {
+		if err := e.Load(nil); err != nil {
+			t.Fatal(err)
+		}
+	}
+	m := &tie{broker: &broker{}, ready: make(chan struct{})}
 	m.members = []*tie{m}
-	e.Begin(carriers.Start{})
-	for _, step := range []struct {
+	type step struct {
 		why string
-		do  func()
+		do  func(e *Engine)
+	}
+	for _, row := range []struct {
+		o     Options
+		steps []step
 	}{
-		{"trust bundle", func() {
-			if err := e.SetBundles(map[string]json.RawMessage{"example.org": example.JWKSet()}); err != nil {
-				t.Fatal(err)
-			}
-		}},
-		{"state folder", func() {
-			if err := e.Load(nil); err != nil {
-				t.Fatal(err)
-			}
-		}},
-		{"broker", func() { e.Join(m) }},
-		{"bucket", func() { close(m.ready) }},
-		{"", func() { e.Drain() }},
+		{Options{Mode: Once, Grouped: true, Journal: &disk{}}, []step{{"trust bundle", bundles}, {"state folder", load},
+			{"broker", func(e *Engine) { m.engine = e; e.Join(m) }}, {"bucket", func(*Engine) { close(m.ready) }}}},
+		{inStrict(Options{}), []step{{"trust bundle", bundles}, {"state folder", load}, {"store was not reached", func(e *Engine) { newShop().use(t, e) }}}},
 	} {
-		err := e.Ready()
-		if step.why == "" {
-			if err != nil {
-				t.Error(err)
+		e := engine(t, row.o)
+		for _, step := range row.steps {
+			if err := e.Ready(); err == nil || !strings.Contains(err.Error(), step.why) {
+				t.Errorf("%s: ready: %v, and it waits for %s", row.o.Mode, err, step.why)
 			}
-			step.do()
-			break
+			if err := check(e, token("a")); !errors.Is(err, ErrNotReady) {
+				t.Errorf("%s: check: %v", row.o.Mode, err)
+			}
+			step.do(e)
 		}
-		if err == nil || !strings.Contains(err.Error(), step.why) {
-			t.Errorf("ready: %v, and it waits for %s", err, step.why)
+		if err := e.Ready(); err != nil {
+			t.Error(err)
 		}
-		if err := check(e, token("a")); !errors.Is(err, ErrNotReady) {
-			t.Errorf("check: %v", err)
+		e.Drain()
+		if err := e.Ready(); err == nil || err.Error() != "draining" {
+			t.Errorf("%s: ready: %v", row.o.Mode, err)
 		}
-		step.do()
-	}
-	if err := e.Ready(); err == nil || err.Error() != "draining" {
-		t.Errorf("ready: %v", err)
-	}
-	if err := check(e, token("a")); err != nil {
-		t.Errorf("a request while it drains: %v", err)
+		if err := check(e, token("a")); err != nil {
+			t.Errorf("%s: a request while it drains: %v", row.o.Mode, err)
+		}
 	}
 }
 
@@ -89,12 +88,12 @@ func TestRunEndsWithASnapshotAndAllTold(t *testing.T) {
 // Nothing of an engine goes on behind its end, nor behind requests that were given up.
 func TestNothingGoesOnBehindTheEnd(t *testing.T) {
 	before := runtime.NumGoroutine()
-	all, b := strict(t, 1)
+	all, store := strict(t, 1)
 	e := all[0]
 	ctx, cancel := context.WithCancel(context.Background())
 	ended := make(chan struct{})
 	go func() { e.Run(ctx); close(ended) }()
-	b.members[0].held = true // for good: each claim's time is up
+	defer store.hold()()
 	for i := 0; i < 50; i++ {
 		request, give := context.WithCancel(context.Background())
 		answer := make(chan error)
@@ -104,7 +103,7 @@ func TestNothingGoesOnBehindTheEnd(t *testing.T) {
 			t.Error("a token was accepted that nobody won")
 		}
 	}
-	if n := withClaims(e, func(c *claims) int { return len(c.open) }); n != 0 {
+	if n := withClaims(e, func(c *claimTable) int { return len(c.open) }); n != 0 {
 		t.Errorf("%d claims are open", n)
 	}
 	cancel()

@@ -11,6 +11,7 @@ import (
 	"sync/atomic"
 	"time"
 
+	"svid.example/go/v2/internal/brief"
 	"svid.example/go/v2/internal/jsontext"
 	"svid.example/go/v2/svid"
 )
@@ -98,6 +99,9 @@ func (s standard) Write(line []byte) (int, error) {
 // Writes says whether lines of this level are written.
 func (l *Log) Writes(level Level) bool { return l != nil && level <= Level(l.level.Load()) }
 
+// mostValue is how many bytes of a text stand in a line: it may be one of a server, or of whoever wrote to a group's store or log.
+const mostValue = 4096
+
 func (l *Log) write(level Level, event string, fields []any) {
 	if !l.Writes(level) {
 		return
@@ -111,6 +115,9 @@ func (l *Log) write(level Level, event string, fields []any) {
 		value := fields[i+1]
 		if err, ok := value.(error); ok {
 			value = err.Error()
+		}
+		if text, ok := value.(string); ok {
+			value = brief.Text(text, mostValue)
 		}
 		if value != nil {
 			line[name] = value
@@ -152,6 +159,9 @@ func (l *Log) decide(d *decision) {
 	line = appendMember(line, "request", d.Request)
 	line = appendUnlessEmpty(line, "client", d.Client)
 	line = appendDigits(line, "validator_id", d.ValidatorID[:])
+	if d.UsedBy != (svid.ValidatorID{}) {
+		line = appendDigits(line, "used_by", d.UsedBy[:])
+	}
 	if d.Claimed != nil {
 		line = d.Claimed.append(append(line, `,"claimed":`...))
 	}
@@ -207,6 +217,7 @@ type decision struct {
 	Request     string
 	Client      string // "" where a service asks by Engine.Check
 	ValidatorID svid.ValidatorID
-	Claimed     *unverified // what a refused token says of itself
+	UsedBy      svid.ValidatorID // who has the token's claim, where it is another one's; else zeros
+	Claimed     *unverified      // what a refused token says of itself
 	Micros      int64
 }

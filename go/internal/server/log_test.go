@@ -5,6 +5,7 @@ import (
 	"errors"
 	"strings"
 	"testing"
+	"time"
 	"unicode"
 
 	"svid.example/go/v2/svid"
@@ -44,6 +45,30 @@ func TestTheLogHoldsLittleOfARefusedToken(t *testing.T) {
 	}
 	if n := out.Len(); n > 2000 || n == 0 {
 		t.Errorf("%d bytes are logged", n)
+	}
+}
+
+// What a server says may be long. Its line is not, and no line behind it is lost.
+func TestALongTextIsCutInTheLog(t *testing.T) {
+	var out lines
+	outlet := NewOutlet(&out)
+	log := NewLog(outlet, All)
+	long := strings.Repeat("\u00e9", 1<<20)
+	log.Error("one", errors.New(long), "source", long)
+	log.Event("two", "why", errors.New(long))
+	log.Standard("http").Print(long)
+	log.Event("last")
+	outlet.Close(time.Minute)
+	out.mu.Lock()
+	defer out.mu.Unlock()
+	all := strings.Split(strings.TrimSuffix(out.text.String(), "\n"), "\n")
+	if len(all) != 4 || log.Dropped() != 0 || !strings.Contains(all[3], `"event":"last"`) {
+		t.Errorf("%d lines, %d dropped", len(all), log.Dropped())
+	}
+	for _, line := range all {
+		if len(line) > 3*mostValue {
+			t.Errorf("a line of %d bytes: %.200s", len(line), line)
+		}
 	}
 }
 

@@ -34,9 +34,9 @@ type Machine struct {
 	began      uint64 // when the machine was made
 
 	rules  *Rules     // that count
-	claims claims     // in mode strict
+	claims claimTable // in mode strict
 	again  []*Request // these begin again with their claims
-	log    reader     // in mode strict: of the group's log
+	store  storeView  // where there is a store
 
 	keeper keeper // what the disk is to have
 	tale   tale   // what the group is to be told
@@ -70,8 +70,12 @@ type Effect interface{ isEffect() }
 type (
 	// Verify: find the key that made the signature of the request's token. Set Key or Fault, and then Verified.
 	Verify struct{ *Request }
-	// Append: bring the uses to the disk, or where there are none, the validator's mark. Set Err and Size, and then Kept.
+	// Append: bring the uses to the disk. Set Err and Size, and then Kept.
 	Append struct{ *Write }
+	// PutClaims: put the claims into the store, within Within. Set Found, and then Claimed.
+	PutClaims struct{ *Batch }
+	// WithdrawAtStore: put the withdrawal into the store, within Within. Set Owner or Err, and then Stored.
+	WithdrawAtStore struct{ *StoreWithdraw }
 	// Send: put the value into the group's log, within Within. Set Err, and where Timed says so, At or AtErr; then Landed.
 	Send struct{ *Put }
 	// Answer: the call is answered: look at its Err.
@@ -80,17 +84,19 @@ type (
 	Snapshot struct{}
 	// JumpedAhead: the clock has been too far ahead for a minute: begin anew.
 	JumpedAhead struct{}
-	// Ended: all is told and kept that could be, behind End.
+	// Ended: sent after End, once everything that could be published and persisted was.
 	Ended struct{}
 )
 
-func (Verify) isEffect()      {}
-func (Append) isEffect()      {}
-func (Send) isEffect()        {}
-func (Answer) isEffect()      {}
-func (Snapshot) isEffect()    {}
-func (JumpedAhead) isEffect() {}
-func (Ended) isEffect()       {}
+func (Verify) isEffect()          {}
+func (Append) isEffect()          {}
+func (PutClaims) isEffect()       {}
+func (WithdrawAtStore) isEffect() {}
+func (Send) isEffect()            {}
+func (Answer) isEffect()          {}
+func (Snapshot) isEffect()        {}
+func (JumpedAhead) isEffect()     {}
+func (Ended) isEffect()           {}
 
 // A Call is something that waits for an Answer.
 type Call struct {
@@ -99,38 +105,45 @@ type Call struct {
 	answered bool
 }
 
-// NewMachine returns a machine that is not ready, whose validator has an empty record. It wants Renewed and Load, and where
-// Options.Grouped is set, Joined, Begin and CaughtUp. It uses the validator until Ended.
+// NewMachine returns a machine that is not ready, whose validator has an empty record. It wants Renewed and Load, where
+// Options.Grouped is set Joined and CaughtUp, and where Options.Stored is set StoreOpened and Looked. It uses the validator until Ended.
 func NewMachine(o Options, validator *svid.Validator, now Time) *Machine {
 	return newMachine(&o, new(Metrics), validator, now)
 }
 
 func newMachine(o *Options, metrics *Metrics, validator *svid.Validator, now Time) *Machine {
+	o.Stored = o.Stored || o.Mode == Strict
 	m := &Machine{Options: o, metrics: metrics, validator: validator, now: now, began: now.Wall, second: never}
 	m.claims = newClaims(now.Up)
 	m.keeper.due, m.tale.due = never, never
-	m.log = reader{room: make([]svid.LogUse, readRoom), readings: make([]svid.Reading, readRoom), stuckAt: now.Up - seldomTime}
 	m.mixedAt = now.Up - seldomTime
 	m.rules = o.firstRules()
 	return m
 }
 
-// Step lets an event happen. now is not before the last one by Up, or counts as that.
+// Step lets an event happen. now is not before the last one by Up, or counts as that. Whatever is late by then is late before the
+// event: no answer that comes after a request's deadline makes it a 200.
 func (m *Machine) Step(now Time, event Event) {
 	m.goTo(now)
+	m.overdue()
 	event.happen(m)
 	m.settle()
 }
 
-// Tick lets happen what is due by now. To be called at Due, or any time.
-func (m *Machine) Tick(now Time) {
-	m.goTo(now)
+// overdue lets happen what is late.
+func (m *Machine) overdue() {
 	for one := m.timers.due(m.now.Up); one != nil; one = m.timers.due(m.now.Up) {
 		what := one.what
 		m.timers.stop(one)
 		what.isLate(m)
 	}
-	if m.claims.due <= m.now.Up {
+}
+
+// Tick lets happen what is due by now. To be called at Due, or any time.
+func (m *Machine) Tick(now Time) {
+	m.goTo(now)
+	m.overdue()
+	if m.claims.nextDue() <= m.now.Up {
 		m.sendClaims()
 	}
 	if m.keeper.due <= m.now.Up {
@@ -153,7 +166,7 @@ func (m *Machine) Due() time.Duration {
 		return m.now.Up
 	}
 	due := m.timers.next()
-	for _, other := range [...]time.Duration{m.claims.due, m.keeper.due, m.tale.due, m.tale.nextLater(), m.second} {
+	for _, other := range [...]time.Duration{m.claims.nextDue(), m.keeper.due, m.tale.due, m.tale.nextLater(), m.second} {
 		if other < due {
 			due = other
 		}
@@ -258,7 +271,7 @@ func (m *Machine) end() {
 	if m.giveUp <= m.now.Up {
 		m.dropTale()
 	}
-	if m.isTelling() || m.isKeeping() || m.log.reading || m.keeper.saving {
+	if m.isTelling() || m.isKeeping() || m.claims.calls > 0 || m.keeper.saving {
 		return
 	}
 	if m.Journal != nil && m.loaded && !m.last {
@@ -282,8 +295,8 @@ func (m *Machine) Ready(now Time) error {
 	if m.Mode == Once && m.keeper.unkept != nil {
 		return errKeepsNothing
 	}
-	if until := m.deafUntil(); until > 0 {
-		return fmt.Errorf("%w: no token is accepted until %d, unless svidd resume says so", ErrMissed, until)
+	if m.Mode == Strict && m.isDeaf() {
+		return fmt.Errorf("the store has lost entries: no token is accepted that expires before %d, and so none at the moment", m.store.state.Deaf)
 	}
 	return m.canJudge()
 }
@@ -294,12 +307,16 @@ var errKeepsNothing = errors.New("the state folder takes no acceptances: the log
 // canJudge returns nil once bundles, the machine's own record and the group's are read.
 func (m *Machine) canJudge() error {
 	switch {
+	case m.ended:
+		return errors.New("the sidecar has ended")
 	case !m.bundled:
 		return errors.New("there is no trust bundle")
-	case !m.loaded && m.Mode == Strict && !m.joined:
-		return errors.New("the group's broker was not reached yet, and the state folder is read after its log")
 	case !m.loaded:
 		return errors.New("the state folder is being read")
+	case m.Stored && !m.store.opened:
+		return errors.New("the group's store was not reached yet")
+	case m.Stored && m.Mode != Strict && !m.store.heard:
+		return errors.New("the store's withdrawals are being read")
 	case !m.Grouped:
 		return nil
 	case !m.joined:
@@ -314,8 +331,8 @@ func (m *Machine) canJudge() error {
 // it is 0.
 func (m *Machine) Backlog() int {
 	c, k, t := &m.claims, &m.keeper, &m.tale
-	n := c.requests + len(c.open) + len(c.editions) + len(c.gather) + len(c.sent) + len(m.again)
-	n += len(k.uses) + k.marking + len(t.untold) + len(t.later) + len(m.late.messages)
+	n := c.requests + len(c.open) + len(c.gather) + len(c.again) - c.over + c.calls + len(m.again)
+	n += len(k.uses) + len(t.untold) + len(t.later) + len(m.late.messages)
 	for one := m.timers.first; one != nil; one = one.next {
 		n++
 	}

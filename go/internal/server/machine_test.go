@@ -5,10 +5,11 @@ import (
 	"errors"
 	"fmt"
 	"math/rand"
+	"strings"
 	"testing"
 	"time"
 
-	"svid.example/go/v2/carriers"
+	"svid.example/go/v2/claims"
 	"svid.example/go/v2/svid"
 )
 
@@ -18,13 +19,13 @@ type bench struct {
 	machine *Machine
 	keyring *svid.Keyring
 	now     Time
-	puts    []*Put   // that were sent
+	batches []*Batch // that went to the store
 	others  []Effect // that came besides
 }
 
 func newBench(t testing.TB) *bench {
 	t.Helper()
-	return benchOf(t, Options{Mode: Strict, Grouped: true})
+	return benchOf(t, inStrict(Options{}))
 }
 
 // benchOf is one with other options.
@@ -43,7 +44,7 @@ func benchOf(t testing.TB, of Options) *bench {
 	}
 	t.Cleanup(b.keyring.Close)
 	b.machine = NewMachine(of, validator, b.now)
-	b.step(Renewed{Domains: 1}, &Begin{}, &Load{}, Joined{}, CaughtUp{})
+	b.step(Renewed{Domains: 1}, &Load{}, StoreOpened{claims.State{Epoch: "one", Time: moment}})
 	return b
 }
 
@@ -64,8 +65,8 @@ func (b *bench) pass(d time.Duration) {
 
 func (b *bench) collect() {
 	for _, effect := range b.machine.Effects(nil) {
-		if send, ok := effect.(Send); ok {
-			b.puts = append(b.puts, send.Put)
+		if put, ok := effect.(PutClaims); ok {
+			b.batches = append(b.batches, put.Batch)
 		} else {
 			b.others = append(b.others, effect)
 		}
@@ -97,21 +98,13 @@ func (b *bench) asks(id string) *Request {
 	return r
 }
 
-// reads lets uses be read from the log, in a value at the next position.
-func (b *bench) reads(uses ...svid.Use) {
-	mark, _, err := b.machine.validator.LogMark()
-	if err != nil {
-		b.t.Fatal(err)
+// answers lets the store answer a call: each claim is what it put, or nothing is known.
+func (b *bench) answers(call int, fault error) {
+	batch := b.batches[call]
+	for i := range batch.Found {
+		batch.Found[i] = claims.Found{Owner: batch.Claims[i].Owner, Time: b.now.Wall, Err: fault}
 	}
-	for r := (&Reading{Values: []carriers.Value{{Kind: carriers.Claims, Position: mark.Passed + 1, Message: batchesOf(uses)}}}); !r.Done; {
-		b.step(r)
-	}
-}
-
-// lands lets the broker answer to a value.
-func (b *bench) lands(p *Put, err error) {
-	p.Err = err
-	b.step(Landed{p})
+	b.step(Claimed{batch})
 }
 
 // want wants so many claims to have ended in each way, and nothing to be kept of them.
@@ -121,203 +114,152 @@ func (b *bench) want(won, lost, failed uint64) {
 	if w, l, f := m.ClaimsWon.Load(), m.ClaimsLost.Load(), m.ClaimsFailed.Load(); w != won || l != lost || f != failed {
 		b.t.Errorf("%d claims won, %d lost, %d failed; want %d, %d, %d", w, l, f, won, lost, failed)
 	}
-	if c := &b.machine.claims; keptOf(c)+len(c.editions)+c.requests != 0 || b.machine.timers.first != nil {
-		b.t.Errorf("%d claims of %d editions and %d requests are kept", keptOf(c), len(c.editions), c.requests)
+	if n := b.machine.Backlog(); n != 0 {
+		b.t.Errorf("%d things are under way", n)
 	}
 }
 
-// Once the last value is stored, the next one does not wait as long as for an answer that stays away. While requests are
-// being worked on, it waits for their claims.
-func TestTheNextValueGoesOutOnceTheLastOneLanded(t *testing.T) {
-	for how, land := range map[string]func(b *bench){
-		"the answer":  func(b *bench) { b.lands(b.puts[0], nil) },
-		"the value":   func(b *bench) { b.reads(b.puts[0].Uses...) },
-		"its failure": func(b *bench) { b.lands(b.puts[0], errors.New("time is up")) },
+// A claim goes out at once where no call is under way. Else it waits for the answer, for some time.
+func TestAClaimWaitsForTheCallUnderWay(t *testing.T) {
+	for how, pass := range map[string]func(b *bench){
+		"the answer": func(b *bench) { b.answers(0, nil) },
+		"its time":   func(b *bench) { b.pass(nextCall) },
 	} {
 		b := newBench(t)
 		b.asks("1")
-		if len(b.puts) != 1 || b.puts[0].Number != 1 {
-			t.Fatalf("%s: %d values are sent", how, len(b.puts))
+		if len(b.batches) != 1 {
+			t.Fatalf("%s: %d calls", how, len(b.batches))
 		}
-		sent := b.now.Up
 		b.asks("2")
-		for _, row := range []struct {
-			what string
-			do   func()
-			want time.Duration
-		}{
-			{"nothing", func() { b.comes("3"); b.comes("4"); b.step(Drain{}) }, claimFlight},
-			{how, func() { land(b); b.machine.sendClaims() }, claimCompany},
-			{"as many in work as wait", func() { b.asks("5") }, claimPause},
-		} {
-			if row.do(); len(b.puts) != 1 {
-				t.Fatalf("%s: %d values are sent", row.what, len(b.puts))
-			}
-			if got := b.machine.Due() - sent; got != row.want {
-				t.Errorf("%s: behind %s the next value is due after %v", how, row.what, got)
-			}
+		b.asks("3")
+		if b.pass(nextCall - 1); len(b.batches) != 1 {
+			t.Fatalf("%s: a call goes out too early", how)
 		}
-		b.pass(claimPause - 1)
-		if len(b.puts) != 1 {
-			t.Errorf("%s: a value goes out too early", how)
+		b.now.Up -= nextCall - 1
+		b.machine.now.Up = b.now.Up
+		if pass(b); len(b.batches) != 2 || len(b.batches[1].Claims) != 2 {
+			t.Fatalf("%s: %d calls", how, len(b.batches))
 		}
-		b.pass(1)
-		if len(b.puts) != 2 || len(b.puts[1].Uses) != 2 {
-			t.Errorf("%s: %d values are sent", how, len(b.puts))
+		if how == "its time" {
+			b.answers(0, nil)
 		}
+		b.answers(1, nil)
+		b.want(3, 0, 0)
 	}
 }
 
-// A claim that is given up before its value goes out is not sent.
+// While calls have no answer, others go out beside them, and not more than so many.
+func TestCallsBesideEachOther(t *testing.T) {
+	b := newBench(t)
+	for i := 0; i < mostCalls+10; i++ {
+		b.asks(fmt.Sprint(i))
+		b.pass(nextCall)
+	}
+	if len(b.batches) != mostCalls {
+		t.Fatalf("%d calls are under way", len(b.batches))
+	}
+	b.answers(3, nil)
+	if len(b.batches) != mostCalls+1 || len(b.batches[mostCalls].Claims) != 10 {
+		t.Fatalf("%d calls", len(b.batches))
+	}
+}
+
+// A claim that is given up before its call goes out is not put.
 func TestAClaimThatWaitsCanBeTakenBack(t *testing.T) {
 	b := newBench(t)
-	b.step(doing(waitAnHour))
+	b.asks("first")
 	one, two := b.asks("1"), b.asks("2")
 	b.step(Gone{one, context.Canceled}, Gone{one, context.Canceled})
 	if !errors.Is(one.Err, context.Canceled) || b.machine.metrics.ClaimsFailed.Load() != 1 {
 		t.Errorf("a claim is given up once: %v", one.Err)
 	}
-	use := two.Accepted.Use
-	b.step(doing(sendNow))
-	if len(b.puts) != 1 || len(b.puts[0].Uses) != 1 || b.puts[0].Uses[0] != use {
-		t.Errorf("%d values", len(b.puts))
+	key := two.Accepted.Use.Key
+	b.answers(0, nil)
+	if len(b.batches) != 2 || len(b.batches[1].Claims) != 1 || b.batches[1].Claims[0].Key != key {
+		t.Errorf("%d calls", len(b.batches))
 	}
-	earlier, another := use, use // of this token: from a request that was given up before, and from another sidecar
-	earlier.At--
-	another.ValidatorID = svid.ValidatorID{9}
-	for _, one := range []svid.Use{earlier, another} {
-		if b.reads(one); two.answered {
-			t.Errorf("a claim ends by a use that is not its own: %v", two.Err)
-		}
-	}
-	b.reads(use)
-	if two.Err != svid.Replayed {
-		t.Error(two.Err)
-	}
-	b.lands(b.puts[0], errors.New("late"))
+	b.answers(1, nil)
 	b.step(Gone{two, context.Canceled})
-	if two.Err != svid.Replayed {
+	if two.Err != nil {
 		t.Errorf("a claim fails whose outcome is there: %v", two.Err)
 	}
-	b.want(0, 1, 1)
+	b.want(2, 0, 1)
 }
 
-// A claim is given up, is read, and its value lands, in any order: it ends once.
-func TestClaimsEndAndAreGivenUpAtOnce(t *testing.T) {
-	for i, order := range [][3]int{{0, 1, 2}, {0, 2, 1}, {1, 0, 2}, {1, 2, 0}, {2, 0, 1}, {2, 1, 0}} {
-		for _, fault := range []error{nil, errors.New("time is up")} {
-			b := newBench(t)
-			r := b.asks(fmt.Sprint(i))
-			use, first := r.Accepted.Use, error(nil)
-			for n, what := range order {
-				switch what {
-				case 0:
-					b.lands(b.puts[0], fault)
-				case 1:
-					b.step(Gone{r, context.Canceled})
-				case 2:
-					b.reads(use)
-				}
-				if ended := what != 0 || fault != nil; ended && !r.answered {
-					t.Fatalf("%v: %d: no outcome", order, n)
-				}
-				if first == nil {
-					first = r.Err
-				}
-				if r.Err != first {
-					t.Errorf("%v: %v, and then %v", order, first, r.Err)
-				}
-			}
-			if r.Err == nil {
-				b.want(1, 0, 0)
-			} else {
-				b.want(0, 0, 1)
-			}
+// An answer that comes at the end of a request's time, or later, makes no 200 of it, also where nothing else happened since.
+func TestALateAnswerAcceptsNothing(t *testing.T) {
+	for wait, want := range map[time.Duration]error{time.Minute - 1: nil, time.Minute: context.DeadlineExceeded, 3 * time.Minute: context.DeadlineExceeded} {
+		b := newBench(t)
+		r := b.asks("1")
+		b.now.Up += wait
+		if b.answers(0, nil); !r.answered || !errors.Is(r.Err, want) || (r.Err == nil) != (want == nil) {
+			t.Errorf("after %v: %v, want %v", wait, r.Err, want)
 		}
 	}
-}
-
-// A value that fails once some of its claims have an outcome fails the others alone.
-func TestAValueThatFailsHalfway(t *testing.T) {
-	b := newBench(t)
-	b.step(doing(waitAnHour))
-	one, two := b.asks("1"), b.asks("2")
-	b.step(doing(sendNow))
-	b.reads(one.Accepted.Use)
-	late := errors.New("late")
-	b.lands(b.puts[0], late)
-	if one.Err != nil || !one.answered || !errors.Is(two.Err, late) {
-		t.Errorf("%v, %v", one.Err, two.Err)
-	}
-	b.want(1, 0, 1)
-}
-
-// A claim whose value has not gone out is open still, whatever stands in the bucket.
-func TestAClaimThatHasNotGoneOutStaysOpen(t *testing.T) {
-	b := newBench(t)
-	b.step(doing(waitAnHour))
+	// So it is of a write, in mode once.
+	b := benchOf(t, Options{Mode: Once, Journal: &disk{}})
 	r := b.asks("1")
-	use := r.Accepted.Use
-	if b.reads(use); r.answered {
-		t.Errorf("it has ended: %v", r.Err)
-	}
-	b.step(doing(sendNow))
-	if b.reads(use); !r.answered || r.Err != svid.Replayed {
-		t.Errorf("it has not ended: %v", r.Err)
+	b.now.Up += 3 * time.Minute
+	if b.step(Kept{r.write}); !errors.Is(r.Err, context.DeadlineExceeded) {
+		t.Errorf("a late write: %v", r.Err)
 	}
 }
 
-// Each claim that waits goes out when it is due, also where an earlier one did.
-func TestEachClaimThatWaitsHasItsTimer(t *testing.T) {
-	b := newBench(t)
-	for i := 1; i < 6; i++ {
-		r := b.asks(fmt.Sprint(i))
-		if i > 1 {
-			if len(b.puts) != i-1 {
-				t.Fatalf("value %d goes out without a pause", i)
-			}
-			b.pass(b.machine.Due() - b.now.Up)
+// A claim is given up and answered, in any order: it ends once.
+func TestClaimsEndOnce(t *testing.T) {
+	for _, gone := range []bool{true, false} {
+		b := newBench(t)
+		r := b.asks("1")
+		if gone {
+			b.step(Gone{r, context.Canceled})
+			b.answers(0, nil)
+			b.want(0, 0, 1)
+		} else {
+			b.answers(0, nil)
+			b.step(Gone{r, context.Canceled})
+			b.want(1, 0, 0)
 		}
-		if len(b.puts) != i {
-			t.Fatalf("claim %d waits for ever", i)
+		if (r.Err != nil) != gone {
+			t.Errorf("gone %v: %v", gone, r.Err)
 		}
-		b.reads(r.Accepted.Use)
 	}
-	b.want(5, 0, 0)
 }
 
-// Claims that have no room in a value go out with the next one.
-func TestClaimsWithoutRoomGoOutNext(t *testing.T) {
+// Claims without an answer are put again, after a pause that grows, until their time is over. Others do not wait for them.
+func TestClaimsWithoutAnswerArePutAgain(t *testing.T) {
 	b := newBench(t)
-	const more = 3
-	b.step(doing(waitAnHour))
-	for i := 0; i < mostClaims+more; i++ {
-		b.asks(fmt.Sprint(i))
-	}
-	b.step(doing(sendNow))
-	seen := map[svid.TokenKey]bool{}
-	for number, want := range []int{mostClaims, more} {
-		if len(b.puts) != number+1 {
-			t.Fatalf("%d values are sent", len(b.puts))
+	fault := errors.New("connection refused")
+	r := b.asks("1")
+	pause := firstRetry
+	for i := 0; i < 10; i++ {
+		b.answers(i, fault)
+		if r.answered || b.machine.Due() != b.now.Up+pause {
+			t.Fatalf("try %d: it is due after %v, want %v", i, b.machine.Due()-b.now.Up, pause)
 		}
-		if p := b.puts[number]; p.Number != uint64(number+1) || len(p.Uses) != want {
-			t.Errorf("value %d has %d claims, and %d are due", p.Number, len(p.Uses), want)
+		if b.pass(pause); len(b.batches) != i+2 {
+			t.Fatalf("try %d: %d calls", i, len(b.batches))
 		}
-		for _, u := range b.puts[number].Uses {
-			seen[u.Key] = true
+		if pause *= 2; pause > lastRetry {
+			pause = lastRetry
 		}
-		b.pass(claimFlight)
 	}
-	if len(seen) != mostClaims+more {
-		t.Errorf("%d claims went out", len(seen))
+	b.answers(10, fault)
+	other := b.asks("2")
+	if b.answers(11, nil); other.Err != nil || !other.answered || r.answered {
+		t.Errorf("another claim: %v", other.Err)
 	}
+	if b.pass(time.Minute); !errors.Is(r.Err, context.DeadlineExceeded) || !strings.Contains(r.Err.Error(), fault.Error()) {
+		t.Error(r.Err)
+	}
+	b.pass(time.Minute)
+	b.want(1, 0, 1)
 }
 
 // Who sends one token very often holds nobody up: the requests that wait for its claim go on by and by, and all are answered.
 // Those that leave are answered at once.
 func TestOneTokenThatIsSentVeryOften(t *testing.T) {
 	b := newBench(t)
-	first := b.asks("1")
+	b.asks("1")
 	var all []*Request
 	for i := 0; i < 5*mostAgain; i++ {
 		all = append(all, b.asks("1"))
@@ -334,7 +276,7 @@ func TestOneTokenThatIsSentVeryOften(t *testing.T) {
 	if n := answered(); n != 1 {
 		t.Errorf("%d are answered", n)
 	}
-	b.reads(first.Accepted.Use)
+	b.answers(0, nil)
 	if n := answered(); n != 1+mostAgain {
 		t.Errorf("%d are answered in one step", n)
 	}
@@ -385,5 +327,111 @@ func TestTimers(t *testing.T) {
 		if all.first != nil || all.last != nil || all.next() != never {
 			t.Fatalf("round %d: timers are left", round)
 		}
+	}
+}
+
+// A pause before another try is short again once an answer came.
+func TestAPauseIsShortAgainAfterAnAnswer(t *testing.T) {
+	b := newBench(t)
+	fault := errors.New("connection refused")
+	b.asks("1")
+	for i, pause := 0, firstRetry; i < 6; i, pause = i+1, 2*pause {
+		b.answers(i, fault)
+		b.pass(b.machine.Due() - b.now.Up)
+	}
+	b.answers(6, nil)
+	b.asks("2")
+	if b.answers(7, fault); b.machine.Due() != b.now.Up+firstRetry {
+		t.Errorf("it is due after %v", b.machine.Due()-b.now.Up)
+	}
+}
+
+// Claims that have no room in a call go out with the next one, also where no answer comes.
+func TestClaimsWithoutRoomGoOutByThemselves(t *testing.T) {
+	b := newBench(t)
+	b.asks("first")
+	const more = 3
+	for i := 0; i < claims.MostClaims+more; i++ {
+		b.asks(fmt.Sprint(i))
+	}
+	for i, want := range []int{1, claims.MostClaims, more} {
+		if len(b.batches) != i+1 || len(b.batches[i].Claims) != want {
+			t.Fatalf("%d calls, and the last one has %d claims", len(b.batches), len(b.batches[len(b.batches)-1].Claims))
+		}
+		b.pass(b.machine.Due() - b.now.Up)
+	}
+}
+
+// A claim of who was admitted by rules that count no more is not accepted: it comes again.
+func TestAClaimOfACallerWhoMayNotCallAnyMore(t *testing.T) {
+	b := newBench(t)
+	r := NewRequest(token("1"))
+	r.rules = b.machine.rules
+	b.step(r)
+	r.Key, r.Fault = b.keyring.VerifyToken(&r.read)
+	b.step(Verified{r})
+	b.step(&Ruling{Rules: &Rules{Audiences: b.machine.rules.Audiences, Allow: []string{"spiffe://example.org/job"}}})
+	if b.answers(0, nil); r.Err != errOtherRules || r.rules != b.machine.rules {
+		t.Errorf("%v", r.Err)
+	}
+}
+
+// Another token of a key is no lost one: it may be accepted once the first one has expired.
+func TestALostTokenIsThatAlone(t *testing.T) {
+	l := newLostClaims(0)
+	use := svid.Use{Key: svid.TokenKey{1}, Expires: moment + 10}
+	l.add(0, use, svid.ValidatorID{7})
+	if owner, lost := l.owner(&use); !lost || owner != (svid.ValidatorID{7}) {
+		t.Errorf("%v %v", owner, lost)
+	}
+	use.Expires++
+	if _, lost := l.owner(&use); lost {
+		t.Error("a later token of the key is lost")
+	}
+}
+
+// Tokens of others are kept for a while, and not more than so many.
+func TestLostTokensHaveABound(t *testing.T) {
+	l := newLostClaims(0)
+	one := svid.Use{Expires: moment}
+	l.add(0, one, svid.ValidatorID{7})
+	for i := 0; i < 3*mostLost; i++ {
+		l.add(time.Duration(i), svid.Use{Key: svid.TokenKey{1, byte(i), byte(i >> 8), byte(i >> 16)}}, svid.ValidatorID{})
+	}
+	if n := len(l.young) + len(l.old); n > 2*mostLost {
+		t.Errorf("%d are kept", n)
+	}
+	if _, lost := l.owner(&one); lost {
+		t.Error("one of long ago is kept")
+	}
+	for i := 1; i < 3; i++ { // and each for two minutes at the least, where few come
+		l.add(time.Duration(i)*2*lostLook, svid.Use{Key: svid.TokenKey{2, byte(i)}}, svid.ValidatorID{})
+	}
+	if n := len(l.young) + len(l.old); n > 2 {
+		t.Errorf("%d are kept though few come", n)
+	}
+}
+
+// Once the machine has ended, nothing is claimed any more.
+func TestNothingIsClaimedAfterTheEnd(t *testing.T) {
+	b := newBench(t)
+	b.step(End{})
+	if b.count(Ended{}) != 1 {
+		t.Fatal("it does not end")
+	}
+	if r := b.comes("late"); !errors.Is(r.Err, ErrNotReady) || b.count(Verify{}) != 0 {
+		t.Errorf("%v", r.Err)
+	}
+}
+
+// The end waits for calls that are under way, and answers their requests.
+func TestTheEndWaitsForCalls(t *testing.T) {
+	b := newBench(t)
+	r := b.asks("1")
+	if b.step(End{}); b.count(Ended{}) != 0 {
+		t.Error("it ends while a call is under way")
+	}
+	if b.answers(0, nil); r.Err != nil || !r.answered || b.count(Ended{}) != 1 {
+		t.Errorf("%v, ended %d times", r.Err, b.count(Ended{}))
 	}
 }

@@ -13,6 +13,7 @@ import (
 	"syscall"
 	"time"
 
+	"svid.example/go/v2/claims"
 	"svid.example/go/v2/internal/version"
 	"svid.example/go/v2/svid"
 )
@@ -33,7 +34,7 @@ type Metrics struct {
 	Snapshots, JournalFailures          atomic.Uint64
 	Uses, Moment                        atomic.Uint64
 	OtherMode                           atomic.Uint64
-	Gaps                                atomic.Uint64
+	Epochs                              atomic.Uint64
 
 	// BundleAges returns the seconds since each trust domain's bundle was read.
 	// It is set before the first request, or stays nil.
@@ -93,11 +94,15 @@ func (e *Engine) WriteMetrics(w io.Writer) error {
 		p.counter("svidd_messages_taken_total", "Messages of the group that the record took.", g.Taken())
 		p.counter("svidd_messages_aside_total", "Messages of the group that were put aside.", g.Aside())
 		p.counter("svidd_messages_of_other_mode_total", "Messages of sidecars of the group that run in another mode.", m.OtherMode.Load())
-		if e.Mode == Strict {
-			p.counter("svidd_log_gaps_total", "Times that values of the group's bucket were missing.", m.Gaps.Load())
-			p.gauge("svidd_log_missed_until_timestamp_seconds", "Until this time the sidecar accepts nothing, since values of the bucket are missing; 0 if it accepts tokens.", float64(e.deafUntil()))
-		}
 		p.gauge("svidd_broker_connected", "1 if the group's broker is there.", truth(g.Connected()))
+	}
+	if e.Stored {
+		state := e.storeState()
+		p.gauge("svidd_store_connected", "1 if the group's store answered within the last second.", truth(e.store.Load() != nil && e.outlook.away.Load() == nil))
+		p.counter("svidd_store_epochs_total", "Times that the group's store lost entries, as this sidecar saw it.", m.Epochs.Load())
+		p.gauge("svidd_store_deaf_until_timestamp_seconds", "Tokens that expire by this time are not accepted, since the store has lost entries; 0 if it has lost none.", float64(state.Deaf))
+		p.head("svidd_store_epoch_info", "gauge", "1, with the store's epoch: one history of it in which nothing was lost.")
+		p.value(fmt.Sprintf("svidd_store_epoch_info{epoch=%q}", state.Epoch), 1)
 	}
 	p.gauge("svidd_record_uses", "Uses and withdrawals in the record, counted every second.", float64(m.Uses.Load()))
 	p.gauge("svidd_record_moment_timestamp_seconds", "The record's clock, in seconds since 1970, when its uses were last counted.", float64(m.Moment.Load()))
@@ -132,6 +137,13 @@ func (e *Engine) WriteMetrics(w io.Writer) error {
 	}
 	p.process()
 	return p.w.Flush()
+}
+
+// storeState is what the store was when it was looked at last.
+func (e *Engine) storeState() claims.State {
+	e.mu.Lock()
+	defer e.mu.Unlock()
+	return e.machine.store.state
 }
 
 // never is the age of a bundle that was not read yet.

@@ -77,9 +77,11 @@ func TestWhatIsNotToldIsCounted(t *testing.T) {
 	if e.Metrics.Untold.Load() != 1 || e.Metrics.Told.Load() != 0 || !strings.Contains(out.String(), `"event":"tell"`) {
 		t.Errorf("untold %d, told %d, log %s", e.Metrics.Untold.Load(), e.Metrics.Told.Load(), &out)
 	}
-	e.step(doing(func(m *Machine) { m.tale.untold = make([]svid.Use, mostUntold) }))
-	if err := check(e, token("b")); err != nil || e.Metrics.Untold.Load() != 2 {
-		t.Errorf("%v, untold %d", err, e.Metrics.Untold.Load())
+	full := ready(t, engine(t, Options{Mode: Once, Grouped: true}))
+	(&broker{}).join(full)
+	full.step(doing(func(m *Machine) { m.tale.untold = make([]svid.Use, mostUntold) }))
+	if err := check(full, token("b")); err != nil || full.Metrics.Untold.Load() != 1 {
+		t.Errorf("%v, untold %d", err, full.Metrics.Untold.Load())
 	}
 }
 

@@ -11,7 +11,8 @@ import (
 
 // An Outlet writes lines to a writer that may hang or fail, such as standard error where nobody reads it. Nobody who gives
 // it a line waits for that writer: a goroutine writes them. Lines for which there is no room, and those that the writer does
-// not take, are dropped and counted. Once the writer takes lines again, one of them says how many were dropped.
+// not take, are dropped and counted. Once the writer takes lines again, one of them says how many were dropped. A line that
+// is too long ever to have room is dropped by itself: one in its place says so, and those behind it are written.
 //
 // Its methods may be called by many goroutines at once.
 type Outlet struct {
@@ -46,13 +47,20 @@ func NewOutlet(out io.Writer) *Outlet {
 
 // Write takes a line, which ends in a line feed, or drops it. It returns at once, and no error.
 func (o *Outlet) Write(line []byte) (int, error) {
+	kept, tooLong := line, len(line) > mostWaiting
+	if tooLong {
+		kept = tooLongLine(len(line))
+	}
 	o.mu.Lock()
 	defer o.mu.Unlock()
-	o.full = o.full || len(o.waiting)+len(line) > mostWaiting // so none is kept behind one that is dropped
+	o.full = o.full || len(o.waiting)+len(kept) > mostWaiting // so none is kept behind one that is dropped
 	if o.full || o.closed {
 		o.drop(1)
 	} else {
-		o.waiting = append(o.waiting, line...)
+		o.waiting = append(o.waiting, kept...)
+		if tooLong {
+			o.dropped++ // (which is said)
+		}
 	}
 	o.wake.Signal()
 	return len(line), nil
@@ -153,10 +161,16 @@ func (o *Outlet) lost(lines []byte, taken int, unsaid uint64) {
 
 // droppedLine is the line that says how many were dropped.
 func droppedLine(lines uint64) []byte {
-	text, err := json.Marshal(map[string]any{
-		"time": timestamp(time.Now()), "level": Errors.String(), "event": "log", "dropped": lines,
-		"error": fmt.Sprintf("%d lines were dropped: who reads the log did not take them in time", lines),
-	})
+	return lineOfDropped(lines, fmt.Sprintf("%d lines were dropped: who reads the log did not take them in time", lines))
+}
+
+// tooLongLine is the line in the place of one that has so many bytes.
+func tooLongLine(length int) []byte {
+	return lineOfDropped(1, fmt.Sprintf("a line of %d bytes was dropped: a line may have %d", length, mostWaiting))
+}
+
+func lineOfDropped(lines uint64, why string) []byte {
+	text, err := json.Marshal(map[string]any{"time": timestamp(time.Now()), "level": Errors.String(), "event": "log", "dropped": lines, "error": why})
 	if err != nil {
 		return nil
 	}

@@ -115,11 +115,41 @@ func TestAnOutletsLongLines(t *testing.T) {
 		t.Errorf("%d bytes are written at once", n)
 	}
 	await(t, "the last line", func() bool { return strings.HasSuffix(out.String(), "last\n") })
-	fmt.Fprint(o, strings.Repeat("b", mostWaiting)+"\n")
+	// Nothing waits when it comes, so nothing need be written before others have room.
+	for i := uint64(1); i <= 3; i++ {
+		fmt.Fprint(o, strings.Repeat("b", mostWaiting)+"\n")
+		if n := o.Dropped(); n != i {
+			t.Errorf("%d lines are dropped, want %d", n, i)
+		}
+		await(t, "the line that counts it", func() bool { return strings.Count(out.String(), `"dropped":1,`) == int(i) })
+	}
 	fmt.Fprintln(o, "next")
 	o.Close(time.Minute)
-	if text := out.String(); o.Dropped() != 1 && o.Dropped() != 2 || strings.Contains(text, "b") || !strings.HasPrefix(text, "first\n"+long+"last\n") {
-		t.Errorf("%d lines are dropped, %q", o.Dropped(), text[len(long):])
+	text := strings.TrimPrefix(out.String(), "first\n"+long+"last\n")
+	if lines := strings.Split(text, "\n"); o.Dropped() != 3 || len(lines) != 5 || lines[3] != "next" || !strings.Contains(lines[0], fmt.Sprintf(`"error":"a line of %d bytes was dropped`, mostWaiting+1)) {
+		t.Errorf("%d lines are dropped, %q", o.Dropped(), text)
+	}
+}
+
+// Where nothing has room, a line that never has is one that is dropped, as the others.
+func TestAnOutletsLongLineBesideNoRoom(t *testing.T) {
+	out := newSink()
+	out.mu.Lock()
+	o := NewOutlet(out)
+	fmt.Fprintln(o, "first")
+	<-out.begun
+	fmt.Fprint(o, strings.Repeat("a", mostWaiting-1)+"\n")
+	fmt.Fprint(o, strings.Repeat("b", mostWaiting)+"\n")
+	fmt.Fprintln(o, "none is kept behind one that is dropped")
+	if n := o.Dropped(); n != 2 {
+		t.Errorf("%d lines are dropped, want 2", n)
+	}
+	out.mu.Unlock()
+	await(t, "the line that counts", func() bool { return strings.Contains(out.String(), `"dropped":2,`) })
+	fmt.Fprintln(o, "next")
+	o.Close(time.Minute)
+	if text := out.String(); o.Dropped() != 2 || strings.Count(text, "\n") != 4 || !strings.HasSuffix(text, "\nnext\n") {
+		t.Errorf("%d lines are dropped, %d written", o.Dropped(), strings.Count(text, "\n"))
 	}
 }
 

@@ -4,22 +4,20 @@ import (
 	"context"
 	"errors"
 	"net/http"
+	"sync"
 	"sync/atomic"
 	"time"
-
-	"svid.example/go/v2/carriers"
 )
 
 // An outlook is whether an acceptance could be kept, as the engine sees it each second by itself: before a token is burnt that
-// could not be kept, and though nobody sends tokens to who is not ready.
+// could not be kept, and though nobody sends tokens to an unready sidecar.
 type outlook struct {
 	noRoom atomic.Bool               // in mode once: the state folder does not take the next acceptance
-	away   atomic.Pointer[time.Time] // in mode strict: since when the broker has been away; nil while it is there
-	mute   atomic.Bool               // in mode strict: the broker is there, and takes no values
+	away   atomic.Pointer[time.Time] // since when the group's store has not answered; nil while it does
 
-	// lookForBroker alone uses these.
-	failed, ended uint64 // claims, as it saw them last
-	said          bool   // that the broker has been away for too long
+	looking sync.Mutex // held over a look at the store; guards the fields below
+	said    bool       // that the store has been away for too long
+	heard   string     // the position of the last withdrawal that was read
 }
 
 // A roomy journal can say whether it takes the next acceptance.
@@ -27,27 +25,22 @@ type roomy interface {
 	Room(ctx context.Context) error
 }
 
-// In mode strict a token would be answered 503, and may be burnt.
-var (
-	errAway = errors.New("the group's broker is away, so no token can be claimed")
-	errMute = errors.New("the group's broker takes no values, so no token can be claimed")
-)
+// errAway: in mode strict a token would be answered 503.
+var errAway = errors.New("the group's store does not answer, so no token can be claimed")
 
-// canKeep returns nil if an acceptance could be kept, as the engine saw it last. A broker that was away for less than
-// Options.Wait is no reason: requests wait for it.
+// canKeep returns nil if an acceptance could be kept, as the engine saw it last. A store that was away for less than Options.Wait is
+// no reason: requests wait for it.
 func (e *Engine) canKeep() error {
 	switch {
 	case e.Mode == Once && e.outlook.noRoom.Load():
 		return errKeepsNothing
 	case e.Mode == Strict && e.isAway():
 		return errAway
-	case e.Mode == Strict && e.outlook.mute.Load():
-		return errMute
 	}
 	return nil
 }
 
-// isAway says whether the broker has been away for longer than a request waits.
+// isAway says whether the store has been away for longer than a request waits.
 func (e *Engine) isAway() bool {
 	since := e.outlook.away.Load()
 	return since != nil && time.Since(*since) > e.Wait
@@ -56,14 +49,25 @@ func (e *Engine) isAway() bool {
 // lookAhead sees whether an acceptance could be kept, and logs a change.
 func (e *Engine) lookAhead() {
 	e.lookForRoom()
-	e.lookForBroker()
+	e.lookAtStore()
 }
 
-// lookAheadEachSecond does so until the engine ends.
+// lookAheadEachSecond does so until the engine ends. A look that takes longer than a second is followed by the next one.
 func (e *Engine) lookAheadEachSecond() {
-	for e.pause(tickEvery) {
+	for next := tickEvery; e.pause(next); {
+		from := time.Now()
 		e.lookAhead()
+		next = pauseAfter(time.Since(from))
 	}
+}
+
+// pauseAfter is the pause behind a look that took so long.
+func pauseAfter(took time.Duration) time.Duration {
+	const least = tickEvery / 20
+	if took > tickEvery-least {
+		return least
+	}
+	return tickEvery - took
 }
 
 // lookForRoom takes Options.Wait at the most, as an acceptance does.
@@ -90,45 +94,6 @@ func (e *Engine) turned(is *atomic.Bool, fault error) {
 	}
 }
 
-// lookForBroker takes Options.Wait at the most, where claims fail.
-func (e *Engine) lookForBroker() {
-	g := e.group.Load()
-	if e.Mode != Strict || g == nil {
-		return // (That it was not reached yet, canJudge says.)
-	}
-	o := &e.outlook
-	there := g.Connected()
-	switch {
-	case there && o.said:
-		e.Log.Event("ready")
-	case !there && !o.said && e.isAway():
-		e.Log.Error("unready", errAway)
-	}
-	o.said = !there && e.isAway()
-	if there {
-		o.away.Store(nil)
-		e.lookForClaims(g)
-	} else if o.away.Load() == nil {
-		now := time.Now()
-		o.away.Store(&now)
-	}
-}
-
-// lookForClaims gives the broker an empty value where claims have failed and none has ended otherwise: it may be there, and take
-// no values, as NATS servers do that elect no leader. Once it takes that value, it takes claims.
-func (e *Engine) lookForClaims(g Group) {
-	m, o := &e.Metrics, &e.outlook
-	failed, ended := m.ClaimsFailed.Load(), m.ClaimsWon.Load()+m.ClaimsLost.Load()
-	fails := failed > o.failed && ended == o.ended
-	o.failed, o.ended = failed, ended
-	if !fails && !o.mute.Load() {
-		return
-	}
-	ctx, cancel := context.WithTimeout(e.life, e.Wait)
-	defer cancel()
-	e.turned(&o.mute, g.Put(ctx, carriers.Uses, e.nextValue(), nil))
-}
-
 // WithoutMetrics answers what Handler does, but not /metrics.
 func (e *Engine) WithoutMetrics() http.Handler {
 	return notFound(e.Handler(), func(path string) bool { return path != "/metrics" })
@@ -148,12 +113,4 @@ func notFound(handler http.Handler, answers func(path string) bool) http.Handler
 		}
 		handler.ServeHTTP(w, r)
 	})
-}
-
-// nextValue is the number of a value that the machine does not know.
-func (e *Engine) nextValue() uint64 {
-	e.mu.Lock()
-	defer e.mu.Unlock()
-	e.machine.tale.values++
-	return e.machine.tale.values
 }

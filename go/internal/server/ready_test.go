@@ -3,13 +3,9 @@ package server
 import (
 	"context"
 	"errors"
-	"net/http"
-	"strings"
 	"sync/atomic"
 	"testing"
 	"time"
-
-	"svid.example/go/v2/carriers"
 )
 
 // fullDisk is a disk that says, before it is asked for more, that it has no room.
@@ -24,11 +20,14 @@ func (f *fullDisk) Room(context.Context) error { return f.full }
 func TestReadyzTellsOfADiskWithoutRoom(t *testing.T) {
 	for mode, want := range map[Mode]bool{Once: false, Strict: true, Reuse: true} {
 		d := &fullDisk{full: errors.New("no space left on device")}
-		e := engine(t, Options{Mode: mode, Journal: d, Wait: time.Second})
+		o := Options{Mode: mode, Journal: d, Wait: time.Second}
 		if mode == Strict {
-			(&broker{}).join(e)
+			o = inStrict(o)
 		}
-		ready(t, e)
+		e := ready(t, engine(t, o))
+		if mode == Strict {
+			newShop().use(t, e)
+		}
 		if got := e.Ready() == nil; got != want {
 			t.Errorf("%s: ready is %v", mode, e.Ready())
 		}
@@ -40,41 +39,25 @@ func TestReadyzTellsOfADiskWithoutRoom(t *testing.T) {
 	}
 }
 
-// farGroup is a group whose broker may be away, or take no values.
-type farGroup struct {
-	*tie
-	away atomic.Bool
-	mute atomic.Bool
-}
-
-func (f *farGroup) Connected() bool { return !f.away.Load() }
-
-func (f *farGroup) Put(ctx context.Context, kind carriers.Kind, number uint64, message []byte) error {
-	if f.mute.Load() {
-		<-ctx.Done()
-		return ctx.Err()
-	}
-	return f.tie.Put(ctx, kind, number, message)
-}
-
-// far joins an engine to such a group.
-func far(t *testing.T, mode Mode, wait time.Duration) (*Engine, *farGroup) {
-	t.Helper()
-	e := ready(t, engine(t, Options{Mode: mode, Grouped: true, Wait: wait}))
-	g := &farGroup{tie: (&broker{}).join(e)}
-	e.Join(g)
-	if err := e.Ready(); err != nil {
-		t.Fatal(err)
-	}
-	return e, g
-}
-
-// A broker that is away makes mode strict unready, and no other mode, once it is away for longer than a request waits for it.
-func TestReadyzTellsOfABrokerThatIsAway(t *testing.T) {
+// A store that is away makes mode strict unready, and no other mode, once it is away for longer than a request waits for it.
+func TestReadyzTellsOfAStoreThatIsAway(t *testing.T) {
+	const wait = 50 * time.Millisecond
 	for _, mode := range []Mode{Once, Strict, Reuse} {
-		const wait = 50 * time.Millisecond
-		e, g := far(t, mode, wait)
-		g.away.Store(true)
+		o := inStrict(Options{Wait: wait})
+		o.Mode = mode
+		s := newShop()
+		var away atomic.Bool
+		s.Fault = func() error {
+			if away.Load() {
+				return errors.New("connection refused")
+			}
+			return nil
+		}
+		e := s.use(t, ready(t, engine(t, o)))
+		if err := e.Ready(); err != nil {
+			t.Fatal(err)
+		}
+		away.Store(true)
 		e.lookAhead()
 		if mode == Strict {
 			await(t, "that time to be over", e.isAway)
@@ -82,43 +65,10 @@ func TestReadyzTellsOfABrokerThatIsAway(t *testing.T) {
 		if err := e.Ready(); (err == errAway) != (mode == Strict) {
 			t.Errorf("%s: ready is %v", mode, err)
 		}
-		g.away.Store(false)
+		away.Store(false)
 		e.lookAhead()
 		if err := e.Ready(); err != nil {
-			t.Errorf("%s, with its broker: %v", mode, err)
+			t.Errorf("%s, with its store: %v", mode, err)
 		}
-	}
-	e, g := far(t, Strict, time.Hour)
-	g.away.Store(true)
-	e.lookAhead()
-	if err := e.Ready(); err != nil {
-		t.Errorf("requests still wait for it: %v", err)
-	}
-}
-
-// A broker that takes no values makes mode strict unready, once claims have failed by it. Then the engine asks by itself.
-func TestReadyzTellsOfABrokerThatTakesNoValues(t *testing.T) {
-	e, g := far(t, Strict, 50*time.Millisecond)
-	g.mute.Store(true)
-	e.lookAhead()
-	if err := e.Ready(); err != nil {
-		t.Errorf("nobody has asked: %v", err)
-	}
-	if w := request(e.Handler(), "GET", "/check", "Bearer "+token("a")); w.Code != 503 || !strings.Contains(w.Body.String(), "NotClaimed") {
-		t.Errorf("%d %s", w.Code, w.Body)
-	}
-	for i := 0; i < 2; i++ {
-		e.lookAhead()
-		if err := e.Ready(); err != errMute {
-			t.Errorf("claims fail: %v", err)
-		}
-	}
-	g.mute.Store(false)
-	e.lookAhead()
-	if err := e.Ready(); err != nil {
-		t.Errorf("it takes values: %v", err)
-	}
-	if w := request(e.Handler(), "GET", "/check", "Bearer "+token("b")); w.Code != http.StatusOK {
-		t.Errorf("%d %s", w.Code, w.Body)
 	}
 }

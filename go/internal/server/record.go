@@ -55,20 +55,13 @@ type Load struct {
 }
 
 func (l *Load) happen(m *Machine) {
-	if m.ending && m.log.recalled != nil { // What an earlier life knew is on the disk alone, and stays there.
-		l.Err = errEnded
-		return
-	}
 	if l.Err = m.validator.Tick(m.now.Wall); l.Err != nil {
 		return
 	}
 	m.loaded, m.keeper.size = true, l.Size
-	if m.keeper.unmarked {
-		m.markSoon()
-	}
 }
 
-// A Taking gives the record values of the group, in their order, where it reads no log. Errs is nil, or has one for each value: it
+// A Taking gives the record values of the group, in their order. Errs is nil, or has one for each value: it
 // says that the value is put aside, since it is no message, or of a time further ahead than Options.Ahead.
 type Taking struct {
 	Values []carriers.Value
@@ -134,17 +127,9 @@ func (m *Machine) noteMode(message []byte) {
 	}
 }
 
-// isOfOtherMode says whether a sidecar of another mode tells uses by a value of this kind. In mode strict no sidecar tells of uses;
-// in once none claims a token, and in reuse none does either.
-func (m *Machine) isOfOtherMode(kind carriers.Kind) bool {
-	switch m.Mode {
-	case Strict:
-		return kind == carriers.Uses
-	case Reuse:
-		return kind != carriers.Answer
-	}
-	return kind == carriers.Claims
-}
+// isOfOtherMode says whether a sidecar of another mode tells uses by a value of this kind: in once none claims a token in the
+// bucket, as svidd 2.0 did in strict.
+func (m *Machine) isOfOtherMode(kind carriers.Kind) bool { return kind == carriers.Claims }
 
 // saysMode says whether a use tells the mode of who made it: a withdrawal is of every mode, and before this sidecar began, the
 // group may have been in another one.
@@ -239,7 +224,6 @@ func (m *Machine) tick() {
 		m.Log.Error("tick", err)
 	}
 	if !jumped {
-		m.log.right = now
 		m.takeLate()
 	}
 }

@@ -142,7 +142,7 @@ func TestAKnownTokenIsWithdrawn(t *testing.T) {
 	if err != nil {
 		t.Fatal(err)
 	}
-	if _, err := e.Withdraw(found.Key, found.Expires); err != nil {
+	if _, _, err := e.Withdraw(found.Key, found.Expires); err != nil {
 		t.Fatal(err)
 	}
 	if err := check(e, one); err != svid.Withdrawn {
@@ -246,36 +246,6 @@ func TestGoodTokensWhileBundlesAreRenewed(t *testing.T) {
 			}
 		}
 		all.Wait()
-	}
-}
-
-// In mode strict too, a token is judged again whose key was verified before a renewal, unless its claim is out. Then it is refused and burnt.
-func TestAClaimOfOldBundlesIsNotMadeAgain(t *testing.T) {
-	all, b := strict(t, 1)
-	e, m := all[0], b.members[0]
-	early := NewRequest(token("early"))
-	early.done = make(chan struct{})
-	if early.Key, early.Fault = e.keyring.VerifyToken(&early.read); early.Key == nil {
-		t.Fatal(early.Fault)
-	}
-	one := token("a")
-	answer := claimed(m, one)
-	if err := e.SetBundles(map[string]json.RawMessage{"example.org": otherwise(t, example.JWKSet())}); err != nil {
-		t.Fatal(err)
-	}
-	e.mu.Lock()
-	e.machine.claims.requests++ // as its coming would
-	e.mu.Unlock()
-	e.step(Verified{early})
-	if <-early.done; early.Err != svid.BadSignature || !early.isOfOldBundles() {
-		t.Errorf("a token that was verified before the renewal: %v", early.Err)
-	}
-	m.hold(false)
-	if err := <-answer; err != svid.BadSignature {
-		t.Errorf("a token whose claim was out: %v", err)
-	}
-	if err := check(e, one); err != svid.Replayed {
-		t.Errorf("the same token again: %v", err)
 	}
 }
 

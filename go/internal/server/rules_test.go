@@ -21,9 +21,9 @@ func TestRulesAreReplaced(t *testing.T) {
 	for mode, make := range map[Mode]func(Options) *Engine{
 		Once:   func(o Options) *Engine { o.Journal = &disk{}; return ready(t, engine(t, o)) },
 		Reuse:  func(o Options) *Engine { return ready(t, engine(t, o)) },
-		Strict: func(o Options) *Engine { e := engine(t, o); e = ready(t, e); (&broker{}).join(e); return e },
+		Strict: func(o Options) *Engine { return newShop().use(t, ready(t, engine(t, inStrict(o)))) },
 	} {
-		e := make(Options{Mode: mode, Grouped: mode == Strict})
+		e := make(Options{Mode: mode})
 		used := ofAudience("ledger", "web", "used")
 		if err := check(e, used); err != nil {
 			t.Fatal(err)
@@ -180,16 +180,17 @@ func TestRulesWithoutMemory(t *testing.T) {
 	}
 }
 
-// A claim of an audience that is taken away is judged again, before its value is read, as one whose key is.
+// A claim of an audience that is taken away is judged again, by what counts when its store answers.
 func TestAClaimWhoseAudienceIsTakenAway(t *testing.T) {
 	for audience, want := range map[string]error{"ledger": nil, "other": svid.NotAudience} {
-		all, b := strict(t, 1)
-		e, m := all[0], b.members[0]
-		answer := claimed(m, token("a"))
+		all, store := strict(t, 1)
+		e := all[0]
+		release := store.hold()
+		answer := claimed(t, store, e, token("a"))
 		if err := e.SetRules([]string{audience, "third"}, nil); err != nil {
 			t.Fatal(err)
 		}
-		m.hold(false)
+		release()
 		if err := <-answer; err != want {
 			t.Errorf("%s: %v, want %v", audience, err, want)
 		}

@@ -50,7 +50,7 @@ func TestTheKeeperDoesNotFillTheLog(t *testing.T) {
 	one := errors.New("the disk is gone")
 	var out bytes.Buffer
 	d := &disk{fault: one}
-	e := ready(t, engine(t, Options{Mode: Strict, Grouped: true, Journal: d, Log: NewLog(&out, Errors)}))
+	e := ready(t, engine(t, inStrict(Options{Journal: d, Log: NewLog(&out, Errors)})))
 	lines := func(text string) int { return strings.Count(out.String(), text) }
 	keep := func(times int) {
 		for i := 0; i < times; i++ {

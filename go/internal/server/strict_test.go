@@ -3,19 +3,22 @@ package server
 import (
 	"bytes"
 	"context"
+	"encoding/json"
 	"errors"
 	"fmt"
+	"net/http"
 	"strings"
 	"sync"
 	"sync/atomic"
 	"testing"
 	"time"
 
-	"svid.example/go/v2/carriers"
+	"svid.example/go/v2/claims"
+	"svid.example/go/v2/internal/patience"
 	"svid.example/go/v2/svid"
 )
 
-// Of many requests at many sidecars one is accepted, and all records have that use alone.
+// Of many requests at many sidecars one is accepted.
 func TestStrictAcceptsOneOfMany(t *testing.T) {
 	all, _ := strict(t, 3)
 	const rounds = 20
@@ -41,117 +44,123 @@ func TestStrictAcceptsOneOfMany(t *testing.T) {
 			t.Fatalf("round %d: accepted %d times", round, n)
 		}
 	}
-	wantUses(t, all, rounds)
+	uses := 0
+	for _, e := range all {
+		own, err := svid.Uses(saved(t, e))
+		if err != nil {
+			t.Fatal(err)
+		}
+		uses += len(own)
+	}
+	if uses != rounds {
+		t.Errorf("the records have %d uses, want %d", uses, rounds)
+	}
 }
 
-// Of two claims the first in the bucket wins, whoever reads first.
-func TestTheFirstClaimInTheBucketWins(t *testing.T) {
-	for _, winnerReadsFirst := range []bool{true, false} {
-		all, b := strict(t, 3)
-		b.members[1].hold(true)
-		first := claimed(b.members[0], token("a"))
-		second := claimed(b.members[1], token("a"))
-		order := []*tie{b.members[0], b.members[1]}
-		if !winnerReadsFirst {
-			order[0], order[1] = order[1], order[0]
+// Of two claims the first in the store wins, whoever is answered first. The other one's log says who has the token.
+func TestTheFirstClaimInTheStoreWins(t *testing.T) {
+	for _, winnerFirst := range []bool{true, false} {
+		all, store := strict(t, 2)
+		var out bytes.Buffer
+		all[1].Log = NewLog(&out, Decisions)
+		release := store.hold()
+		first := claimed(t, store, all[0], token("a"))
+		if winnerFirst {
+			release()
+			release = func() {}
+			if err := <-first; err != nil {
+				t.Error(err)
+			}
+			first <- nil
 		}
-		for _, m := range order {
-			m.hold(false)
-		}
+		second := claimed(t, store, all[1], token("a"))
+		release()
 		if won, lost := <-first, <-second; won != nil || lost != svid.Replayed {
-			t.Errorf("winner reads first %v: %v, %v", winnerReadsFirst, won, lost)
+			t.Errorf("winner first %v: %v, %v", winnerFirst, won, lost)
 		}
-		wantUses(t, all, 1)
 		if won, lost := all[0].Metrics.ClaimsWon.Load(), all[1].Metrics.ClaimsLost.Load(); won != 1 || lost != 1 {
 			t.Errorf("%d won, %d lost", won, lost)
 		}
+		if want := fmt.Sprintf("%q:%q", "used_by", all[0].ValidatorID); !strings.Contains(out.String(), want) {
+			t.Errorf("there is no %s in %s", want, &out)
+		}
+		// What is another's is asked once.
+		before := store.puts()
+		if err := check(all[1], token("a")); err != svid.Replayed || store.puts() != before {
+			t.Errorf("again: %v, after %d calls", err, store.puts()-before)
+		}
 	}
 }
 
-// The record gains the use that the bucket has, with the time of the claim, not that of the answer.
-func TestStrictAddsTheClaimedUse(t *testing.T) {
-	all, b := strict(t, 2)
-	var now atomic.Uint64
-	now.Store(moment)
-	all[0].Now = func() uint64 { return now.Add(1) }
-	if err := check(all[0], token("a")); err != nil {
-		t.Fatal(err)
+// A claim that had no answer is put again, and finds its own entry.
+func TestAClaimWithoutAnswerIsPutAgain(t *testing.T) {
+	all, store := strict(t, 2)
+	store.fail(errors.New("connection lost"))
+	answer := claimed(t, store, all[0], token("a"))
+	await(t, "another try", func() bool { return store.puts() > 2 })
+	store.fail(nil)
+	if err := <-answer; err != nil {
+		t.Error(err)
 	}
 	for i, e := range all {
-		got, err := svid.Uses(saved(t, e))
-		if want := b.uses(t); err != nil || fmt.Sprint(got) != fmt.Sprint(want) {
-			t.Errorf("the record of %d has %v, and the bucket %v (%v)", i, got, want, err)
+		if err := check(e, token("a")); err != svid.Replayed {
+			t.Errorf("sidecar %d, later: %v", i, err)
 		}
 	}
 }
 
-// A claim whose outcome is unknown is answered 503, and the token is burnt for all.
-func TestAClaimOfUnknownOutcomeAcceptsNobody(t *testing.T) {
-	for what, lose := range map[string]func(m *tie) error{
-		"the broker says no more": func(m *tie) error { m.fault = errors.New("time is up"); return m.fault },
-		"values are gone":         func(m *tie) error { m.gap = 1; return ErrMissed },
-		"the value stays away":    func(m *tie) error { m.engine.Wait = 30 * time.Millisecond; return context.DeadlineExceeded },
-	} {
-		all, b := strict(t, 2)
-		m := b.members[0]
-		want := lose(m)
-		answer := claimed(m, token("a"))
-		if want == ErrMissed {
-			m.hold(false)
-		}
-		if err := <-answer; !errors.Is(err, want) {
-			t.Errorf("%s: %v", what, err)
-		}
-		if n := m.engine.Metrics.ClaimsFailed.Load(); n != 1 {
-			t.Errorf("%s: %d claims failed", what, n)
-		}
-		m.mu.Lock()
-		m.fault = nil
-		m.mu.Unlock()
-		m.hold(false)
-		for i, e := range all {
-			if err := check(e, token("a")); err != svid.Replayed {
-				t.Errorf("%s: sidecar %d, later: %v", what, i, err)
-			}
-		}
-		wantUses(t, all, 1)
-		if n := withClaims(m.engine, keptOf); n != 0 {
-			t.Errorf("%s: %d claims are kept", what, n)
+// A claim whose outcome is unknown is answered 503. The same life may claim the token again, and nobody else.
+func TestAClaimOfUnknownOutcome(t *testing.T) {
+	all, store := strict(t, 2)
+	all[0].Wait = 30 * time.Millisecond
+	lost := errors.New("connection lost")
+	store.fail(lost)
+	err := <-claimed(t, store, all[0], token("a"))
+	if !errors.Is(err, context.DeadlineExceeded) || !strings.Contains(err.Error(), lost.Error()) {
+		t.Error(err)
+	}
+	wantClaims(t, all[0], 0, 0, 1)
+	store.fail(nil)
+	if err := check(all[1], token("a")); err != svid.Replayed {
+		t.Errorf("at another sidecar: %v", err)
+	}
+	all[0].step(doing(func(m *Machine) { m.Wait = patience.Long }))
+	for _, want := range []error{nil, svid.Replayed} {
+		if err := check(all[0], token("a")); err != want {
+			t.Errorf("%v, want %v", err, want)
 		}
 	}
 }
 
-// A second claim, of a token whose first one was given up: the use that stands in front answers it if it is the same, and else it
-// loses against that. Nobody else was answered 200.
-func TestAClaimThatWasGivenUpIsNotTakenUpAgain(t *testing.T) {
-	for later, want := range map[uint64]error{0: nil, 1: svid.Replayed} {
-		all, b := strict(t, 1)
-		m := b.members[0]
-		var now atomic.Uint64
-		now.Store(moment)
-		all[0].Wait, all[0].Now = 30*time.Millisecond, now.Load
-		if err := <-claimed(m, token("a")); !errors.Is(err, context.DeadlineExceeded) {
-			t.Error(err)
-		}
-		all[0].step(doing(func(m *Machine) { m.Wait = time.Minute }))
-		now.Store(moment + later)
-		again := claimed(m, token("a"))
-		m.hold(false)
-		if err := <-again; err != want {
-			t.Errorf("%d seconds later: %v, want %v", later, err, want)
-		}
-		if err := check(all[0], token("a")); err != svid.Replayed {
-			t.Errorf("%d seconds later, and again: %v", later, err)
-		}
-		wantUses(t, all, 1)
-	}
-}
-
-// Requests that come while a claim is open wait for it, and cost the broker nothing.
-func TestRequestsWaitForAnOpenClaim(t *testing.T) {
-	all, b := strict(t, 1)
+// A claim whose client goes away ends at once. Nobody knows what became of it, which is counted.
+func TestAClientThatGoesAwayDuringAClaim(t *testing.T) {
+	all, store := strict(t, 1)
 	e := all[0]
-	first := claimed(b.members[0], token("a"))
+	e.Wait = time.Minute
+	defer store.hold()()
+	first := claimed(t, store, e, token("a"))
+	gone, leave := context.WithCancel(context.Background())
+	answer := make(chan error, 1)
+	go func() {
+		_, err := e.Check(gone, token("b"))
+		answer <- err
+	}()
+	await(t, "the other claim", func() bool { return withClaims(e, func(c *claimTable) int { return len(c.open) }) == 2 })
+	leave()
+	wantAnswer(t, answer, context.Canceled)
+	select {
+	case err := <-first:
+		t.Errorf("another request ends: %v", err)
+	default:
+	}
+}
+
+// Requests that come while a claim is open wait for it, and cost the store nothing.
+func TestRequestsWaitForAnOpenClaim(t *testing.T) {
+	all, store := strict(t, 1)
+	e := all[0]
+	release := store.hold()
+	first := claimed(t, store, e, token("a"))
 	answers := make(chan error, 3)
 	for i := 0; i < 2; i++ {
 		go func() { answers <- check(e, token("a")) }()
@@ -161,7 +170,7 @@ func TestRequestsWaitForAnOpenClaim(t *testing.T) {
 	if _, err := e.Check(impatient, token("a")); !errors.Is(err, context.DeadlineExceeded) {
 		t.Errorf("its time is up: %v", err)
 	}
-	b.members[0].hold(false)
+	release()
 	if err := <-first; err != nil {
 		t.Error(err)
 	}
@@ -170,206 +179,311 @@ func TestRequestsWaitForAnOpenClaim(t *testing.T) {
 			t.Error(err)
 		}
 	}
-	if len(b.log) != 1 || e.Metrics.ClaimsWon.Load() != 1 || e.Metrics.ClaimsLost.Load() != 0 {
-		t.Errorf("%d values, claims won %d", len(b.log), e.Metrics.ClaimsWon.Load())
+	if store.puts() != 1 || e.Metrics.ClaimsWon.Load() != 1 || e.Metrics.ClaimsLost.Load() != 0 {
+		t.Errorf("%d calls, claims won %d", store.puts(), e.Metrics.ClaimsWon.Load())
 	}
 }
 
-// The disk soon has what the record took of own values, and no claim that was lost. No answer waits for it, or fails where
-// it does.
+// The disk soon has what was won, and no claim that was lost. No answer waits for it, or fails where it does.
 func TestStrictKeepsWhatItWon(t *testing.T) {
-	b, d := &broker{}, &disk{}
+	store, d := newShop(), &disk{}
 	var out bytes.Buffer
-	own := b.join(ready(t, engine(t, Options{Mode: Strict, Grouped: true, Journal: d, Log: NewLog(&out, Errors)})))
-	other := b.join(ready(t, engine(t, Options{Mode: Strict, Grouped: true, ValidatorID: svid.ValidatorID{2}})))
+	own := store.use(t, ready(t, engine(t, inStrict(Options{Journal: d, Log: NewLog(&out, Errors)}))))
+	other := store.use(t, ready(t, engine(t, inStrict(Options{ValidatorID: svid.ValidatorID{2}}))))
 	slow := make(chan struct{})
 	d.before = func() { <-slow }
 	const many = 100
 	for i := 0; i < many; i++ {
-		if err := check(own.engine, token(fmt.Sprint(i))); err != nil {
+		if err := check(own, token(fmt.Sprint(i))); err != nil {
 			t.Fatal(err)
 		}
 	}
-	own.hold(true)
-	first := claimed(other, token("another's"))
-	lost := claimed(own, token("another's"))
-	other.hold(false)
-	own.hold(false)
-	if err := <-first; err != nil {
+	if err := check(other, token("another's")); err != nil {
 		t.Error(err)
 	}
-	if err := <-lost; err != svid.Replayed {
+	if err := check(own, token("another's")); err != svid.Replayed {
 		t.Error(err)
 	}
 	close(slow)
-	kept(t, own.engine)
+	kept(t, own)
 	if uses, err := svid.Uses(d.kept); err != nil || len(uses) != many {
 		t.Errorf("the disk has %d uses, want %d (%v)", len(uses), many, err)
 	}
+	d.mu.Lock()
 	d.fault = errors.New("it is full")
-	if err := check(own.engine, token("full")); err != nil {
+	d.mu.Unlock()
+	if err := check(own, token("full")); err != nil {
 		t.Error(err)
 	}
-	kept(t, own.engine)
-	if n := own.engine.Metrics.JournalFailures.Load(); n != 1 || !strings.Contains(out.String(), "it is full") {
+	kept(t, own)
+	if n := own.Metrics.JournalFailures.Load(); n != 1 || !strings.Contains(out.String(), "it is full") {
 		t.Errorf("%d failures, log %s", n, &out)
 	}
 	full := func(uses []svid.Use) {
-		own.engine.step(doing(func(m *Machine) { m.keeper.uses, m.keeper.busy = uses, uses != nil }))
+		own.step(doing(func(m *Machine) { m.keeper.uses, m.keeper.busy = uses, uses != nil }))
 	}
 	full(make([]svid.Use, mostUnkept))
-	if err := check(own.engine, token("slow")); err != nil {
+	if err := check(own, token("slow")); err != nil {
 		t.Error(err)
 	}
 	full(nil)
-	if n := own.engine.Metrics.JournalFailures.Load(); n != 2 {
+	if n := own.Metrics.JournalFailures.Load(); n != 2 {
 		t.Errorf("%d failures", n)
 	}
 }
 
-// Claims that wait share a value, of bounded length; the next one goes out though the broker has not answered.
-func TestClaimsShareAValue(t *testing.T) {
-	all, b := strict(t, 2)
-	e, m := all[0], b.members[0]
-	m.answer = make(chan struct{})
-	defer close(m.answer)
-	e.Wait = time.Minute
-	const many = 2 * mostClaims
-	var tokens []string
-	for i := 0; i < many; i++ {
-		tokens = append(tokens, token(fmt.Sprint(i)))
-	}
-	e.step(doing(waitAnHour)) // nothing goes out yet
-	answers := make(chan error, many)
-	for _, one := range tokens {
-		go func(one string) { answers <- check(e, one) }(one)
-	}
-	await(t, "all claims", func() bool { return gathered(e) == many })
-	e.step(doing(sendNow))
-	for range tokens {
-		if err := <-answers; err != nil {
-			t.Fatal(err)
-		}
-	}
-	b.mu.Lock()
-	defer b.mu.Unlock()
-	if len(b.log) != 2 || len(b.log[0].message) != 17+65*mostClaims || len(b.log[1].message) != 17+65*mostClaims {
-		t.Errorf("%d values", len(b.log))
-	}
-	wantUses(t, all, many)
-}
-
-// A use that is accepted answers one request at most, and one that has put it.
-func TestAnAcceptedUseAnswersOneRequest(t *testing.T) {
-	all, b := strict(t, 1)
-	e, m := all[0], b.members[0]
-	tokens, uses := inOrderOf(t, e, 2)
-	// The value stands in the bucket twice.
-	answer := claimed(m, tokens[0])
-	b.put(b.log[0])
-	others := make(chan error, 2)
-	for i := 0; i < cap(others); i++ {
-		go func() { others <- check(e, tokens[0]) }()
-	}
-	m.hold(false)
-	if err := <-answer; err != nil {
-		t.Error(err)
-	}
-	for i := 0; i < cap(others); i++ {
-		if err := <-others; err != svid.Replayed {
-			t.Error(err)
-		}
-	}
-	// Someone has put the same use before this sidecar does.
-	waiting := gather(t, m, tokens[1:])
-	b.put(stored{kind: carriers.Claims, message: batchOf(uses[1])})
-	m.hold(false)
-	if n := withClaims(e, func(c *claims) int { return len(c.open) }); n != 1 {
-		t.Errorf("%d claims are open", n)
-	}
-	send(t, m)
-	if err := <-waiting[0]; err != svid.Replayed {
-		t.Error(err)
-	}
-	wantClaims(t, e, 1, 1, 0)
-}
-
-// A claim from too far ahead is a claim all the same.
-func TestALostClaimIsNeverAccepted(t *testing.T) {
-	all, b := strict(t, 1)
-	e, m := all[0], b.members[0]
-	judged, err := e.Find(token("a"))
-	if err != nil {
+// Another life of a sidecar, with the same validator ID, accepts nothing that an earlier one claimed: whether that answered 200 is
+// unknown.
+func TestAnotherLifeAcceptsNothingOfAnEarlierOne(t *testing.T) {
+	store := newShop()
+	earlier := store.use(t, ready(t, engine(t, inStrict(Options{}))))
+	defer store.hold()()
+	earlier.Wait = 30 * time.Millisecond
+	if err := <-claimed(t, store, earlier, token("a")); !errors.Is(err, context.DeadlineExceeded) {
 		t.Fatal(err)
 	}
-	b.put(stored{kind: carriers.Claims, message: batchOf(svid.Use{Key: judged.Key, Expires: moment + 300, At: moment + 200})})
-	for i := 0; i < 2; i++ {
-		if err := check(e, token("a")); err != svid.Replayed {
-			t.Errorf("%v", err)
-		}
-	}
-	if m.aside != 1 {
-		t.Errorf("%d aside", m.aside)
-	}
-	// Others, and garbage, make no difference to a token that they do not name.
-	for _, message := range [][]byte{[]byte("garbage"), {}, batchOf(svid.Use{Expires: moment + 300, At: moment + 200})} {
-		b.put(stored{kind: carriers.Claims, message: message})
-	}
-	if err := check(e, token("b")); err != nil {
+	store.mu.Lock()
+	store.held = nil
+	store.mu.Unlock()
+	later := store.use(t, ready(t, engine(t, inStrict(Options{}))))
+	if err := check(later, token("a")); err != svid.Replayed {
 		t.Error(err)
-	}
-	if m.aside != 3 {
-		t.Errorf("%d aside", m.aside)
 	}
 }
 
-// Where someone else has given a value the key that a sidecar's own one was to have, nothing is accepted by that which the
-// bucket does not have.
-func TestAValueUnderAnotherOnesKey(t *testing.T) {
-	all, b := strict(t, 2)
-	m := b.members[0]
-	all[0].Wait = 30 * time.Millisecond
-	other := svid.Use{Key: svid.TokenKey{1}, Expires: moment + 300, At: moment, ValidatorID: svid.ValidatorID{1}}
-	forge := func(message []byte) {
-		m.mu.Lock()
-		defer m.mu.Unlock()
-		m.forged = message
-	}
-	for i, forged := range [][]byte{batchOf(other), []byte("garbage"), {}} {
-		forge(forged)
-		if err := check(all[0], token("a")); !errors.Is(err, context.DeadlineExceeded) {
-			t.Errorf("%q: %v", forged, err)
-		}
-		await(t, "the value", func() bool {
-			m.mu.Lock()
-			defer m.mu.Unlock()
-			return len(m.log) == i+1
-		})
-	}
-	forge(nil)
-	if err := check(all[1], token("a")); err != nil {
-		t.Error(err)
-	}
-	if err := check(all[0], token("a")); err != svid.Replayed {
-		t.Error(err)
-	}
-	wantUses(t, all, 2)
-}
-
-// A token that is withdrawn while it is claimed is refused, and burnt.
+// A token that is withdrawn while it is claimed is refused.
 func TestAWithdrawalDuringAClaimCounts(t *testing.T) {
-	all, b := strict(t, 1)
-	e, m := all[0], b.members[0]
+	all, store := strict(t, 1)
+	e := all[0]
 	found, err := e.Find(token("a"))
 	if err != nil {
 		t.Fatal(err)
 	}
-	answer := claimed(m, token("a"))
-	if _, err := e.Withdraw(found.Key, found.Expires); err != nil {
+	release := store.hold()
+	answer := claimed(t, store, e, token("a"))
+	_, usedBy, err := e.Withdraw(found.Key, found.Expires)
+	if err != nil || usedBy != e.ValidatorID {
+		t.Errorf("used by %v: %v", usedBy, err)
+	}
+	release()
+	if err := <-answer; err != svid.Withdrawn {
+		t.Error(err)
+	}
+}
+
+// A token that was withdrawn at one sidecar is refused at all others: in strict by its claim, in the other modes once they have looked
+// at the store. Who withdraws a used one hears who used it.
+func TestAWithdrawalByTheStore(t *testing.T) {
+	store := newShop()
+	make := func(mode Mode, id byte) *Engine {
+		o := inStrict(Options{ValidatorID: svid.ValidatorID{id}, Journal: &disk{}})
+		o.Mode = mode
+		return store.use(t, ready(t, engine(t, o)))
+	}
+	one, other, once, reuse := make(Strict, 1), make(Strict, 2), make(Once, 3), make(Reuse, 4)
+	found, err := one.Find(token("a"))
+	if err != nil {
 		t.Fatal(err)
 	}
-	m.hold(false)
-	if err := <-answer; err != svid.Withdrawn {
+	if _, usedBy, err := one.Withdraw(found.Key, found.Expires); err != nil || usedBy != (svid.ValidatorID{}) {
+		t.Errorf("used by %v: %v", usedBy, err)
+	}
+	for _, e := range []*Engine{once, reuse} {
+		e.lookAhead()
+		uses, err := svid.Uses(saved(t, e))
+		if err != nil || len(uses) != 1 {
+			t.Errorf("%s: the record has %d uses: %v", e.Mode, len(uses), err)
+		}
+	}
+	for _, e := range []*Engine{one, other, once, reuse} {
+		if err := check(e, token("a")); err != svid.Withdrawn {
+			t.Errorf("%s: %v", e.Mode, err)
+		}
+	}
+	late := make(Reuse, 5)
+	if err := check(late, token("a")); err != svid.Withdrawn {
+		t.Errorf("one that starts later: %v", err)
+	}
+	if err := check(other, token("b")); err != nil {
+		t.Fatal(err)
+	}
+	found, err = one.Find(token("b"))
+	if err != nil {
+		t.Fatal(err)
+	}
+	if _, usedBy, err := one.Withdraw(found.Key, found.Expires); err != nil || usedBy != other.ValidatorID {
+		t.Errorf("used by %v: %v", usedBy, err)
+	}
+	store.Fault = func() error { return errors.New("no servers") }
+	if _, _, err := one.Withdraw(found.Key, found.Expires); err == nil || !strings.Contains(err.Error(), "no servers") {
+		t.Error(err)
+	}
+}
+
+// Once a store has lost entries, no token is accepted that may have been used before, and the others are. An operator sees it.
+func TestAStoreThatHasLostEntries(t *testing.T) {
+	all, store := strict(t, 2)
+	var out bytes.Buffer
+	all[0].Log = NewLog(&out, Errors)
+	all[0].step(doing(func(m *Machine) { m.Log = all[0].Log }))
+	if err := check(all[0], token("a")); err != nil {
+		t.Fatal(err)
+	}
+	store.Lose(nil)
+	w := request(all[1].Handler(), "GET", "/check", "Bearer "+token("a"))
+	if w.Code != http.StatusServiceUnavailable || !strings.Contains(w.Body.String(), `"EntriesLost"`) {
+		t.Errorf("a token that was used before: %d %s", w.Code, w.Body)
+	}
+	all[0].lookAhead()
+	if err := all[0].Ready(); err == nil || !strings.Contains(err.Error(), fmt.Sprint(moment+3660)) {
+		t.Errorf("ready: %v", err)
+	}
+	if !strings.Contains(out.String(), `"event":"epoch"`) {
+		t.Errorf("the log has %s", &out)
+	}
+	page := request(all[0].Handler(), "GET", "/metrics").Body.String()
+	for _, want := range []string{"svidd_store_epochs_total 1", fmt.Sprint("svidd_store_deaf_until_timestamp_seconds ", moment+3660), `svidd_store_epoch_info{epoch="1"} 1`, "svidd_store_connected 1"} {
+		if !strings.Contains(page, want+"\n") {
+			t.Errorf("there is no %q in\n%s", want, page)
+		}
+	}
+	now := uint64(moment + 100)
+	store.Now = func() uint64 { return now }
+	for _, e := range all {
+		e.Now = store.Now
+		e.lookAhead()
+		if err := e.Ready(); err != nil {
+			t.Error(err)
+		}
+	}
+	for life, want := range map[uint64]error{3560: ErrLost, 3561: nil} {
+		late := example.Token("ES256", map[string]any{"sub": "spiffe://example.org/web", "aud": "ledger", "exp": now + life, "jti": fmt.Sprint(life)})
+		if err := check(all[0], late); err != want {
+			t.Errorf("a token that lives for %d s: %v, want %v", life, err, want)
+		}
+	}
+}
+
+// The store's time counts too: a token that has expired there, less what clocks may differ, is not accepted, and one that lives for
+// longer than the store keeps claims neither.
+func TestTheStoresTimeCounts(t *testing.T) {
+	for ahead, want := range map[int64]error{329: nil, 330: svid.Expired, -3300: nil, -3361: errFar} {
+		store := newShop()
+		now := uint64(moment + ahead)
+		store.Now = func() uint64 { return now }
+		e := store.use(t, ready(t, engine(t, inStrict(Options{}))))
+		if err := check(e, token("a")); err != want {
+			t.Errorf("the store is %d s ahead: %v, want %v", ahead, err, want)
+		}
+	}
+}
+
+// A claim is answered by what counts when its store answers: keys that were written otherwise are looked up again, and the claim is
+// found again.
+func TestAClaimOfOldBundles(t *testing.T) {
+	all, store := strict(t, 1)
+	e := all[0]
+	release := store.hold()
+	answer := claimed(t, store, e, token("a"))
+	if err := e.SetBundles(map[string]json.RawMessage{"example.org": otherwise(t, example.JWKSet())}); err != nil {
+		t.Fatal(err)
+	}
+	release()
+	if err := <-answer; err != nil {
+		t.Errorf("a key that is written otherwise: %v", err)
+	}
+	release = store.hold()
+	answer = claimed(t, store, e, token("b"))
+	if err := e.SetBundles(map[string]json.RawMessage{"example.org": []byte(`{"keys":[]}`)}); err != nil {
+		t.Fatal(err)
+	}
+	release()
+	if err := <-answer; err != svid.NoKey {
+		t.Errorf("a key that is gone: %v", err)
+	}
+}
+
+// Claims that come while a call is under way share the next one, of bounded length. A call that has no answer holds up no other for
+// long.
+func TestClaimsShareACall(t *testing.T) {
+	all, store := strict(t, 1)
+	e := all[0]
+	e.Wait = patience.Long
+	release := store.hold()
+	const many = claims.MostClaims + 3
+	answers := make(chan error, many+1)
+	go func() { answers <- check(e, token("first")) }()
+	await(t, "the first call", func() bool { return store.puts() == 1 })
+	e.step(doing(func(m *Machine) { m.claims.at = m.now.Up + time.Hour }))
+	for i := 0; i < many; i++ {
+		go func(i int) { answers <- check(e, token(fmt.Sprint(i))) }(i)
+	}
+	await(t, "all claims", func() bool { return withClaims(e, func(c *claimTable) int { return len(c.gather) }) == many })
+	release()
+	for i := 0; i <= many; i++ {
+		if err := <-answers; err != nil {
+			t.Fatal(err)
+		}
+	}
+	sizes := []int{}
+	for _, call := range store.calls {
+		sizes = append(sizes, len(call))
+	}
+	if fmt.Sprint(sizes) != fmt.Sprint([]int{1, claims.MostClaims, 3}) {
+		t.Errorf("the calls have %v claims", sizes)
+	}
+}
+
+// Withdrawals of a store are read page by page, and each once. A sidecar judges nothing before it has read all.
+func TestWithdrawalsAreReadPageByPage(t *testing.T) {
+	store := newShop()
+	const many = claims.MostWithdrawals + 5
+	for i := 0; i < many; i++ {
+		if _, err := store.Withdraw(context.Background(), claims.Withdrawal{Key: svid.TokenKey{1, byte(i), byte(i >> 8)}, Expires: moment + 300}); err != nil {
+			t.Fatal(err)
+		}
+	}
+	pages := &pagedShop{shop: store}
+	o := inStrict(Options{})
+	o.Mode = Reuse
+	e := ready(t, engine(t, o))
+	state, err := pages.Open(context.Background())
+	if err != nil {
+		t.Fatal(err)
+	}
+	e.UseStore(pages, state)
+	if uses, err := svid.Uses(saved(t, e)); err != nil || len(uses) != many {
+		t.Errorf("the record has %d withdrawals: %v", len(uses), err)
+	}
+	e.lookAhead()
+	if got := fmt.Sprint(pages.read); got != fmt.Sprint([]int{claims.MostWithdrawals, 5, 0}) {
+		t.Errorf("pages of %s", got)
+	}
+}
+
+// A pagedShop counts the withdrawals that it tells.
+type pagedShop struct {
+	*shop
+	read []int
+}
+
+func (p *pagedShop) Withdrawals(ctx context.Context, after string) ([]claims.Withdrawal, string, error) {
+	these, last, err := p.shop.Withdrawals(ctx, after)
+	p.read = append(p.read, len(these))
+	return these, last, err
+}
+
+// In the modes that claim nothing, no token is judged before the store's withdrawals are read.
+func TestNothingIsJudgedBeforeWithdrawalsAreRead(t *testing.T) {
+	o := inStrict(Options{})
+	o.Mode = Reuse
+	e := ready(t, engine(t, o))
+	e.step(StoreOpened{claims.State{Epoch: "one", Time: moment}})
+	if err := check(e, token("a")); !errors.Is(err, ErrNotReady) || !strings.Contains(err.Error(), "withdrawals are being read") {
+		t.Error(err)
+	}
+	e.step(&Heard{Whole: true})
+	if err := check(e, token("a")); err != nil {
 		t.Error(err)
 	}
 }

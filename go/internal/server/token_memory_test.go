@@ -71,12 +71,12 @@ func TestReusedTokensLeaveNothing(t *testing.T) {
 // So is the token of a request that waited for the claim of another one.
 func TestRequestsThatWaitLeaveNothing(t *testing.T) {
 	const waiting = 200
-	all, b := strict(t, 1)
-	e, m := all[0], b.members[0]
+	all, store := strict(t, 1)
+	e := all[0]
 	holdsNoMore(t, "200 requests that waited", func(turn int) {
-		m.hold(true)
+		release := store.hold()
 		one := token(fmt.Sprint("waits ", turn))
-		first := claimed(m, one)
+		first := claimed(t, store, e, one)
 		answers := make(chan error, waiting)
 		for i := 0; i < waiting; i++ {
 			go func() { answers <- check(e, one) }()
@@ -85,11 +85,11 @@ func TestRequestsThatWaitLeaveNothing(t *testing.T) {
 			e.mu.Lock()
 			defer e.mu.Unlock()
 			for _, r := range e.machine.claims.open {
-				return len(r.behind) == waiting
+				return r.line != nil && len(r.line.requests) == waiting
 			}
 			return false
 		})
-		m.hold(false)
+		release()
 		if err := <-first; err != nil {
 			t.Fatal(err)
 		}

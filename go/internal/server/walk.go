@@ -6,6 +6,7 @@ import (
 	"fmt"
 
 	"svid.example/go/v2/carriers"
+	"svid.example/go/v2/claims"
 	"svid.example/go/v2/svid"
 )
 
@@ -17,12 +18,6 @@ var ErrNotReady = errors.New("not ready")
 
 // ErrNoBundle: the bundle of the token's trust domain could not be read yet.
 var ErrNoBundle = errors.New("the bundle of the token's trust domain was not read yet")
-
-// ErrMissed: values of the group's bucket are gone that this sidecar has not read, and a claim of the token may be among them.
-var ErrMissed = errors.New("values of the group's bucket are missing: whether another sidecar claimed the token is unknown")
-
-// errEarly: the time of the own claim is further ahead than the clock may be. The clock went back.
-var errEarly = errors.New("the claim is from further in the future than clocks may differ: the clock went back")
 
 // A Request asks whether a token is accepted. Its Err is nil for one that is, a svid.Refusal for one that is refused, and
 // anything else if the token could not be judged, or its acceptance not be kept: it is not accepted then.
@@ -42,13 +37,15 @@ type Request struct {
 	write *Write // of mode once
 
 	// Of mode strict.
-	late   timer      // of the wait for another request's claim
-	open   bool       // its claim has no outcome yet
-	value  *value     // that its claim went out in, nil before
-	behind []*Request // these wait for that outcome; nil where one has left
-	ahead  *Request   // it waits for the outcome of this one,
-	index  int        // at this index
-	isNext bool       // that outcome is there
+	Owner   svid.ValidatorID // whose claim the token is, where the answer is Replayed by the store; else zeros
+	late    timer            // when it has waited for too long, for its own claim or another request's
+	open    bool             // its claim has no outcome yet
+	waits   bool             // its claim waits to be put into the store
+	patient bool             // it has no end but Options.Wait, so its goroutine may put the claim itself
+	fault   error            // what the store said last, where that was no answer
+	line    *line            // of those that wait for that outcome; of a request that waits itself, the one in which it stands
+	index   int              // where it stands
+	isNext  bool             // that outcome is there
 }
 
 // NewRequest returns a request that asks about a token.
@@ -82,7 +79,6 @@ func (r *Request) happen(m *Machine) {
 func (v Verified) happen(m *Machine) {
 	r := v.Request
 	r.read.VerifiedBy(r.Key)
-	defer r.read.Close()
 	if m.isOutdated(r) { // Its caller was admitted by the rules of before.
 		m.answerCheck(r, errOtherRules)
 		return
@@ -102,8 +98,9 @@ func (v Verified) happen(m *Machine) {
 	}
 }
 
-// answerCheck ends the walk of a request behind Verify.
+// answerCheck ends the walk of a request after Verify, and lets go of what was read of its token.
 func (m *Machine) answerCheck(r *Request, err error) {
+	r.read.Close()
 	if err != nil {
 		r.Accepted = svid.Accepted{}
 	}
@@ -115,9 +112,9 @@ func (m *Machine) answerCheck(r *Request, err error) {
 }
 
 // isOfOldBundles says whether the request is refused since a key made the signature that the validator does not have any more, or has
-// otherwise written: another one of the new bundles may have made it. No claim of the token is out.
+// otherwise written: another one of the new bundles may have made it. (A claim of the token is this life's, and is found again.)
 func (r *Request) isOfOldBundles() bool {
-	return r.Err == svid.BadSignature && r.Key != nil && r.value == nil
+	return r.Err == svid.BadSignature && r.Key != nil
 }
 
 // Mode once accepts a token once at this sidecar. At each step:
@@ -175,60 +172,135 @@ func (m *Machine) reuse(r *Request) {
 	m.answerCheck(r, err)
 }
 
-// Mode strict accepts a token once in the whole group. The bucket is a log, which all sidecars read in one order, and the
-// first claim of a token in it counts: the validator says which that is. At each step:
+// Mode strict accepts a token once in the whole group. The group's store keeps, for each token, the first claim that was put
+// there. At each step:
 //
-//  1. Judge says whether the token would be accepted, and adds nothing. A refused token ends here; so only tokens with a
-//     good signature cost the broker work.
+//  1. Judge says whether the token would be accepted, and adds nothing. A refused token ends here, so only tokens with a
+//     good signature cost the store work.
 //  2. One request a token goes on, in this sidecar; the others wait for its outcome and begin again. Nothing is in memory,
-//     on the disk or in the bucket.
-//  3. The use goes into the bucket, with other claims in one value (sendClaims). Once the broker has stored it, it is there for
-//     as long as the token lives, on as many servers as the bucket has replicas, and its position among all values never changes.
-//     A crash from here on burns the token.
-//  4. The validator reads all values in their order, this one too (Reading). It answers FateAccepted for the use if that is
-//     the first claim of its token; else it says why not. If bundles were replaced since step 1, the token is judged again
-//     before the value is read.
+//     on the disk or in the store.
+//  3. The claim goes to the store, with others in one call (sendClaims). Its owner is of this life of the process alone.
+//     Without an answer the same claim is put again, until the request is late: it finds its own entry.
+//  4. The answer is the first claim of the token: this one, or another's. The library says what that means (ofOutcome). Where it
+//     is this life's, the token is checked once more, and the record gains the use: so of all requests with this token, at
+//     any time in this life, one is accepted.
 //  5. Only now the answer is 200.
-//  6. Where there is a state folder, the accepted uses go to the disk, behind the answers: none waits for it. It isn't what
-//     makes a token unusable (the bucket is), but it outlives the broker's disk.
+//  6. Where there is a state folder, the accepted uses go to the disk after the answers: none waits for it. It isn't what makes
+//     a token unusable (the store is).
 //
-// If the value does not come back in time (the broker is away), or if values in front of it are missing, the answer is 503.
-// The token is burnt then if the value is in the bucket, now or later: who reads it takes its uses.
+// If the process dies after step 3, the token stays used: its owner is of a life that has ended.
 func (m *Machine) claim(r *Request) {
-	judged, err := m.validator.JudgeToken(m.now.Wall, &r.read)
-	if err != nil {
-		m.answerCheck(r, err)
+	if !m.mayClaim(r) {
 		return
 	}
-	if m.log.deaf > m.now.Wall { // Its claim would only burn the token.
-		m.answerCheck(r, ErrMissed)
-		return
-	}
-	r.Accepted = judged
-	if other := m.claims.open[judged.Use.Key]; other != nil {
-		r.ahead, r.index = other, len(other.behind)
-		other.behind = append(other.behind, r)
-		if r.late.what == nil { // Where a request goes on alone, the time of its value is enough.
-			m.timers.set(&r.late, m.now.Up+m.Wait, r)
+	if other := m.claims.open[r.Accepted.Use.Key]; other != nil {
+		if other.line == nil {
+			other.line = new(line)
 		}
+		other.line.add(r)
 		return
 	}
 	m.claims.begin(r)
 	m.sendClaims()
 }
 
-// outcome ends the walk of a request whose claim was open, and lets those go on that wait for it.
+// mayClaim judges the token of a request. It answers one that is refused, and one that came by other rules than those that count now.
+func (m *Machine) mayClaim(r *Request) bool {
+	if m.isOutdated(r) {
+		m.answerCheck(r, errOtherRules)
+		return false
+	}
+	judged, err := m.validator.JudgeToken(m.now.Wall, &r.read)
+	if err != nil {
+		m.answerCheck(r, err)
+		return false
+	}
+	r.Accepted = judged
+	if owner, lost := m.claims.lost.owner(&judged.Use); lost {
+		r.Owner = owner
+		m.answerCheck(r, svid.Replayed)
+		return false
+	}
+	if r.late.what == nil {
+		m.timers.set(&r.late, m.now.Up+m.Wait, r)
+	}
+	return true
+}
+
+// outcome ends the walk of a request whose claim was open. Those that wait for it go on where it is known what became of the token. Else
+// one of them claims it, and the others wait for that one: each outcome costs one step then, however many wait.
 func (m *Machine) outcome(r *Request, err error) {
-	m.claims.finish(&m.timers, r)
-	for _, other := range r.behind {
-		if other != nil {
-			other.ahead, other.isNext = nil, true
-			m.again = append(m.again, other)
+	m.claims.finish(r)
+	waits := r.line
+	r.line = nil
+	m.answerCheck(r, err)
+	switch {
+	case waits == nil:
+	case err == nil, err == svid.Replayed, err == svid.Withdrawn:
+		m.release(waits)
+	default:
+		m.handOver(waits)
+	}
+}
+
+// release lets all of a line go on.
+func (m *Machine) release(waits *line) {
+	for r := waits.take(); r != nil; r = waits.take() {
+		r.isNext = true
+		m.again = append(m.again, r)
+	}
+}
+
+// handOver lets the first of a line open a claim.
+func (m *Machine) handOver(waits *line) {
+	r := waits.take()
+	if r == nil {
+		return
+	}
+	if !m.mayClaim(r) { // The others may be refused for the same reason.
+		m.release(waits)
+		return
+	}
+	r.line = waits
+	m.claims.begin(r)
+	m.claims.due = m.now.Up
+}
+
+// A line is of requests with one token: they wait for the outcome of a claim.
+type line struct {
+	requests []*Request // nil where one has left
+	first    int        // those before it have left
+}
+
+func (l *line) add(r *Request) {
+	if l.first > 64 && l.first > len(l.requests)/2 {
+		l.requests = append([]*Request(nil), l.requests[l.first:]...)
+		for i, other := range l.requests {
+			if other != nil {
+				other.index = i
+			}
+		}
+		l.first = 0
+	}
+	r.line, r.index = l, len(l.requests)
+	l.requests = append(l.requests, r)
+}
+
+// take takes the first request; nil where there is none.
+func (l *line) take() *Request {
+	for l.first < len(l.requests) {
+		r := l.requests[l.first]
+		l.requests[l.first] = nil
+		if l.first++; r != nil {
+			r.line = nil
+			return r
 		}
 	}
-	r.behind = nil
-	m.answerCheck(r, err)
+	return nil
 }
+
+// leave takes a request out.
+func (l *line) leave(r *Request) { l.requests[r.index], r.line = nil, nil }
 
 // goOn lets requests go on whose claim's outcome is there. Where one token is sent very often, they go on by and by, so that
 // others come in between.
@@ -240,7 +312,6 @@ func (m *Machine) goOn() {
 		}
 		if r.isNext = false; !r.answered {
 			m.claim(r)
-			r.read.Close() // (it was read once more)
 		}
 	}
 }
@@ -259,24 +330,13 @@ func (m *Machine) leave(r *Request, why error) {
 	case r.answered:
 	case r.open:
 		m.metrics.ClaimsFailed.Add(1)
-		m.claims.gather = without(m.claims.gather, r) // so it is not sent
-		m.outcome(r, fmt.Errorf("the token could not be claimed: %w", why))
-	case r.ahead != nil, r.isNext:
-		if r.ahead != nil {
-			r.ahead.behind[r.index], r.ahead = nil, nil
+		m.outcome(r, r.failed(why))
+	case r.line != nil, r.isNext:
+		if r.line != nil {
+			r.line.leave(r)
 		}
 		m.answerCheck(r, fmt.Errorf("waiting for the claim of another request: %w", why))
 	}
-}
-
-// without takes a request out of those that wait.
-func without(all []*Request, one *Request) []*Request {
-	for i, other := range all {
-		if other == one {
-			return append(all[:i], all[i+1:]...)
-		}
-	}
-	return all
 }
 
 // A Withdraw withdraws the token of this key, which expires at Expires, here and in the group. An Err that says the group was not
@@ -285,16 +345,18 @@ type Withdraw struct {
 	Call
 	Key     svid.TokenKey
 	Expires uint64
-	Use     svid.Use // what the record gained
+	Use     svid.Use     // what the record gained
+	UsedBy  claims.Owner // whose claim the store has of the token: it was used before. Zeros where it was not
 
 	write Write
 	put   Put
-	waits int   // for how many of these two
+	store StoreWithdraw
+	waits int   // for how many of these three
 	fault error // why they have not taken it
 }
 
-// The walk of a withdrawal: it is in the record at once, so no token is accepted behind it. Then it goes to the disk, and into
-// the group's log, each whatever becomes of the other, and only then the answer is that it is done.
+// The walk of a withdrawal: it is in the record at once, so no token is accepted after it. Then it goes to the disk, into the
+// group's log and into the store, each whatever becomes of the others, and only then the answer is that it is done.
 func (w *Withdraw) happen(m *Machine) {
 	if err := m.canJudge(); err != nil {
 		m.answer(&w.Call, fmt.Errorf("%w: %v", ErrNotReady, err))
@@ -307,6 +369,12 @@ func (w *Withdraw) happen(m *Machine) {
 	}
 	w.Use, w.waits = use, 1
 	w.write.Uses = []svid.Use{use}
+	if m.Stored {
+		w.waits++
+		w.store = StoreWithdraw{Withdrawal: claims.Withdrawal{Key: w.Key, Expires: w.Expires}, Within: m.Wait, by: w}
+		m.timers.set(&w.store.late, m.now.Up+m.Wait, &w.store)
+		m.do(WithdrawAtStore{&w.store})
+	}
 	if m.joined {
 		w.waits++
 		w.put = Put{Kind: carriers.Uses, Uses: []svid.Use{use}, Timed: true}
@@ -337,7 +405,17 @@ func (w *Withdraw) landed(m *Machine, err error) {
 	w.taken(m, err)
 }
 
-// taken: one of the two has the withdrawal, or err says why not.
+// stored: the store has the withdrawal, or not.
+func (w *Withdraw) stored(m *Machine, owner claims.Owner, err error) {
+	if err != nil {
+		err = fmt.Errorf("the store did not take it; try again: %w", err)
+	} else {
+		w.UsedBy = owner
+	}
+	w.taken(m, err)
+}
+
+// taken: one of them has the withdrawal, or err says why not.
 func (w *Withdraw) taken(m *Machine, err error) {
 	switch {
 	case w.fault == nil:
@@ -359,37 +437,4 @@ func (m *Machine) withdrawn(w *Withdraw) {
 	m.metrics.Withdrawals.Add(1)
 	m.Log.Event("withdrawn", "key", w.Key.String(), "exp", w.Expires)
 	m.answer(&w.Call, nil)
-}
-
-// A Resume lets the machine accept tokens though values of the bucket are missing. Until is when these may live: 0 if none is
-// missing.
-type Resume struct {
-	Call
-	Until uint64
-
-	write Write
-}
-
-// The walk of a resumption: the disk has it before the answer goes out, or tries again each second.
-func (r *Resume) happen(m *Machine) {
-	until := m.deafUntil()
-	if err := m.validator.GoOn(); err != nil && err != svid.ErrNoLog {
-		m.answer(&r.Call, err)
-		return
-	}
-	r.Until, m.log.deaf = until, 0
-	if until > 0 {
-		m.Log.Event("resumed", "until", until)
-	}
-	if m.Journal == nil || !m.loaded {
-		m.answer(&r.Call, nil)
-		return
-	}
-	m.keeper.unmarked = false
-	m.keep(&r.write, r)
-}
-
-func (r *Resume) written(m *Machine, err error) {
-	m.marked(err)
-	m.answer(&r.Call, nil)
 }

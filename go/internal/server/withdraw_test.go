@@ -73,7 +73,7 @@ func TestAWithdrawalOfAClockThatIsAhead(t *testing.T) {
 	if err != nil {
 		t.Fatal(err)
 	}
-	_, err = fast.Withdraw(found.Key, found.Expires)
+	_, _, err = fast.Withdraw(found.Key, found.Expires)
 	if err == nil || !strings.Contains(err.Error(), "the other sidecars take it only in") {
 		t.Error(err)
 	}
@@ -90,7 +90,7 @@ func TestAWithdrawalOfAClockThatIsAhead(t *testing.T) {
 	if err != nil {
 		t.Fatal(err)
 	}
-	if _, err := right.Withdraw(other.Key, other.Expires); err != nil {
+	if _, _, err := right.Withdraw(other.Key, other.Expires); err != nil {
 		t.Error(err)
 	}
 }
@@ -120,7 +120,7 @@ func TestAWithdrawalThatTheGroupDoesNotHearOf(t *testing.T) {
 	m := &tie{broker: &broker{}, engine: e, ready: make(chan struct{})}
 	m.members = []*tie{m}
 	withdraw := func() error {
-		_, err := e.Withdraw(one, moment+300)
+		_, _, err := e.Withdraw(one, moment+300)
 		return err
 	}
 	wantNotReady := func(what string) {
@@ -168,7 +168,7 @@ func TestAWithdrawalThatWaitsEndsWithTheEngine(t *testing.T) {
 		}
 		defer e.Close()
 		ready(t, e).Join(slowGroup{behind: 3 * 24 * time.Hour})
-		_, err = e.Withdraw(svid.TokenKey{1}, moment+300)
+		_, _, err = e.Withdraw(svid.TokenKey{1}, moment+300)
 		if err == nil || !strings.Contains(err.Error(), "the other sidecars take it only in 259170 seconds") {
 			t.Error(err)
 		}

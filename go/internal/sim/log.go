@@ -9,7 +9,7 @@ import (
 	"svid.example/go/v2/svid"
 )
 
-// keeps is how long the log keeps a value.
+// keeps is how long the log keeps a value, and how long a store that has lost entries accepts no token.
 const keeps = (longest + 2*ahead) * time.Second
 
 // A logServer is the group's log, as a Group promises it: values have one order, and stay until they are too old, unless
@@ -21,9 +21,6 @@ type logServer struct {
 	gone   uint64        // values up to this position were too old
 	away   time.Duration // nobody reaches the server before this time
 	copies int           // how often an older copy was put back
-	lost   time.Duration // before this time values may be lost that nobody here has read
-
-	ever map[svid.Use]bool // the uses of all values that it ever had
 }
 
 // A stored is a value that the log has.
@@ -39,9 +36,6 @@ type stored struct {
 func (s *logServer) append(kind carriers.Kind, message []byte, uses []svid.Use) {
 	s.last++
 	s.values = append(s.values, stored{s.last, kind, uses, message, s.w.now})
-	for _, use := range uses {
-		s.ever[use] = true
-	}
 	s.w.tell("log: value %d has %s", s.last, names(uses))
 	for _, m := range s.w.members {
 		if m.life != nil {
@@ -98,7 +92,6 @@ func (s *logServer) putBack(number int) {
 		s.last = s.values[len(s.values)-1].position
 	}
 	s.copies++
-	s.lost = s.w.now + keeps
 	s.w.tell("log: an older copy, up to value %d", s.last)
 	for _, m := range s.w.members {
 		if m.life != nil {
@@ -107,10 +100,10 @@ func (s *logServer) putBack(number int) {
 	}
 }
 
-// claim appends a use by who is no member; none that no message can tell.
-func (s *logServer) claim(use svid.Use, uses []svid.Use) {
+// use appends a use by who is no member; none that no message can tell.
+func (s *logServer) use(use svid.Use, uses []svid.Use) {
 	if message, err := use.Batch(); err == nil {
-		s.append(carriers.Claims, message, uses)
+		s.append(carriers.Uses, message, uses)
 	}
 }
 

@@ -2,6 +2,7 @@ package sim
 
 import (
 	"context"
+	"encoding/binary"
 	"errors"
 	"fmt"
 	"syscall"
@@ -16,7 +17,10 @@ import (
 // wait is Options.Wait of all machines.
 const wait = 2 * time.Second
 
-var errLate = fmt.Errorf("the log did not answer: %w", context.DeadlineExceeded)
+var (
+	errLate = fmt.Errorf("the group's server did not answer: %w", context.DeadlineExceeded)
+	errAway = errors.New("connection refused")
+)
 
 // A member is a sidecar of the group, over all its lives.
 type member struct {
@@ -65,18 +69,15 @@ type life struct {
 	set        int           // of the bundles that its validator has
 	armed      time.Duration // when it ticks next
 
-	// Of reading the log.
-	joined    bool
-	position  uint64 // of the value that was read last
-	ready     uint64 // all up to this one is to be read before it is caught up
-	caughtUp  bool
-	copies    int           // as the log had them when it was looked at last
-	cut       bool          // the connection was lost since
-	pumpAt    time.Duration // when it reads next; never where it waits for a value
-	beginning *server.Begin
-	reading   *server.Reading
-	read      stored // what it reads
-	missed    bool   // it has missed values
+	position string // of the last withdrawal that it has read in the store
+
+	// Of reading the log, in mode once.
+	joined   bool
+	value    uint64 // the position of the value that was read last
+	ready    uint64 // all up to this one is to be read before it is caught up
+	caughtUp bool
+	copies   int           // as the log had them when it was looked at last
+	pumpAt   time.Duration // when it reads next; never where it waits for a value
 
 	asks  map[*server.Call]*ask
 	heard map[svid.TokenKey]time.Duration // withdrawals of others that it has taken
@@ -136,7 +137,8 @@ func (m *member) start() {
 	m.life = l
 	w.tell("%v: starts", m)
 	o := server.Options{Mode: w.plan.mode, Audiences: []string{"ledger"}, Longest: longest, Ahead: ahead, Step: step, ValidatorID: m.id,
-		Grouped: w.plan.mode == server.Strict || len(w.members) > 1, Wait: wait}
+		Grouped: w.plan.mode == server.Once && len(w.members) > 1, Stored: w.plan.mode != server.Once, Terms: terms, Wait: wait}
+	binary.BigEndian.PutUint64(o.Life[:], uint64(m.number)<<32|m.lives)
 	var err error
 	if l.validator, err = svid.Open(svid.Options{Audiences: o.Audiences, Bundles: w.pool.bundles[l.set], Longest: longest, Ahead: ahead,
 		Step: step, ValidatorID: m.id}); err != nil {
@@ -152,16 +154,16 @@ func (m *member) start() {
 		o.Journal = l.journal
 	}
 	l.machine = server.NewMachine(o, l.validator, l.time())
-	if l.journal != nil && o.Mode == server.Strict {
-		l.journal.Bear(l.machine.Mark)
-	}
 	l.step(server.Renewed{Domains: 1})
-	if o.Mode != server.Strict && !l.load() {
+	if !l.load() {
 		return
 	}
 	l.step(server.Run{})
 	if o.Grouped {
 		w.after(m.delay(kindSend), l.join)
+	}
+	if o.Stored {
+		w.after(m.delay(kindSend), l.openStore)
 	}
 }
 
@@ -246,9 +248,6 @@ func (l *life) load() bool {
 			return false
 		}
 		if err == nil {
-			if mark, ok := l.journal.Mark(); ok {
-				l.step(&server.Recall{Mark: mark})
-			}
 			if wants, must := l.journal.WantsSnapshot(); wants {
 				if fault := l.journal.Snapshot(l.machine.Save); l.lost() {
 					return false
@@ -328,6 +327,10 @@ func (l *life) do(effect server.Effect) {
 			at = m.slow + time.Millisecond
 		}
 		w.at(at, func() { l.append(effect.Write) })
+	case server.PutClaims:
+		l.put(effect.Batch)
+	case server.WithdrawAtStore:
+		l.withdrawAtStore(effect.StoreWithdraw)
 	case server.Send:
 		l.send(effect.Put)
 	case server.Answer:
@@ -344,16 +347,12 @@ func (l *life) do(effect server.Effect) {
 	}
 }
 
-// append brings uses to the disk, or a mark.
+// append brings uses to the disk.
 func (l *life) append(w *server.Write) {
 	if l.dead {
 		return
 	}
-	if len(w.Uses) == 0 {
-		w.Err = l.journal.AppendMark(context.Background())
-	} else {
-		w.Err = l.journal.AppendUses(context.Background(), w.Uses...)
-	}
+	w.Err = l.journal.AppendUses(context.Background(), w.Uses...)
 	if l.lost() {
 		return
 	}
@@ -412,30 +411,14 @@ func (l *life) join() {
 	}
 	l.joined = true
 	l.step(server.Joined{})
-	l.begin(false)
+	l.begin()
 }
 
-// begin lets the machine begin to read the log.
-func (l *life) begin(lost bool) {
+// begin begins to read the log from its first value on.
+func (l *life) begin() {
 	s := l.w.log
-	l.position, l.ready, l.copies = s.first()-1, s.last, s.copies
-	missed := lost || l.position > s.gone || s.lost > l.w.now
-	l.missed = l.missed || missed
-	l.w.tell("%v: reads the log from behind %d on, up to %d, missed %v", l.m, l.position, s.last, missed)
-	l.beginning = &server.Begin{Log: carriers.Start{Passed: l.position, Ready: s.last, Missed: missed}}
-	l.beginOn()
-}
-
-// beginOn lets the machine begin, for as often as it wants that.
-func (l *life) beginOn() {
-	if l.step(l.beginning); l.dead {
-		return
-	}
-	if l.beginning.Again > 0 {
-		l.pumpSoon(l.beginning.Again)
-		return
-	}
-	l.beginning = nil
+	l.value, l.ready, l.copies = s.first()-1, s.last, s.copies
+	l.w.tell("%v: reads the log from after %d on, up to %d", l.m, l.value, s.last)
 	l.pumpSoon(0)
 }
 
@@ -457,82 +440,29 @@ func (l *life) pump() {
 	if !l.joined {
 		return
 	}
-	if l.beginning != nil {
-		l.beginOn()
-		return
-	}
-	if l.reading != nil {
-		l.readOn()
-		return
-	}
 	if s.away > l.w.now || l.m.cutOff() {
-		l.cut = true
 		l.pumpSoon(100 * time.Millisecond)
 		return
 	}
-	if l.cut || l.copies != s.copies {
-		l.cut = false
-		if l.copies != s.copies {
-			l.begin(true)
-			return
-		}
+	if l.copies != s.copies {
+		l.begin()
+		return
 	}
-	next := s.next(l.position)
-	if next == nil || next.position > l.position+1 {
-		before := s.last // values in front of the next one are gone
-		if next != nil {
-			before = next.position - 1
-		}
-		if before > l.position {
-			if l.position = before; before <= s.gone {
-				l.beginning = &server.Begin{Log: carriers.Start{Passed: before, Ready: s.last}}
-				l.beginOn()
-				return
-			}
-			l.missed = true
-		}
-	}
+	next := s.next(l.value)
 	if next == nil {
+		l.value = s.last
 		l.catchUp()
 		return
 	}
-	l.position, l.read = next.position, *next
-	value := carriers.Value{Kind: next.kind, Position: next.position, Message: next.message}
-	if l.w.plan.mode == server.Strict {
-		l.reading = &server.Reading{Values: []carriers.Value{value}}
-		l.readOn()
+	l.value = next.position
+	t := &server.Taking{Values: []carriers.Value{{Kind: next.kind, Position: next.position, Message: next.message}}}
+	uses := next.uses
+	if l.step(t); l.dead {
 		return
 	}
-	t := &server.Taking{Values: []carriers.Value{value}}
-	l.step(t)
-	l.took(t.Errs == nil)
-}
-
-// readOn reads the next uses of a value.
-func (l *life) readOn() {
-	r := l.reading
-	if l.step(r); l.dead {
-		return
-	}
-	if !r.Done {
-		l.pumpSoon(r.Again)
-		return
-	}
-	l.reading = nil
-	l.missed = l.missed || r.Asides != nil && r.Asides[0] == svid.ErrTooFar // (Its claims count, and are not in the record.)
-	l.took(r.Asides == nil)
-}
-
-// took: a value was taken.
-func (l *life) took(whole bool) {
-	if l.dead {
-		return
-	}
-	for _, use := range l.read.uses {
-		if use.Withdrawn && whole {
-			if _, is := l.heard[use.Key]; !is {
-				l.heard[use.Key] = l.w.now
-			}
+	for _, use := range uses {
+		if _, is := l.heard[use.Key]; use.Withdrawn && t.Errs == nil && !is {
+			l.heard[use.Key] = l.w.now
 		}
 	}
 	l.catchUp()
@@ -541,12 +471,9 @@ func (l *life) took(whole bool) {
 
 // catchUp: the machine has all that the log had when it joined.
 func (l *life) catchUp() {
-	if l.caughtUp || l.position < l.ready {
+	if l.caughtUp || l.value < l.ready {
 		return
 	}
 	l.caughtUp = true
 	l.step(server.CaughtUp{})
-	if !l.dead && l.w.plan.mode == server.Strict {
-		l.load()
-	}
 }

@@ -8,6 +8,7 @@ import (
 	"time"
 
 	"svid.example/go/v2/carriers"
+	"svid.example/go/v2/claims"
 	"svid.example/go/v2/internal/server"
 	"svid.example/go/v2/journal"
 	"svid.example/go/v2/svid"
@@ -55,9 +56,9 @@ var deeds = []struct {
 	kind  string
 	often int
 }{
-	{"kill", 3}, {"kill within", 4}, {"lose power", 4}, {"end", 2}, {"set the clock", 3}, {"jump", 2}, {"renew", 5}, {"withdraw", 5}, {"log away", 3}, {"cut off", 3},
+	{"kill", 3}, {"kill within", 4}, {"lose power", 4}, {"end", 2}, {"set the clock", 3}, {"jump", 2}, {"renew", 5}, {"withdraw", 5}, {"server away", 3}, {"cut off", 3},
 	{"lag", 2}, {"lose answers", 6}, {"store again", 3}, {"remove", 1}, {"put back", 1}, {"garbage", 2}, {"claim", 2}, {"fail disk", 4},
-	{"slow disk", 4}, {"snapshot", 3}, {"resume", 1},
+	{"slow disk", 4}, {"snapshot", 3}, {"lose entries", 2}, {"set the store's clock", 3},
 }
 
 // planOf is the plan of a seed.
@@ -97,7 +98,7 @@ func planOf(mode server.Mode, seed int64) *plan {
 func (p *plan) run(trace func(format string, args ...any)) report {
 	w := &world{plan: p, pool: tokensOf(), trace: trace}
 	w.report.accepted, w.report.answers = map[svid.TokenKey][]acceptance{}, map[string]int{}
-	w.log = &logServer{w: w, ever: map[svid.Use]bool{}}
+	w.log, w.store = &logServer{w: w}, newStore(w)
 	for i := 0; i < p.members; i++ {
 		m := &member{w: w, number: i, id: svid.ValidatorID{byte(i + 1)}, offset: p.offsets[i], drift: p.drifts[i],
 			kept: map[svid.Use]bool{}, withdrawn: map[svid.TokenKey]time.Duration{}}
@@ -163,11 +164,6 @@ func (w *world) do(d deed) {
 		}
 	case "kill within": // a step: some of its effects are done, and others are not
 		m.effects = 1 + d.number%12
-	case "resume": // From here on tokens may be accepted twice, as the command says.
-		if l != nil && w.plan.mode == server.Strict && l.machine.Ready(l.time()) != nil {
-			w.resumed = true
-			l.step(&server.Resume{})
-		}
 	case "lose power":
 		if m.disk == nil {
 			if l != nil {
@@ -205,8 +201,19 @@ func (w *world) do(d deed) {
 		}
 	case "withdraw":
 		m.withdraw(w.issued(d.number))
-	case "log away":
+	case "server away":
 		w.log.away = w.now + d.length
+		w.store.away = w.log.away
+	case "lose entries": // all of them, or those whose key begins so; and the epoch ends
+		kept := byte(d.number)
+		w.store.lost = true
+		w.store.Lose(func(key svid.TokenKey) bool { return key[0] < kept })
+	case "set the store's clock": // by as much as it may differ, and it goes back by as much as it may step back
+		to := time.Duration(d.number%(ahead*500)) * time.Millisecond
+		if least := w.store.offset - back*time.Second; to < least {
+			to = least
+		}
+		w.store.offset = to
 	case "cut off":
 		m.apart = w.now + d.length
 	case "lag":
@@ -218,6 +225,7 @@ func (w *world) do(d deed) {
 			v := w.log.values[n-1-d.number%n%5]
 			w.log.append(v.kind, v.message, v.uses)
 		}
+		w.store.putAgain(d.number)
 	case "remove":
 		w.log.remove(d.number)
 	case "put back":
@@ -225,11 +233,14 @@ func (w *world) do(d deed) {
 	case "garbage":
 		message := make([]byte, d.number%100)
 		r.Read(message)
-		w.log.append(carriers.Claims, message, nil)
+		w.log.append(carriers.Uses, message, nil)
 	case "claim": // by a member that lies
 		one := w.issued(d.number)
 		use := svid.Use{Key: one.key, Expires: one.expires, At: w.wall() + uint64(d.number%3)*ahead, ValidatorID: svid.ValidatorID{byte(200 + d.number%2)}}
-		w.log.claim(use, []svid.Use{use})
+		w.log.use(use, []svid.Use{use})
+		if d.number%4 == 0 {
+			w.store.take([]claims.Claim{{Key: one.key, Owner: claims.Owner{byte(200 + d.number%2)}, Expires: one.expires}}, make([]claims.Found, 1))
+		}
 	case "fail disk":
 		m.faulty += 1 + d.number%3
 	case "slow disk":
@@ -248,9 +259,9 @@ func (w *world) heal() {
 	}
 	w.healed = true
 	w.tell("all faults end")
-	w.log.away = 0
+	w.log.away, w.store.away = 0, 0
 	last := svid.Use{Key: svid.TokenKey{0xff}, Expires: w.wall() + 1, At: w.wall(), ValidatorID: svid.ValidatorID{200}}
-	w.log.claim(last, nil) // Who has missed the value in front of it hears so now.
+	w.log.use(last, nil) // Who has missed the value before it hears so now.
 	for _, m := range w.members {
 		m.offset, m.drift, m.slow, m.faulty, m.powerAt, m.effects, m.apart, m.answersLost, m.lag = 0, 0, 0, 0, 0, 0, 0, 0, 0
 		m.set = 0
@@ -296,7 +307,7 @@ func (w *world) heal() {
 // repair lets each member of mode once send a summary to the one before it, and then to the one behind it, and take the answers. So a use
 // comes to another member by one answer alone, and what is wrong with that answer is seen.
 func (w *world) repair() {
-	if w.plan.mode == server.Strict {
+	if w.plan.mode != server.Once {
 		return
 	}
 	var up []*member
@@ -339,13 +350,17 @@ func (l *list) Write(b []byte) (int, error) {
 	return len(b), nil
 }
 
-// wantEqual wants the records of all members to be equal, of those that have read all.
+// wantEqual wants the records of all members to be equal, of those that have read all. In mode strict each has its own uses,
+// and in reuse a store that has lost its withdrawals tells a member that starts later of none.
 func (w *world) wantEqual() {
+	if w.plan.mode == server.Strict || w.plan.mode == server.Reuse && w.store.lost {
+		return
+	}
 	var moment uint64
 	records := map[*member][]svid.Use{}
 	for _, m := range w.members {
 		l := m.life
-		if l == nil || l.missed || !l.caughtUp && len(w.members) > 1 {
+		if l == nil || w.plan.mode == server.Once && !l.caughtUp && len(w.members) > 1 {
 			continue
 		}
 		l.machine.Tick(l.time())
@@ -369,14 +384,6 @@ func (w *world) wantEqual() {
 			moment = size.Moment
 		}
 	}
-	// Mode strict has no summaries: a withdrawal may be in one record alone, if the answer was that the group does not know it. And
-	// no record takes a claim that it reads behind a withdrawal.
-	untold, withdrawn := map[svid.Use]bool{}, map[svid.TokenKey]bool{}
-	for _, use := range w.report.withdrawals {
-		if w.plan.mode == server.Strict {
-			untold[use], withdrawn[use.Key] = !w.log.ever[use], true
-		}
-	}
 	var first map[svid.Use]bool
 	var whose *member
 	for _, m := range w.members {
@@ -387,8 +394,8 @@ func (w *world) wantEqual() {
 		live := map[svid.Use]bool{}
 		for _, use := range uses {
 			// (A summary leaves out what expires soon.)
-			if use.Expires > moment+ahead && use.ValidatorID[0] < 200 && !untold[use] && (use.Withdrawn || !withdrawn[use.Key]) {
-				live[use] = true
+			if use.Expires > moment+ahead && use.ValidatorID[0] < 200 && (w.plan.mode == server.Once || w.store.told[use.Key]) {
+				live[w.known(use)] = true
 			}
 		}
 		if first == nil {
@@ -406,6 +413,14 @@ func (w *world) wantEqual() {
 			return
 		}
 	}
+}
+
+// known is what two records have in common of a use. In mode reuse each member makes its own use of a withdrawal that it reads.
+func (w *world) known(use svid.Use) svid.Use {
+	if w.plan.mode == server.Reuse {
+		return svid.Use{Key: use.Key, Withdrawn: use.Withdrawn}
+	}
+	return use
 }
 
 // wantFresh wants fresh tokens to be accepted by each member.

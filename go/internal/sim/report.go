@@ -17,7 +17,6 @@ type report struct {
 	accepted map[svid.TokenKey][]acceptance
 	answers  map[string]int // how often each answer was given
 
-	withdrawals []svid.Use
 }
 
 // An acceptance is a 200.
@@ -80,7 +79,7 @@ func (m *member) ask(one *token, gives time.Duration) *ask {
 	}
 	a := &ask{l: l, token: one, at: m.w.now, request: server.NewRequest(one.text)}
 	_, a.withdrawn = m.withdrawn[one.key]
-	if _, heard := l.heard[one.key]; heard {
+	if _, heard := l.heard[one.key]; heard || m.w.store.gone[one.key] {
 		a.withdrawn = true
 	}
 	l.asks[&a.request.Call] = a
@@ -113,7 +112,6 @@ func (m *member) withdraw(one *token) {
 	m.w.tell("%v: is to withdraw %s", m, one)
 	l.step(a.withdraw)
 	if use := a.withdraw.Use; use != (svid.Use{}) { // (from here on no token is accepted that comes later)
-		m.w.report.withdrawals = append(m.w.report.withdrawals, use)
 		if _, is := l.heard[use.Key]; !is {
 			l.heard[use.Key] = m.w.now
 		}
@@ -136,10 +134,10 @@ func (a *ask) answered(err error) {
 			if m.disk != nil && !m.kept[a.withdraw.Use] {
 				w.fail("%v: a withdrawal is done that is not on the disk", m)
 			}
-			if w.plan.mode == server.Strict && !w.log.ever[a.withdraw.Use] {
-				w.fail("%v: a withdrawal is done that is not in the log", m)
+			if w.plan.mode == server.Strict {
+				w.store.gone[a.token.key] = true
 			}
-			// (Without a disk, a member has it for as long as it lives, or the log has it.)
+			// (Without a disk, a member has it for as long as it lives, or the group has it.)
 		}
 		return
 	}
@@ -163,8 +161,8 @@ func word(err error) string {
 		return refusal.String()
 	case errors.Is(err, server.ErrNotReady):
 		return "not ready"
-	case errors.Is(err, server.ErrMissed):
-		return "missed"
+	case errors.Is(err, server.ErrLost):
+		return "lost"
 	case errors.Is(err, svid.ErrJump):
 		return "jump"
 	}
@@ -195,9 +193,6 @@ func (a *ask) accepted() {
 	for _, other := range before {
 		switch w.plan.mode {
 		case server.Strict:
-			if w.resumed {
-				continue
-			}
 			w.fail("%s is accepted by %v at %v and by %v", one, other.by, other.at, m)
 		case server.Once:
 			if other.by == m {
@@ -208,8 +203,8 @@ func (a *ask) accepted() {
 	w.report.accepted[one.key] = append(before, acceptance{m, w.now})
 	switch w.plan.mode {
 	case server.Strict:
-		if !w.log.ever[got.Use] {
-			w.fail("%v: %s is accepted, and the log does not have its claim", m, one)
+		if !w.store.ever[one.key][m.id] {
+			w.fail("%v: %s is accepted, and the store did not have its claim", m, one)
 		}
 	case server.Once:
 		if m.disk != nil && !m.kept[got.Use] {

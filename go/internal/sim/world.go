@@ -1,5 +1,5 @@
 // Package sim simulates whole groups of sidecars in one goroutine: their machines (server.Machine), clocks that are wrong, disks
-// that fail, a log that loses answers and values, kills, and clients that send one token everywhere. A seed gives a plan, and a
+// that fail, a store and a log that lose answers and what they have, kills, and clients that send one token everywhere. A seed gives a plan, and a
 // plan gives one run, each time the same. What a run may not do is looked for from outside, in the list of what happened.
 package sim
 
@@ -16,10 +16,10 @@ type world struct {
 	pool    *pool
 	now     time.Duration // since the run began
 	queue   queue
-	log     *logServer
+	log     *logServer   // of mode once
+	store   *storeServer // of the other modes
 	members []*member
 	healed  bool // no faults come from here on
-	resumed bool // someone let a member go on that has missed values
 	report  report
 	trace   func(format string, args ...any) // nil for none
 }

@@ -283,8 +283,9 @@ func document(t *testing.T, domain, text string) ([]byte, error) {
 func TestHeaders(t *testing.T) {
 	type vector struct {
 		vectors.Each
-		Values []string
-		Answer string
+		Values    []string
+		Answer    string
+		Challenge string
 	}
 	var file setting
 	all := vectors.Read[vector](t, "headers", &file)
@@ -323,6 +324,9 @@ func TestHeaders(t *testing.T) {
 		if got != it.Answer {
 			t.Errorf("%s: %s (status %d), and not %s", it.Name, got, w.Code, it.Answer)
 		}
+		if challenge := w.Header().Get("WWW-Authenticate"); it.Challenge != "" && challenge != it.Challenge {
+			t.Errorf("%s: WWW-Authenticate: %s, and not %s", it.Name, challenge, it.Challenge)
+		}
 	}
 }
 
@@ -346,6 +350,40 @@ func TestPatterns(t *testing.T) {
 		}
 		if bad != nil && it.Offset != nil && bad.Offset != *it.Offset {
 			t.Errorf("%s: the offset is %d, and not %d", it.Name, bad.Offset, *it.Offset)
+		}
+	}
+}
+
+func TestClaims(t *testing.T) {
+	type vector struct {
+		vectors.Each
+		Call, Answer                                               string
+		ValidatorID                                                vectors.Bytes `json:"validator_id"`
+		Life, Caller, Owner, Found                                 vectors.Bytes
+		Exp, Margin, Time, Lasts, Before, Now, Ahead, Deaf, Moment uint64 `json:",string"`
+	}
+	owner := func(bytes vectors.Bytes) svid.Owner { return *(*svid.Owner)(bytes) }
+	for _, it := range vectors.Read[vector](t, "claims", nil) {
+		got, due := "", it.Answer
+		switch it.Call {
+		case "owner_of_life":
+			got, due = svid.OwnerOfLife(*(*svid.ValidatorID)(it.ValidatorID), *(*[16]byte)(it.Life), it.Exp).String(), owner(it.Owner).String()
+		case "owner_of_caller":
+			got, due = svid.OwnerOfCaller(*(*[32]byte)(it.Caller), it.Exp).String(), owner(it.Owner).String()
+		case "validator_of":
+			got = owner(it.Owner).ValidatorID().String()
+		case "until":
+			got = fmt.Sprint(svid.StaysUntil(it.Exp, it.Margin))
+		case "deaf":
+			got = fmt.Sprint(svid.DeafAfter(it.Time, it.Lasts, it.Before))
+		case "moment":
+			got = fmt.Sprint(svid.ClaimMoment(it.Now, it.Time, it.Ahead))
+		case "outcome":
+			found := svid.Found{Owner: owner(it.Found), Time: it.Time, Deaf: it.Deaf}
+			got = svid.Claim{Owner: owner(it.Owner), Expires: it.Exp}.Outcome(found, it.Lasts, it.Moment).String()
+		}
+		if got != due {
+			t.Errorf("%s: %s, and not %s", it.Name, got, due)
 		}
 	}
 }

@@ -61,8 +61,10 @@ impl Denied {
     /// The header `WWW-Authenticate` of the answer, where it has one (RFC 6750, section 3).
     pub fn challenge(&self) -> Option<&'static str> {
         match self {
-            Denied::NoToken(BearerFault::Spelling) => Some("Bearer error=\"invalid_request\", error_description=\"NotBearer\""),
-            Denied::NoToken(_) => Some("Bearer"),
+            Denied::NoToken(BearerFault::Several | BearerFault::Spelling) => {
+                Some("Bearer error=\"invalid_request\", error_description=\"NotBearer\"")
+            }
+            Denied::NoToken(_) => Some("Bearer realm=\"svid\""),
             Denied::Refused(why) => Some(why.challenge()),
             Denied::NotAllowed => Some("Bearer error=\"insufficient_scope\", error_description=\"NotAllowed\""),
             Denied::Failed(_) => None,

@@ -266,7 +266,8 @@ fn answers_to_requests() {
     let header = format!("bearer  {}", tokens()[0]);
     assert_eq!(guard.admit([&header]).unwrap().path(), "/billing/api");
     assert_eq!(guard.admit([&header]).unwrap_err(), Denied::Refused(Refusal::Replayed));
-    assert_eq!(bearer_token([&header, &header]).unwrap_err().challenge(), Some("Bearer"));
+    let malformed = "Bearer error=\"invalid_request\", error_description=\"NotBearer\"";
+    assert_eq!(bearer_token([&header, &header]).unwrap_err().challenge(), Some(malformed));
 }
 
 #[test]
@@ -284,7 +285,7 @@ fn who_may_call() {
     }
     // Of a bad token it says what is wrong with it, and not that its caller may not call: nobody has vouched for that.
     assert_eq!(guard.admit_only(&others, ["Bearer a.b.c"]).unwrap_err(), Denied::Refused(Refusal::HeaderSpelling));
-    assert_eq!(guard.admit_only::<str>(&others, []).unwrap_err().challenge(), Some("Bearer"));
+    assert_eq!(guard.admit_only::<str>(&others, []).unwrap_err().challenge(), Some("Bearer realm=\"svid\""));
     let spoilt = Guard::open(&ledger(), &bundles(), Always::new(Ok(false))).unwrap();
     assert_eq!(spoilt.admit_only(&others, [&header]).unwrap_err(), Denied::Refused(Refusal::BadSignature));
     // The token was not used up.

@@ -69,11 +69,12 @@ fn a_token_is_accepted_once() {
 #[test]
 fn a_request_without_one_token() {
     let service = Service::start();
-    let (bearer, malformed) = (Some("Bearer".to_owned()), "Bearer error=\"invalid_request\", error_description=\"NotBearer\"");
+    let (bearer, malformed) =
+        (Some("Bearer realm=\"svid\"".to_owned()), "Bearer error=\"invalid_request\", error_description=\"NotBearer\"");
     for (headers, challenge) in [
         ("", bearer.clone()),
-        ("Authorization: Basic YTpi\r\n", bearer.clone()),
-        ("Authorization: Bearer a\r\nAuthorization: Bearer a\r\n", bearer),
+        ("Authorization: Basic YTpi\r\n", bearer),
+        ("Authorization: Bearer a\r\nAuthorization: Bearer a\r\n", Some(malformed.to_owned())),
         ("Authorization: Bearer a b\r\n", Some(malformed.to_owned())),
         ("Authorization: Bearer a.b.c\r\n", invalid("HeaderSpelling")),
     ] {

@@ -180,7 +180,8 @@ fn headers_of_requests() {
             (Ok(accepted), due) => same(verdict(Ok(accepted)).as_str(), due),
             (Err(denied), "refused") => {
                 same(denied.status(), 401)?;
-                same(denied.challenge().map(|it| it.split(' ').next() == Some("Bearer")), Some(true))
+                same(denied.challenge().map(|it| it.split(' ').next() == Some("Bearer")), Some(true))?;
+                same(it["challenge"].as_str().or(denied.challenge()), denied.challenge())
             }
             (Err(denied), due) => Err(format!("{denied}, and not {due}")),
         }

@@ -49,6 +49,14 @@ pub enum JournalError {
         /// The file `place`.
         file: PathBuf,
     },
+    /// The name of a new folder could not be forced to the disk, and the folder is there: mend the disk, remove the folder, which keeps nothing
+    /// yet, and start again.
+    NameMayNotLast {
+        /// The folder.
+        folder: PathBuf,
+        /// Why.
+        why: Arc<io::Error>,
+    },
     /// A call of the system failed. After a write that failed (the disk is full) a later one may succeed.
     Io {
         /// What it was about.
@@ -58,6 +66,12 @@ pub enum JournalError {
     },
     /// A sync failed, now or before: nobody knows what the disk holds, and nothing is kept until the folder is opened anew.
     Ended,
+    /// The path no longer leads to the folder: somebody removed or moved it, or mounted another one over it. Another process may have begun
+    /// there, so nothing is kept until the folder is opened anew: put it back first.
+    Moved {
+        /// The path.
+        folder: PathBuf,
+    },
     /// The disk did not answer in time. It may have the messages now, or later, or never.
     Late,
     /// So much waits for the disk that there is no room for more.
@@ -111,8 +125,15 @@ impl fmt::Display for JournalError {
             JournalError::BadValidatorId { file } => {
                 write!(f, "{} is not 32 hexadecimal digits: put back a copy: no file of the folder can be read without it", file.display())
             }
+            JournalError::NameMayNotLast { folder, why } => {
+                let folder = folder.display();
+                write!(f, "the name of {folder} may not last ({why}): mend the disk, remove this folder, which keeps nothing yet, and start again")
+            }
             JournalError::Io { file, why } => write!(f, "{}: {why}", file.display()),
             JournalError::Ended => words::write_plain(f, ffi::FOLDER_ENDED),
+            JournalError::Moved { folder } => {
+                write!(f, "the state folder is no longer at {}: put it back there, and start the service again", folder.display())
+            }
             JournalError::Late => f.write_str("the disk did not answer in time: the messages may be kept or not"),
             JournalError::Full => f.write_str("the disk does not answer, and too much waits for it: try again later"),
             JournalError::TooLong => f.write_str("the messages are more than 16,777,187 bytes: cut them"),
@@ -126,7 +147,7 @@ impl fmt::Display for JournalError {
 impl std::error::Error for JournalError {
     fn source(&self) -> Option<&(dyn std::error::Error + 'static)> {
         match self {
-            JournalError::Io { why, .. } => Some(why.as_ref()),
+            JournalError::Io { why, .. } | JournalError::NameMayNotLast { why, .. } => Some(why.as_ref()),
             JournalError::Record(why) => Some(why),
             JournalError::Unexpected(why) => Some(why),
             _ => None,

@@ -4,10 +4,13 @@ use std::ffi::OsString;
 use std::fs::{self, DirBuilder, File, OpenOptions};
 use std::io::{self, ErrorKind, Read, Write};
 use std::os::raw::c_int;
-use std::os::unix::fs::{DirBuilderExt, FileExt, OpenOptionsExt};
+use std::os::unix::fs::{DirBuilderExt, FileExt, MetadataExt, OpenOptionsExt};
 use std::os::unix::io::AsRawFd;
 use std::path::{Path, PathBuf};
+use std::sync::atomic::{AtomicBool, Ordering};
+use std::sync::Arc;
 
+use super::faults::Faults;
 use super::JournalError;
 use crate::ffi;
 use crate::record::ValidatorId;
@@ -38,62 +41,46 @@ pub fn journal_name(number: u64) -> String {
 pub struct Folder {
     path: PathBuf,
     own: File,
-    _lock: File, // (the system frees it with the last descriptor of the file, however the process ends)
-    #[cfg(test)]
-    pub faults: Faults,
+    _lock: File,         // (the system frees it with the last descriptor of the file, however the process ends)
+    is: [(u64, u64); 2], // what the folder and the lock are, whatever their names lead to
+    is_moved: AtomicBool,
+    faults: Faults,
 }
 
 /// A file that is open for writing.
 pub struct Growing {
     file: File,
-    #[cfg(test)]
+    name: String,
     faults: Faults,
-}
-
-/// Calls of the system that are to fail in a test, by their names.
-#[cfg(test)]
-#[derive(Clone, Default)]
-pub struct Faults(pub std::sync::Arc<std::sync::Mutex<Vec<&'static str>>>);
-
-#[cfg(test)]
-impl Faults {
-    fn of(&self, call: &str) -> io::Result<()> {
-        let mut due = self.0.lock().unwrap();
-        match due.iter().position(|it| *it == call) {
-            Some(at) => {
-                due.remove(at);
-                Err(io::Error::from_raw_os_error(5))
-            }
-            None => Ok(()),
-        }
-    }
-}
-
-/// Lets a call fail that is to fail in a test.
-macro_rules! may_fail {
-    ($of:expr, $call:literal) => {
-        #[cfg(test)]
-        $of.faults.of($call)?;
-    };
 }
 
 impl Folder {
     /// Makes the folder where it is not there, and locks it.
-    pub fn hold(path: &Path) -> Result<Folder, JournalError> {
-        match DirBuilder::new().mode(0o700).create(path) {
-            Ok(()) => sync_above(path).map_err(|why| JournalError::io(path, why))?,
-            Err(why) if why.kind() == ErrorKind::AlreadyExists => {}
-            Err(why) => return Err(JournalError::io(path, why)),
-        }
+    pub fn hold(path: &Path, faults: Faults) -> Result<Folder, JournalError> {
+        make(path, &faults)?;
         let own = File::open(path).map_err(|why| JournalError::io(path, why))?;
         let lock = locked(path)?;
-        Ok(Folder {
-            path: path.to_owned(),
-            own,
-            _lock: lock,
-            #[cfg(test)]
-            faults: Faults::default(),
-        })
+        let of = |file: &File| file.metadata().map(|it| identity(&it)).map_err(|why| JournalError::io(path, why));
+        Ok(Folder { is: [of(&own)?, of(&lock)?], is_moved: AtomicBool::new(false), path: path.to_owned(), own, _lock: lock, faults })
+    }
+
+    /// Fails from now on unless the path leads to this folder, with the lock that is held: somebody may have removed or moved it, or mounted
+    /// another one over it, and the lock keeps no other process from what is there now. It makes two calls, and reads no disk.
+    pub fn stands(&self) -> Result<(), JournalError> {
+        let leads = |path: &Path, own: &(u64, u64)| fs::metadata(path).map_or(false, |it| identity(&it) == *own);
+        let [folder, lock] = &self.is;
+        if !leads(&self.path, folder) || !leads(&self.path(LOCK), lock) {
+            self.is_moved.store(true, Ordering::SeqCst);
+        }
+        self.stood()
+    }
+
+    /// Fails if [`stands`](Folder::stands) has failed.
+    pub fn stood(&self) -> Result<(), JournalError> {
+        match self.is_moved.load(Ordering::SeqCst) {
+            true => Err(JournalError::Moved { folder: self.path.clone() }),
+            false => Ok(()),
+        }
     }
 
     pub fn path(&self, name: &str) -> PathBuf {
@@ -127,24 +114,20 @@ impl Folder {
 
     /// Opens a new file, in place of one that has the name.
     pub fn create(&self, name: &str) -> io::Result<Growing> {
-        may_fail!(self, "create");
+        self.faults.of("create", name)?;
         self.unlink(name)?;
         let file = OpenOptions::new().write(true).create_new(true).mode(0o600).open(self.path(name))?;
-        Ok(Growing {
-            file,
-            #[cfg(test)]
-            faults: self.faults.clone(),
-        })
+        Ok(Growing { file, name: name.to_owned(), faults: self.faults.clone() })
     }
 
     pub fn rename(&self, from: &str, to: &str) -> io::Result<()> {
-        may_fail!(self, "rename");
+        self.faults.of("rename", to)?;
         fs::rename(self.path(from), self.path(to))
     }
 
     /// Removes a file. One that is not there is removed.
     pub fn remove(&self, name: &str) -> io::Result<()> {
-        may_fail!(self, "remove");
+        self.faults.of("remove", name)?;
         self.unlink(name)
     }
 
@@ -157,7 +140,7 @@ impl Folder {
 
     /// Forces the names of the folder to the disk.
     pub fn sync(&self) -> io::Result<()> {
-        may_fail!(self, "sync folder");
+        self.faults.of("sync folder", "")?;
         self.own.sync_all()
     }
 
@@ -182,31 +165,37 @@ impl Folder {
         }
     }
 
-    /// Makes a validator ID at random, and keeps it: whole or not at all.
-    pub fn make_validator_id(&self) -> Result<ValidatorId, JournalError> {
-        let made = ValidatorId::random().and_then(|id| {
-            let unfinished = format!("{ID_FILE}{UNFINISHED}");
-            let file = self.create(&unfinished)?;
+    /// Keeps the validator ID, before anything is kept that can't be read without it. A start that failed or was killed may have left a file
+    /// that has it, and the folder itself: no later sync vouches for a name whose sync failed. So the file is made anew.
+    pub fn keep_validator_id(&self, id: ValidatorId) -> Result<(), JournalError> {
+        match sync_above(&self.path, &self.faults) {
+            // (Who may not read the folder above has not made this one. Where that folder is only read, it may have no sync.)
+            Err(why) if !matches!(why.kind(), ErrorKind::PermissionDenied | ErrorKind::InvalidInput) => {
+                return Err(unsure(&self.path, why))
+            }
+            _ => {}
+        }
+        let unfinished = format!("{ID_FILE}{UNFINISHED}");
+        let kept = self.create(&unfinished).and_then(|file| {
             file.write(format!("{id}\n").as_bytes(), 0)?;
             file.sync()?;
             self.rename(&unfinished, ID_FILE)?;
-            self.sync()?;
-            Ok(id)
+            self.sync()
         });
-        made.map_err(|why| JournalError::io(self.path(ID_FILE), why))
+        kept.map_err(|why| JournalError::io(self.path(ID_FILE), why))
     }
 }
 
 impl Growing {
     /// Writes all of it at an offset of the file.
     pub fn write(&self, data: &[u8], at: u64) -> io::Result<()> {
-        may_fail!(self, "write");
+        self.faults.of("write", &self.name)?;
         self.file.write_all_at(data, at)
     }
 
     /// Forces what was written to the disk.
     pub fn sync(&self) -> io::Result<()> {
-        may_fail!(self, "sync");
+        self.faults.of("sync", &self.name)?;
         self.file.sync_data()
     }
 }
@@ -233,6 +222,11 @@ fn locked(folder: &Path) -> Result<File, JournalError> {
     named.map(|()| file).map_err(|why| JournalError::io(&path, why))
 }
 
+/// What a file is, whatever its name is.
+fn identity(of: &fs::Metadata) -> (u64, u64) {
+    (of.dev(), of.ino())
+}
+
 /// Opens a regular file. (To open a pipe, or to read one, may take for ever.)
 fn regular(path: &Path, how: &mut OpenOptions) -> io::Result<File> {
     let file = how.custom_flags(O_NONBLOCK).open(path)?;
@@ -242,7 +236,26 @@ fn regular(path: &Path, how: &mut OpenOptions) -> io::Result<File> {
     }
 }
 
-fn sync_above(path: &Path) -> io::Result<()> {
+/// Makes the folder where it is not there, so that its name lasts. Where the sync of the folder above fails, no later sync vouches for the name.
+/// So the folder is removed, and the next start makes it anew.
+fn make(path: &Path, faults: &Faults) -> Result<(), JournalError> {
+    match faults.of("mkdir", &path.to_string_lossy()).and_then(|()| DirBuilder::new().mode(0o700).create(path)) {
+        Ok(()) => {}
+        Err(why) if why.kind() == ErrorKind::AlreadyExists => return Ok(()),
+        Err(why) => return Err(JournalError::io(path, why)),
+    }
+    sync_above(path, faults).map_err(|why| match faults.of("rmdir", "").and_then(|()| fs::remove_dir(path)) {
+        Ok(()) => JournalError::io(path, why),
+        Err(_) => unsure(path, why),
+    })
+}
+
+fn unsure(path: &Path, why: io::Error) -> JournalError {
+    JournalError::NameMayNotLast { folder: path.to_owned(), why: Arc::new(why) }
+}
+
+fn sync_above(path: &Path, faults: &Faults) -> io::Result<()> {
+    faults.of("sync above", "")?;
     let above = path.parent().filter(|it| !it.as_os_str().is_empty()).unwrap_or_else(|| Path::new("."));
     File::open(above)?.sync_all()
 }

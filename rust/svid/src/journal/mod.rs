@@ -4,6 +4,7 @@
 //! (svid.h, "A state folder"). This module makes the calls, and tells the library how they went.
 
 mod error;
+mod faults;
 mod file;
 mod folder;
 #[cfg(test)]
@@ -16,6 +17,7 @@ use std::thread::{self, JoinHandle};
 use std::time::{Duration, Instant};
 
 pub use self::error::JournalError;
+use self::faults::Faults;
 use self::file::{front, Contents, End};
 use self::folder::{journal_name, Folder, Growing, Numbers, FRAMES, ID_FILE, SNAPSHOT, UNFINISHED};
 use crate::error::Error;
@@ -134,9 +136,9 @@ impl Journal {
     /// # Errors
     ///
     /// [`JournalError::Held`], [`JournalError::Damaged`], [`JournalError::OtherFormat`], [`JournalError::Old`], [`JournalError::NoValidatorId`],
-    /// [`JournalError::BadValidatorId`], [`JournalError::Io`], [`JournalError::NoMemory`].
+    /// [`JournalError::BadValidatorId`], [`JournalError::NameMayNotLast`], [`JournalError::Io`], [`JournalError::NoMemory`].
     pub fn open(folder: impl AsRef<Path>) -> Result<Journal, JournalError> {
-        Journal::open_by(Folder::hold(folder.as_ref())?)
+        Journal::open_by(Folder::hold(folder.as_ref(), Faults::default())?)
     }
 
     fn open_by(folder: Folder) -> Result<Journal, JournalError> {
@@ -176,7 +178,11 @@ impl Journal {
             }
             found.push(read);
         }
-        let validator_id = known.map_or_else(|| folder.make_validator_id(), Ok)?;
+        let made = || ValidatorId::random().map_err(|why| JournalError::io(folder.path(ID_FILE), why));
+        let validator_id = known.map_or_else(made, Ok)?;
+        if known.is_none() || found.is_empty() {
+            folder.keep_validator_id(validator_id)?;
+        }
         let (oldest, newest) = (journals.first().copied().unwrap_or(1), journals.last().copied().unwrap_or(0));
         let writing = Writing {
             numbers: Numbers::open(validator_id, oldest, newest)?,
@@ -240,7 +246,8 @@ impl Journal {
     /// # Errors
     ///
     /// [`JournalError::Late`] after `wait`: the disk may have them now, or later, or never. [`JournalError::Io`] if the write fails: a later one
-    /// may succeed. [`JournalError::Ended`], [`JournalError::Full`], [`JournalError::TooLong`], [`JournalError::NoMemory`].
+    /// may succeed. [`JournalError::Moved`] if the path no longer leads to the folder once they are written, and from then on.
+    /// [`JournalError::Ended`], [`JournalError::Full`], [`JournalError::TooLong`], [`JournalError::NoMemory`].
     pub fn append(&self, messages: &[u8], wait: Duration) -> Result<(), JournalError> {
         let commit = self.keeper.join(messages)?;
         let waits = commit.ended.wait_timeout_while(lock(&commit.result), wait, |it| it.is_none());
@@ -278,9 +285,11 @@ impl Journal {
     ///
     /// # Errors
     ///
-    /// [`JournalError::Io`], [`JournalError::Ended`], [`JournalError::NoMemory`], [`JournalError::Record`]. Nothing is lost then.
+    /// [`JournalError::Io`], [`JournalError::Ended`], [`JournalError::Moved`], [`JournalError::NoMemory`], [`JournalError::Record`]. Nothing is
+    /// lost then, and nothing is written to what is there in place of a folder that was moved.
     pub fn snapshot(&self, mut piece: impl FnMut(&mut Parts, &mut [u8]) -> Result<usize, Error>) -> Result<(), JournalError> {
         let mut switch = lock(&self.keeper.switch);
+        self.keeper.folder.stood()?;
         lock(&self.keeper.writing).numbers.begin()?;
         switch.pause = Instant::now().checked_add(PAUSE);
         self.keeper.make_calls(&mut switch, Some(&mut piece))?;
@@ -361,11 +370,11 @@ impl Keeper {
                 None if is_closing => break,
                 None => {
                     is_quiet = true;
-                    lock(&self.writing).mark();
+                    lock(&self.writing).mark(&self.folder);
                 }
             }
         }
-        lock(&self.writing).mark();
+        lock(&self.writing).mark(&self.folder);
     }
 
     fn put_commit(&self, commit: &Commit) -> Result<(), JournalError> {
@@ -395,6 +404,13 @@ impl Keeper {
         let mut beside = None;
         loop {
             let (call, journal) = lock(&self.writing).numbers.due()?;
+            if let Err(why) = self.folder.stands() {
+                // (what is there now may be another one's)
+                let mut writing = lock(&self.writing);
+                writing.numbers.failed();
+                writing.next = None;
+                return Err(why);
+            }
             let name = journal_name(journal);
             let io = |name: &str, result: std::io::Result<()>| result.map_err(|why| JournalError::io(self.folder.path(name), why));
             let made = match (call, &mut piece) {
@@ -455,7 +471,7 @@ impl Keeper {
     fn answer(&self, call: u64, went_well: bool) -> Result<(), JournalError> {
         let mut writing = lock(&self.writing);
         if went_well && call == ffi::CALL_SYNC_FOLDER && writing.next.is_some() {
-            writing.mark(); // the journal is closed
+            writing.mark(&self.folder); // the journal is closed
         }
         let before = writing.numbers.newest();
         writing.numbers.answer(went_well)?;
@@ -472,23 +488,25 @@ impl Keeper {
 
 impl Writing {
     /// Ends the journal by a mark, by which damage before it is seen. (Nobody waits for it: where that fails, there is none.)
-    fn mark(&mut self) {
+    fn mark(&mut self, folder: &Folder) {
         if !self.is_marked && !self.numbers.has_ended() {
-            let _ = self.put_frame(b"");
+            let _ = self.put_frame(b"", folder);
         }
     }
 
     /// Takes a payload to the disk.
     fn put(&mut self, payload: &[u8], folder: &Folder) -> Result<(), JournalError> {
-        self.put_frame(payload).map_err(|why| match why {
+        self.put_frame(payload, folder).map_err(|why| match why {
             Fault::Of(why) => why,
             Fault::Io(why) => JournalError::io(folder.path(&journal_name(self.numbers.newest())), why),
         })
     }
 
-    fn put_frame(&mut self, payload: &[u8]) -> Result<(), Fault> {
+    fn put_frame(&mut self, payload: &[u8], folder: &Folder) -> Result<(), Fault> {
+        folder.stood().map_err(Fault::Of)?;
         let (at, mut frame) = (self.numbers.end(), std::mem::take(&mut self.frame));
-        let put = self.numbers.put(payload, &mut frame).map_err(Fault::Of).and_then(|len| self.write(&frame[..len.min(frame.len())], at));
+        let put =
+            self.numbers.put(payload, &mut frame).map_err(Fault::Of).and_then(|len| self.write(&frame[..len.min(frame.len())], at, folder));
         if frame.len() <= GROWTH.len() {
             self.frame = frame;
         }
@@ -498,7 +516,7 @@ impl Writing {
     }
 
     /// Writes a frame, and forces it to the disk.
-    fn write(&mut self, frame: &[u8], at: u64) -> Result<(), Fault> {
+    fn write(&mut self, frame: &[u8], at: u64, folder: &Folder) -> Result<(), Fault> {
         let file = match &self.file {
             Some(file) => file,
             None => return Err(Fault::Of(JournalError::Ended)),
@@ -516,6 +534,10 @@ impl Writing {
         if file.sync().is_err() {
             self.numbers.failed();
             return Err(Fault::Of(JournalError::Ended));
+        }
+        if let Err(why) = folder.stands() {
+            self.numbers.failed();
+            return Err(Fault::Of(why));
         }
         self.numbers.synced().map_err(Fault::Of)
     }

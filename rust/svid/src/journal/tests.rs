@@ -35,14 +35,13 @@ fn uses(validator: &mut Validator) -> usize {
 }
 
 /// A journal whose calls of the system can be let fail, and how.
-fn failing(room: &Room) -> (Journal, folder::Faults) {
-    let folder = Folder::hold(&room.0).expect("nobody has it");
-    let faults = folder.faults.clone();
-    (Journal::open_by(folder).expect("it is new"), faults)
+fn failing(room: &Room) -> (Journal, Faults) {
+    let faults = Faults::default();
+    (opened(&room.0, &faults).expect("it is new"), faults)
 }
 
-fn let_fail(faults: &folder::Faults, calls: &[&'static str]) {
-    faults.0.lock().unwrap().extend(calls);
+fn opened(path: &Path, faults: &Faults) -> Result<Journal, JournalError> {
+    Journal::open_by(Folder::hold(path, faults.clone())?)
 }
 
 #[test]
@@ -184,7 +183,7 @@ fn one_process_holds_a_folder() {
 fn a_write_that_fails_is_told_and_ends_nothing() {
     let room = Room::new("write");
     let (journal, faults) = failing(&room);
-    let_fail(&faults, &["write"]);
+    faults.let_fail(&["write"]);
     assert!(
         matches!(journal.append(&entry(1).message().unwrap(), WAIT), Err(JournalError::Io { file, .. }) if file == room.0.join("journal.1"))
     );
@@ -199,7 +198,7 @@ fn a_sync_that_fails_ends_all() {
     let room = Room::new("sync");
     let (journal, faults) = failing(&room);
     journal.append(&entry(1).message().unwrap(), WAIT).expect("the disk is well");
-    let_fail(&faults, &["sync"]);
+    faults.let_fail(&["sync"]);
     assert!(matches!(journal.append(&entry(2).message().unwrap(), WAIT), Err(JournalError::Ended)));
     assert!(matches!(journal.append(&entry(3).message().unwrap(), WAIT), Err(JournalError::Ended)));
     let mut validator = empty();
@@ -225,12 +224,12 @@ fn a_snapshot_that_fails_loses_nothing() {
         let mut calls = 0;
         let is_first = |it: &str| it == "write" || it == "sync";
         if !is_first(call) {
-            let_fail(&faults, &[call]);
+            faults.let_fail(&[call]);
         }
         let taken = journal.snapshot(|parts, out| {
             calls += 1;
             if is_first(call) {
-                let_fail(&faults, &[call]);
+                faults.let_fail(&[call]);
             }
             validator.piece(parts, out)
         });
@@ -321,4 +320,131 @@ fn messages_of_any_length() {
     });
     assert_eq!(counted, Ok(()));
     assert_eq!(found, MOST);
+}
+
+/// Ways in which the path of a folder comes to lead elsewhere.
+type Move = fn(&Path);
+const MOVES: [(&str, Move); 4] = [
+    ("removed", |path| fs::remove_dir_all(path).unwrap()),
+    ("moved", |path| fs::rename(path, path.with_extension("old")).unwrap()),
+    ("emptied", |path| fs::read_dir(path).unwrap().for_each(|it| fs::remove_file(it.unwrap().path()).unwrap())),
+    ("without its lock", |path| fs::remove_file(path.join("lock")).unwrap()),
+];
+
+/// The files of a folder with what is in them, but for the zeros by which a journal grows.
+fn files(path: &Path) -> Vec<(PathBuf, Vec<u8>)> {
+    let mut all: Vec<_> = fs::read_dir(path).unwrap().map(|it| it.unwrap().path()).map(|it| (it.clone(), fs::read(it).unwrap())).collect();
+    all.sort();
+    all
+}
+
+fn is_moved<T>(result: Result<T, JournalError>) -> bool {
+    matches!(result, Err(JournalError::Moved { .. }))
+}
+
+// Another process may have begun at the path, so nothing is told as kept, and its files stay as they are.
+#[test]
+fn a_folder_that_is_moved_keeps_nothing() {
+    for (how, moves) in MOVES {
+        for is_snapshot in [false, true] {
+            let room = Room::new("moved");
+            let path = room.0.join("state");
+            let mut journal = Journal::open(&path).unwrap();
+            let mut validator = loaded(&mut journal);
+            journal.append(&entry(1).message().unwrap(), WAIT).unwrap();
+            moves(&path);
+            let other = Journal::open(&path).unwrap_or_else(|why| panic!("{how}: {why}"));
+            other.append(&entry(2).message().unwrap(), WAIT).unwrap();
+            let before = files(&path);
+            let snapshot = |validator: &mut Validator| journal.snapshot(|parts, room| validator.piece(parts, room));
+            if is_snapshot {
+                assert!(is_moved(snapshot(&mut validator)), "{how}");
+            }
+            for number in 3..5 {
+                assert!(is_moved(journal.append(&entry(number).message().unwrap(), WAIT)), "{how}");
+            }
+            assert!(is_moved(snapshot(&mut validator)), "{how}");
+            let (now, first) = (files(&path), path.join("journal.1"));
+            // (without its lock it is the same folder, and the first journal is still that of the first process)
+            let is_own = |file: &Path| how == "without its lock" && file == first;
+            assert!(now.len() == before.len() && now.iter().zip(&before).all(|(a, b)| a == b || is_own(&a.0)), "{how}");
+            other.append(&entry(5).message().unwrap(), WAIT).unwrap();
+        }
+    }
+}
+
+// It stays so though the folder comes back: another process may have had its path meanwhile.
+#[test]
+fn a_folder_that_comes_back_keeps_nothing() {
+    let room = Room::new("back");
+    let (path, old) = (room.0.join("state"), room.0.join("old"));
+    let journal = Journal::open(&path).unwrap();
+    fs::rename(&path, &old).unwrap();
+    assert!(is_moved(journal.append(&entry(1).message().unwrap(), WAIT)));
+    fs::rename(&old, &path).unwrap();
+    let why = journal.append(&entry(1).message().unwrap(), WAIT).unwrap_err().to_string();
+    assert!(why.contains("put it back there, and start the service again"), "{why}");
+}
+
+/// A start of which a call fails, or by which the process is killed. It says whether that call came.
+fn fails(path: &Path, faults: &Faults, call: usize, is_killed: bool) -> bool {
+    faults.ends(Some((call, is_killed)));
+    let why = opened(path, faults).map(drop);
+    assert_eq!(why.is_err(), faults.has_ended(), "call {call}: {why:?}");
+    if !is_killed && matches!(&why, Err(why) if why.to_string().contains("remove this folder")) {
+        fs::remove_dir_all(path).unwrap(); // as someone does who reads that
+    }
+    let came = faults.has_ended();
+    faults.ends(None);
+    came
+}
+
+// A new folder keeps what is appended to it, whichever call of the starts before failed: its own name lasts, and that of the validator ID.
+#[test]
+fn a_new_folder_whose_first_starts_fail() {
+    for is_killed in [false, true] {
+        let (mut first, mut comes) = (0, true);
+        while comes {
+            first += 1;
+            let (mut second, mut next_comes) = (0, true);
+            while next_comes {
+                second += 1;
+                let (room, faults) = (Room::new("first"), Faults::default());
+                let (path, lost) = (room.0.join("state"), room.0.join("lost"));
+                comes = fails(&path, &faults, first, is_killed);
+                next_comes = fails(&path, &faults, second, false);
+                let journal = opened(&path, &faults).expect("the disk is well");
+                journal.append(&entry(1).message().unwrap(), WAIT).unwrap();
+                drop(journal);
+                faults.lost(&path, &lost);
+                let found = Journal::open(&lost).map(|mut journal| uses(&mut loaded(&mut journal)));
+                assert!(matches!(found, Ok(1)), "calls {first} ({is_killed}) and {second}: {found:?}");
+            }
+        }
+        assert!(first > 10, "{first}");
+    }
+}
+
+#[test]
+fn the_folder_above_is_synced_while_nothing_is_kept() {
+    let (room, faults) = (Room::new("above"), Faults::default());
+    let (made, found) = (room.0.join("made"), room.0.join("found"));
+    faults.let_fail(&["sync above"]);
+    assert!(matches!(opened(&made, &faults), Err(JournalError::Io { file, .. }) if file == made));
+    assert!(!made.exists());
+    fs::create_dir(&found).unwrap();
+    faults.let_fail(&["sync above"]);
+    assert!(matches!(opened(&found, &faults), Err(JournalError::NameMayNotLast { folder, .. }) if folder == found));
+    assert!(!found.join("place").exists());
+    // (another user may have made it, or it is mounted where nothing can be made)
+    for code in [13, 1, 22] {
+        faults.let_fail(&["sync above"]);
+        faults.fails_by(code);
+        drop(opened(&found, &faults).unwrap());
+        fs::remove_file(found.join("journal.1")).unwrap();
+    }
+    faults.fails_by(5);
+    drop(opened(&found, &faults).unwrap());
+    faults.let_fail(&["sync above"]);
+    drop(opened(&found, &faults).expect("it has a journal now"));
 }

@@ -9,7 +9,7 @@ returns-in_err-head c = rw c.from_residual.ensures (λ h. too_short h.0 (bytes_o
 
 pub returns-then-format-eq-FORMAT : goal.returns-then-format-eq-FORMAT
 returns-then-format-eq-FORMAT c =
-    no_other (bytes_of c.args.title.now) c.args.number c.stated_format-format.result c.in_ok-head.head.now c.args.bytes.now (front_is c.args.bytes.now c.in_ok-head.head.now _ c.in_ok-head.ensures.0 c.in_ok-head.ensures.1) c.stated_format-format.ensures
+    no_other (bytes_of c.args.title.now) c.args.number c.stated_format-format.result c.in_ok-head.head.now c.args.bytes.now (front_is c.args.bytes.now c.in_ok-head.head.now _ c.in_ok-head.ensures.0 c.in_ok-head.ensures.1) c.stated_format-format.ensures.each
     (λ other format. absurd (elim c.then-format-eq-FORMAT.branch [
       | then-format-eq-FORMAT-via-then-format-eq-FORMAT w ↦ other w.if-format-eq-FORMAT.true
       | then-format-eq-FORMAT-via-else-format-eq-FORMAT+then-format-eq0 w ↦ omega (arith, format.0, w.if-format-eq0.true)
@@ -18,4 +18,4 @@ returns-then-format-eq-FORMAT c =
 
 pub returns-in-None : goal.returns-in-None
 returns-in-None c =
-    no_other (bytes_of c.args.title.now) c.args.number c.stated_format-format.result c.in_ok-head.head.now c.args.bytes.now (front_is c.args.bytes.now c.in_ok-head.head.now _ c.in_ok-head.ensures.0 c.in_ok-head.ensures.1) c.stated_format-format.ensures (λ other format. c.in-None.ensures.none)
+    no_other (bytes_of c.args.title.now) c.args.number c.stated_format-format.result c.in_ok-head.head.now c.args.bytes.now (front_is c.args.bytes.now c.in_ok-head.head.now _ c.in_ok-head.ensures.0 c.in_ok-head.ensures.1) c.stated_format-format.ensures.each (λ other format. c.in-None.ensures.none)

@@ -31,7 +31,9 @@ public abstract sealed class Denied extends Exception permits Refusal, Denied.No
 
         NoToken(Status why) {
             super(why.label() + ": " + why.says(), 401,
-                    why == Status.BEARER_SPELLING ? "Bearer error=\"invalid_request\", error_description=\"NotBearer\"" : "Bearer");
+                    why == Status.BEARER_SEVERAL || why == Status.BEARER_SPELLING
+                            ? "Bearer error=\"invalid_request\", error_description=\"NotBearer\""
+                            : "Bearer realm=\"svid\"");
             this.why = why.label();
         }
 

@@ -132,8 +132,8 @@ public class PackageTest {
             assertEquals("200 hello spiffe://example.org/billing/api\n", asked(port, bearer));
             assertEquals("401 Bearer error=\"invalid_token\", error_description=\"Replayed\"", asked(port, bearer));
             assertEquals("401 Bearer error=\"invalid_request\", error_description=\"NotBearer\"", asked(port, "Bearer"));
-            assertEquals("401 Bearer", asked(port));
-            assertEquals("401 Bearer", asked(port, bearer, "Basic x"));
+            assertEquals("401 Bearer realm=\"svid\"", asked(port));
+            assertEquals("401 Bearer error=\"invalid_request\", error_description=\"NotBearer\"", asked(port, bearer, "Basic x"));
         } finally {
             for (Socket slow : slows) {
                 slow.close();

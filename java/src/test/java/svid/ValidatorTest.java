@@ -154,7 +154,7 @@ public class ValidatorTest {
             assertEquals(Refusal.Reason.REPLAYED, refused(() -> validator.admit(List.of(value))));
             for (List<String> values : new ArrayList<>(java.util.Arrays.asList(null, List.<String>of()))) {
                 Denied.NoToken none = assertThrows(Denied.NoToken.class, () -> validator.admit(values));
-                assertEquals("Absent 401 Bearer", none.why() + " " + none.status() + " " + none.challenge());
+                assertEquals("Absent 401 Bearer realm=\"svid\"", none.why() + " " + none.status() + " " + none.challenge());
             }
             Denied.NoToken spelling = assertThrows(Denied.NoToken.class, () -> validator.admit(List.of("Bearer")));
             assertEquals("Bearer error=\"invalid_request\", error_description=\"NotBearer\"", spelling.challenge());

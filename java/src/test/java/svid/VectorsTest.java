@@ -173,10 +173,11 @@ public class VectorsTest {
                 }
                 Denied denied = assertThrows(Denied.class, () -> validator.admit(values));
                 assertEquals(401, denied.status());
-                assertTrue(denied.challenge(), denied.challenge().equals("Bearer") || denied.challenge().startsWith("Bearer "));
+                assertTrue(denied.challenge(), denied.challenge().startsWith("Bearer "));
                 if (why != null) {
                     String said = denied instanceof Denied.NoToken none ? none.why() : ((Refusal) denied).reason().toString();
                     assertEquals(why, said);
+                    assertEquals(of(it, "challenge"), denied.challenge());
                 }
             }
         });

@@ -1,0 +1,9 @@
+pub mod AcceptsLemmas
+pub mod AloneLemmas
+pub mod CallsLemmas
+pub mod ExpiriesLemmas
+pub mod GroupsLemmas
+pub mod HistoriesLemmas
+pub mod OnceLemmas
+pub mod PutsLemmas
+pub mod RowsLemmas

@@ -1,0 +1,9 @@
+pub mod Alone
+pub mod Calls
+pub mod Expiries
+pub mod Groups
+pub mod Histories
+pub mod Once
+pub mod Outcomes
+pub mod Owners
+pub mod Times

@@ -1,0 +1,9 @@
+//! The test driver's calls on claims of tokens at a store.
+#![tactic(auto)]
+
+mod calls;
+mod claims;
+mod owners;
+mod times;
+
+pub use calls::call;

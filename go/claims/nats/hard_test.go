@@ -1,0 +1,685 @@
+package nats
+
+import (
+	"bytes"
+	"context"
+	"encoding/json"
+	"errors"
+	"fmt"
+	"os"
+	"path/filepath"
+	"strings"
+	"sync"
+	"testing"
+	"time"
+
+	client "github.com/nats-io/nats.go"
+
+	"svid.example/go/v2/claims"
+	"svid.example/go/v2/claims/claimstest"
+	"svid.example/go/v2/internal/logtest"
+	"svid.example/go/v2/internal/natstest"
+	"svid.example/go/v2/internal/patience"
+)
+
+// open opens a member's store, and closes it when the test ends.
+func open(t testing.TB, m *machine, o claimstest.Options) *Store {
+	t.Helper()
+	s := m.Store(t, o).(*Store)
+	t.Cleanup(func() { s.Close() })
+	claimstest.Open(t, s)
+	return s
+}
+
+// haveEnded wants all members, and one that starts later, to know one epoch, which is another than before and deaf to all that was claimed.
+func haveEnded(t *testing.T, m *machine, o claimstest.Options, before claims.State, members ...*Store) {
+	t.Helper()
+	var is claims.State
+	natstest.Await(t, "one other epoch", func() bool {
+		is = claimstest.State(t, members[0])
+		for _, one := range members[1:] {
+			if claimstest.State(t, one).Epoch != is.Epoch {
+				return false
+			}
+		}
+		return is.Epoch != before.Epoch
+	})
+	late := claimstest.State(t, open(t, m, o))
+	if is.Deaf < before.Time+o.Terms.Lasts || late.Epoch != is.Epoch || late.Deaf != is.Deaf {
+		t.Errorf("%+v, %+v later, and before %+v", is, late, before)
+	}
+}
+
+func one(owner int) claims.Claim {
+	return claims.Claim{Key: claimstest.Key(), Owner: claimstest.Own(owner), Expires: claimstest.Now() + 300}
+}
+
+func wantOwner(t *testing.T, f claims.Found, owner claims.Owner) {
+	t.Helper()
+	if f.Err != nil || f.Owner != owner {
+		t.Errorf("found %x %v, and not %x", f.Owner, f.Err, owner)
+	}
+}
+
+// A claim whose answer was lost finds its own entry, by itself.
+func TestALostAnswer(t *testing.T) {
+	t.Parallel()
+	m := newMachine(t)
+	proxy := logtest.NewProxy(t, m.Address())
+	o := claimstest.Options{Name: "lost", Terms: claimstest.Usual, Address: proxy.Address}
+	a := open(t, m, o)
+	o.Address = ""
+	b := open(t, m, o)
+	c := one(1)
+	copy(c.Owner[:], "the owner of the lost answer")
+	proxy.Lose(c.Owner[:])
+	wantOwner(t, claimstest.Put(t, a, c)[0], c.Owner)
+	if !proxy.HasLost() {
+		t.Error("nothing was lost")
+	}
+	other := c
+	other.Owner = claimstest.Own(2)
+	wantOwner(t, claimstest.Put(t, b, other)[0], c.Owner)
+	if is := claimstest.State(t, a); is.Deaf != 0 {
+		t.Errorf("%+v", is)
+	}
+}
+
+// Where no server is there, nothing is kept that would be sent later, when its request has had its answer.
+func TestNothingIsSentLater(t *testing.T) {
+	t.Parallel()
+	m := newMachine(t)
+	proxy := logtest.NewProxy(t, m.Address())
+	o := claimstest.Options{Name: "later", Terms: claimstest.Usual, Address: proxy.Address}
+	a := open(t, m, o)
+	o.Address = ""
+	b := open(t, m, o)
+	proxy.Shut(true)
+	natstest.Await(t, "the end of the connection", func() bool { return !a.conn.IsConnected() })
+	var these []claims.Claim
+	for i := 0; i < 100; i++ {
+		these = append(these, one(1))
+	}
+	outcomes := make([]outcome, len(these))
+	ctx, cancel := context.WithTimeout(context.Background(), 100*time.Millisecond)
+	all := make([]int, len(these))
+	for i := range all {
+		all[i] = i
+	}
+	a.put(ctx, a.known.Load(), these, outcomes, all) // (Put would wait for the server before that)
+	cancel()
+	for i := range outcomes {
+		if outcomes[i].isDone || outcomes[i].err == nil {
+			t.Fatalf("%+v", outcomes[i])
+		}
+	}
+	proxy.Shut(false)
+	wantOwner(t, claimstest.Put(t, a, one(1))[0], claimstest.Own(1)) // Whatever was kept has been sent before that.
+	for i := range these {
+		these[i].Owner = claimstest.Own(2)
+	}
+	for _, f := range claimstest.Put(t, b, these...) {
+		wantOwner(t, f, claimstest.Own(2))
+	}
+}
+
+// An answer that never comes holds up no other one, in its call and in later ones.
+func TestAnAnswerThatNeverComes(t *testing.T) {
+	t.Parallel()
+	m := newMachine(t)
+	a := open(t, m, claimstest.Options{Name: "never", Terms: claimstest.Usual})
+	nc, err := client.Connect(m.URL)
+	if err != nil {
+		t.Fatal(err)
+	}
+	defer nc.Close()
+	if _, err := nc.Subscribe("silent", func(*client.Msg) {}); err != nil {
+		t.Fatal(err)
+	}
+	nc.Flush()
+	const questions = 500
+	answered := make(chan int, questions)
+	ctx, cancel := context.WithCancel(context.Background())
+	ended := make(chan bool)
+	go func() {
+		a.each(ctx, questions, func(i int) question {
+			if i < mostUnderWay {
+				return question{"silent", nil, nil}
+			}
+			return a.ticking()
+		}, func(i int, m *client.Msg, err error) bool {
+			if err == nil {
+				answered <- i
+			}
+			return err != nil
+		})
+		close(ended)
+	}()
+	for i := mostUnderWay; i < questions; i++ {
+		select {
+		case <-answered:
+		case <-time.After(patience.Long):
+			t.Fatalf("%d questions are answered", i-mostUnderWay)
+		}
+	}
+	wantOwner(t, claimstest.Put(t, a, one(1))[0], claimstest.Own(1))
+	cancel()
+	<-ended
+	a.mu.Lock()
+	defer a.mu.Unlock()
+	if len(a.waiting) != 0 {
+		t.Errorf("%d wait for ever", len(a.waiting))
+	}
+}
+
+// A disk that is full takes no claim, and loses none.
+func TestAFullDisk(t *testing.T) {
+	t.Parallel()
+	m := newMachineWith(t, "jetstream { max_file_store: 200KB }")
+	o := claimstest.Options{Name: "full", Terms: claimstest.Usual}
+	a, b := open(t, m, o), open(t, m, o)
+	before := claimstest.State(t, a)
+	var mine []claims.Claim
+	for isFull := false; !isFull; {
+		these := make([]claims.Claim, 64)
+		for i := range these {
+			these[i] = one(1)
+		}
+		for i, f := range claimstest.Try(a, time.Second, these...) {
+			if f.Err == nil {
+				mine = append(mine, these[i])
+				wantOwner(t, f, claimstest.Own(1))
+			} else {
+				isFull = true
+			}
+		}
+		if len(mine) > 10_000 {
+			t.Fatal("the disk has no end")
+		}
+	}
+	if len(mine) < 500 {
+		t.Errorf("%d claims", len(mine))
+	}
+	m.Server.Kill()
+	m.setConfig(t, "jetstream { max_file_store: 200MB }")
+	m.Start(t)
+	for i := range mine {
+		mine[i].Owner = claimstest.Own(2)
+	}
+	for i := 0; i < len(mine); i += claims.MostClaims {
+		end := i + claims.MostClaims
+		if end > len(mine) {
+			end = len(mine)
+		}
+		for _, f := range claimstest.Put(t, b, mine[i:end]...) {
+			wantOwner(t, f, claimstest.Own(1))
+		}
+	}
+	if is := claimstest.State(t, b); is.Epoch != before.Epoch || is.Deaf != 0 {
+		t.Errorf("%+v, and before %+v", is, before)
+	}
+}
+
+// An administrator can't remove an entry as long as the stream is what it must be.
+func TestNobodyRemovesAnEntry(t *testing.T) {
+	t.Parallel()
+	m := newMachine(t)
+	o := claimstest.Options{Name: "stays", Terms: claimstest.Usual}
+	a := open(t, m, o)
+	c := one(1)
+	wantOwner(t, claimstest.Put(t, a, c)[0], c.Owner)
+	js := admin(t, m.URL)
+	if err := js.PurgeStream(a.stream(ofClaims), &client.StreamPurgeRequest{Subject: a.subjectOf(&c)}); err == nil {
+		t.Error("a purge")
+	}
+	if err := js.DeleteMsg(a.stream(ofClaims), 1); err == nil {
+		t.Error("a deletion")
+	}
+	again := client.NewMsg(a.subjectOf(&c))
+	again.Header.Set("Nats-Rollup", "sub")
+	if _, err := js.PublishMsg(again); err == nil {
+		t.Error("a roll-up")
+	}
+	for name, change := range map[string]func(*client.StreamConfig){
+		"deny_purge": func(c *client.StreamConfig) { c.DenyPurge = false }, "deny_delete": func(c *client.StreamConfig) { c.DenyDelete = false },
+	} {
+		i, err := js.StreamInfo(a.stream(ofClaims))
+		if err != nil {
+			t.Fatal(err)
+		}
+		change(&i.Config)
+		if _, err := js.UpdateStream(&i.Config); err == nil {
+			t.Errorf("without %s", name)
+		}
+	}
+	if is := claimstest.State(t, a); is.Deaf != 0 {
+		t.Errorf("%+v", is)
+	}
+}
+
+// Settings by which the stream lost entries end the epoch, and nothing is answered until they are put right.
+func TestSettingsThatLose(t *testing.T) {
+	t.Parallel()
+	m := newMachine(t)
+	o := claimstest.Options{Name: "settings", Terms: claimstest.Usual}
+	a, b := open(t, m, o), open(t, m, o)
+	before := claimstest.State(t, a)
+	claimstest.Put(t, a, one(1))
+	js := admin(t, m.URL)
+	i, err := js.StreamInfo(a.stream(ofClaims))
+	if err != nil {
+		t.Fatal(err)
+	}
+	due := i.Config.MaxAge
+	i.Config.MaxAge = time.Second
+	i.Config.Duplicates = 0
+	if _, err := js.UpdateStream(&i.Config); err != nil {
+		t.Fatal(err)
+	}
+	var unfit *claims.Unfit
+	if _, err := a.State(patient(t)); !errors.As(err, &unfit) || !strings.Contains(unfit.Why, "max_age is 1000000000 and must be 0 or at least") {
+		t.Errorf("%v", err)
+	}
+	for _, f := range claimstest.Try(a, patience.Long, one(1)) {
+		if f.Err == nil {
+			t.Errorf("%+v", f)
+		}
+	}
+	if _, err := m.Store(t, o).Open(patient(t)); !errors.As(err, &unfit) {
+		t.Errorf("a member that starts: %v", err)
+	}
+	i.Config.MaxAge = due
+	if _, err := js.UpdateStream(&i.Config); err != nil {
+		t.Fatal(err)
+	}
+	haveEnded(t, m, o, before, a, b)
+	wantOwner(t, claimstest.Put(t, b, one(3))[0], claimstest.Own(3))
+}
+
+// Each setting by which a stream may lose claims, or can't be written, is named, with what it must be.
+func TestUnfitStreams(t *testing.T) {
+	t.Parallel()
+	m := newMachine(t)
+	js := admin(t, m.URL)
+	for n, unfit := range []struct {
+		change func(*client.StreamConfig)
+		why    string
+	}{
+		{func(c *client.StreamConfig) { c.Storage = client.MemoryStorage }, `storage is "memory" and must be "file"`},
+		{func(c *client.StreamConfig) { c.MaxMsgs = 1000 }, "max_msgs is 1000 and must be -1"},
+		{func(c *client.StreamConfig) { c.MaxBytes = 1 << 20 }, "max_bytes is 1048576 and must be -1"},
+		{func(c *client.StreamConfig) { c.Discard, c.DiscardNewPerSubject = client.DiscardOld, false }, `discard is "old" and must be "new"`},
+		{func(c *client.StreamConfig) { c.DiscardNewPerSubject = false }, "discard_new_per_subject is missing and must be true"},
+		{func(c *client.StreamConfig) { c.MaxMsgsPerSubject = 2 }, "max_msgs_per_subject is 2 and must be 1"},
+		{func(c *client.StreamConfig) { c.MaxAge = time.Hour }, "max_age is 3600000000000 and must be 0 or at least 7380000000000 (2h3m0s)"},
+		{func(c *client.StreamConfig) { c.DenyDelete = false }, "deny_delete is false and must be true"},
+		{func(c *client.StreamConfig) { c.DenyPurge = false }, "deny_purge is false and must be true"},
+		{func(c *client.StreamConfig) { c.DenyPurge, c.AllowRollup = false, true }, "allow_rollup_hdrs is true and must be left out"},
+		{func(c *client.StreamConfig) { c.MaxMsgSize = 31 }, "max_msg_size is 31 and must be -1 or at least 64"},
+		{func(c *client.StreamConfig) { c.Retention = client.WorkQueuePolicy }, `retention is "workqueue" and must be "limits"`},
+		{func(c *client.StreamConfig) { c.NoAck = true }, "no_ack is true and must be left out"},
+	} {
+		name := fmt.Sprint("unfit", n)
+		s := m.Store(t, claimstest.Options{Name: name, Terms: claimstest.Usual}).(*Store)
+		c := &client.StreamConfig{Name: s.stream(ofClaims), Subjects: []string{s.base + "c.*"}, Storage: client.FileStorage, MaxMsgsPerSubject: 1,
+			Discard: client.DiscardNew, DiscardNewPerSubject: true, MaxAge: age(claimstest.Usual), DenyDelete: true, DenyPurge: true, MaxMsgSize: 64}
+		unfit.change(c)
+		if _, err := js.AddStream(c); err != nil {
+			t.Errorf("%s: %v", unfit.why, err)
+			continue
+		}
+		var is *claims.Unfit
+		if _, err := s.Open(patient(t)); !errors.As(err, &is) || !strings.Contains(is.Why, unfit.why) {
+			t.Errorf("%v, and not %s", err, unfit.why)
+		}
+		s.Close()
+	}
+}
+
+// A stream that is removed and made anew, also at once and by hand, ends the epoch.
+func TestAStreamIsMadeAnew(t *testing.T) {
+	t.Parallel()
+	m := newMachine(t)
+	for _, k := range []kind{ofClaims, ofWithdrawals, ofEpochs, ofClock} {
+		for _, isByHand := range []bool{false, true} {
+			o := claimstest.Options{Name: fmt.Sprintf("anew-%d-%v", k, isByHand), Terms: claimstest.Usual}
+			a, b := open(t, m, o), open(t, m, o)
+			before := claimstest.State(t, a)
+			c := one(1)
+			wantOwner(t, claimstest.Put(t, a, c)[0], c.Owner)
+			if _, err := b.Withdraw(patient(t), claims.Withdrawal{Key: claimstest.Key(), Expires: claimstest.Now() + 300}); err != nil {
+				t.Fatal(err)
+			}
+			js := admin(t, m.URL)
+			i, err := js.StreamInfo(a.stream(k))
+			if err != nil {
+				t.Fatal(err)
+			}
+			if err := js.DeleteStream(a.stream(k)); err != nil {
+				t.Fatal(err)
+			}
+			if isByHand {
+				if _, err := js.AddStream(&i.Config); err != nil {
+					t.Fatal(err)
+				}
+			}
+			c.Owner = claimstest.Own(2)
+			f := claimstest.Put(t, a, c)[0]
+			if f.Owner == claimstest.Own(2) && f.Deaf < c.Expires {
+				t.Errorf("%d: %+v", k, f)
+			}
+			if k == ofClock && isByHand {
+				continue // (the clock keeps nothing)
+			}
+			haveEnded(t, m, o, before, a, b)
+		}
+	}
+}
+
+// A server that lost the last claims with its power, or all, ends the epoch before anybody accepts one of them.
+func TestALostTail(t *testing.T) {
+	t.Parallel()
+	for name, lose := range map[string]func(t *testing.T, folder, kept string){
+		"the last ones": func(t *testing.T, folder, kept string) {
+			os.RemoveAll(folder)
+			copied(t, kept, folder)
+		},
+		"all": func(t *testing.T, folder, _ string) {
+			blocks, _ := filepath.Glob(filepath.Join(folder, "msgs", "*"))
+			for _, file := range blocks {
+				os.Remove(file)
+			}
+		},
+	} {
+		lose := lose
+		t.Run(name, func(t *testing.T) {
+			t.Parallel()
+			m := newMachine(t)
+			o := claimstest.Options{Name: "tail", Terms: claimstest.Usual}
+			proxy := logtest.NewProxy(t, m.Address())
+			o.Address = proxy.Address
+			a := open(t, m, o)
+			o.Address = ""
+			b := open(t, m, o)
+			before := claimstest.State(t, a)
+			for i := 0; i < 10; i++ {
+				claimstest.Put(t, b, one(5))
+			}
+			folder := filepath.Join(m.dir, "jetstream", "$G", "streams", a.stream(ofClaims))
+			kept := filepath.Join(t.TempDir(), "kept")
+			m.Server.Stop()
+			copied(t, folder, kept)
+			m.Start(t)
+			c := one(1)
+			wantOwner(t, claimstest.Put(t, a, c)[0], c.Owner)
+			proxy.Shut(true)
+			m.Server.Kill()
+			lose(t, folder, kept)
+			m.Start(t)
+			natstest.Await(t, "the other member to be connected", b.conn.IsConnected)
+			proxy.Shut(false) // The one that misses its claim comes back a little later.
+			c.Owner = claimstest.Own(2)
+			if f := claimstest.Put(t, b, c)[0]; claimstest.Judge(c, f, 60) == claimstest.Mine {
+				t.Errorf("accepted twice: %+v", f)
+			}
+			haveEnded(t, m, o, before, a, b)
+		})
+	}
+}
+
+// What a member writes that lies ends an epoch at most; it hides no loss, and nobody reads more than an entry has.
+func TestLies(t *testing.T) {
+	t.Parallel()
+	m := newMachine(t)
+	o := claimstest.Options{Name: "lies", Terms: claimstest.Usual}
+	a, b := open(t, m, o), open(t, m, o)
+	before := claimstest.State(t, a)
+	js := admin(t, m.URL)
+	say := func(subject string, data []byte) {
+		t.Helper()
+		if _, err := js.Publish(a.base+subject, data); err != nil {
+			t.Fatalf("%s: %v", subject, err)
+		}
+	}
+	// The time of an entry is the server's, whatever its header says.
+	forged := one(7)
+	entry := client.NewMsg(a.subjectOf(&forged))
+	entry.Data = []byte("a")
+	entry.Header["Nats-Time-Stamp"] = []string{"2001-01-01T00:00:00Z"}
+	if _, err := js.PublishMsg(entry); err != nil {
+		t.Fatal(err)
+	}
+	var due claims.Owner
+	due[0] = 'a'
+	f := claimstest.Put(t, a, forged)[0]
+	if wantOwner(t, f, due); f.Time < before.Time {
+		t.Errorf("%+v", f)
+	}
+	// A withdrawal that is none, and a tick of anybody.
+	say("w.x.y", nil)
+	say("w."+keyText(forged.Key)+".99999999999999999999999", nil)
+	for _, far := range []uint64{before.Time + claimstest.Usual.Lasts + claimstest.Usual.Back + 60, 1 << 62, 1<<64 - 1} {
+		say("w."+keyText(forged.Key)+"."+number(far), nil) // (nobody would ever forget it)
+	}
+	say("t", []byte("any"))
+	if these, _ := claimstest.Withdrawals(t, b, ""); len(these) != 0 {
+		t.Errorf("%v", these)
+	}
+	// Records that follow none that counts.
+	say("e.none", []byte("any"))
+	say("e."+strings.Repeat("0", 32), bytes.Repeat([]byte("x"), 1000))
+	if x, y := claimstest.State(t, a), claimstest.State(t, b); x.Epoch != before.Epoch || y.Epoch != before.Epoch || x.Deaf != 0 {
+		t.Errorf("%+v %+v, and before %+v", x, y, before)
+	}
+	// One that is no record, in the place of the next one.
+	say("e."+a.known.Load().Link, []byte("any"))
+	if f := claimstest.Try(b, patience.Long, one(3))[0]; !errors.Is(f.Err, claims.ErrEpoch) {
+		t.Errorf("%+v", f)
+	}
+	if f := claimstest.Put(t, a, one(3))[0]; f.Deaf < before.Time+o.Terms.Lasts {
+		t.Errorf("%+v", f)
+	}
+	haveEnded(t, m, o, before, a, b)
+	// One that would take the store's deafness and its terms away.
+	deaf := claimstest.State(t, a).Deaf
+	for _, r := range []record{{Deaf: 0}, {Deaf: deaf - 1, Lasts: 1, Margin: 1}} {
+		k := a.known.Load()
+		r.Link, _ = newLink()
+		r.Epoch, r.Claims, r.Withdrawals, r.Run = k.Epoch, k.Claims, k.Withdrawals, k.Run
+		data, err := json.Marshal(r)
+		if err != nil {
+			t.Fatal(err)
+		}
+		say("e."+k.Link, data)
+		for _, s := range []*Store{a, b} {
+			natstest.Await(t, "the record", func() bool { claimstest.State(t, s); return s.known.Load().position > k.position })
+			is := s.known.Load()
+			if is.Deaf != deaf || is.Lasts != k.Lasts || is.Margin != k.Margin {
+				t.Errorf("%+v, and before %+v", is.record, k.record)
+			}
+		}
+	}
+}
+
+// An entry stays until the margin has passed behind its token's expiry, and then it goes.
+func TestEntriesStay(t *testing.T) {
+	t.Parallel()
+	m := newMachine(t)
+	o := claimstest.Options{Name: "stay", Terms: claims.Terms{Lasts: 2, Margin: 2, Back: 1}}
+	a, b := open(t, m, o), open(t, m, o)
+	first := claims.Claim{Key: claimstest.Key(), Owner: claimstest.Own(1), Expires: claimstest.State(t, a).Time + 2}
+	wantOwner(t, claimstest.Put(t, a, first)[0], first.Owner)
+	second := first
+	second.Owner = claimstest.Own(2)
+	var f claims.Found
+	natstest.Await(t, "the entry to go", func() bool {
+		f = claimstest.Put(t, b, second)[0]
+		return f.Owner == second.Owner
+	})
+	if f.Time < first.Expires+o.Terms.Margin {
+		t.Errorf("it went at %d, and expired at %d", f.Time, first.Expires)
+	}
+	natstest.Await(t, "time to pass with the streams empty", func() bool { return claimstest.State(t, a).Time > f.Time+6 })
+	if is := claimstest.State(t, b); is.Deaf != 0 {
+		t.Errorf("%+v", is)
+	}
+}
+
+// A stream that was made anew while no member ran ends the epoch too, as long as its record is there.
+func TestAStreamIsMadeAnewWhileNobodyRuns(t *testing.T) {
+	t.Parallel()
+	m := newMachine(t)
+	for _, k := range []kind{ofClaims, ofWithdrawals, ofEpochs} {
+		o := claimstest.Options{Name: fmt.Sprint("nobody-", k), Terms: claimstest.Usual}
+		a := open(t, m, o)
+		claimstest.Put(t, a, one(1))
+		before := claimstest.State(t, a)
+		a.Close()
+		if err := admin(t, m.URL).DeleteStream(a.stream(k)); err != nil {
+			t.Fatal(err)
+		}
+		for i := 0; i < 2; i++ {
+			if is := claimstest.State(t, open(t, m, o)); is.Epoch == before.Epoch || is.Deaf < before.Time+o.Terms.Lasts {
+				t.Errorf("%+v, and before %+v", is, before)
+			}
+		}
+	}
+}
+
+// A token that lives for longer than the terms say has no answer, and nothing is stored of it: an entry that was put too early would leave
+// too early.
+func TestATokenThatLivesTooLong(t *testing.T) {
+	t.Parallel()
+	m := newMachine(t)
+	o := claimstest.Options{Name: "long", Terms: claimstest.Usual}
+	a, b := open(t, m, o), open(t, m, o)
+	c := one(1)
+	c.Expires = claimstest.State(t, a).Time + o.Terms.Lasts + 60
+	fine := one(1)
+	found := claimstest.Try(a, patience.Long, c, fine)
+	if found[0].Err == nil || !strings.Contains(found[0].Err.Error(), "lives for longer than 7200 s past the store's time") {
+		t.Errorf("%+v", found[0])
+	}
+	wantOwner(t, found[1], fine.Owner)
+	c.Owner, c.Expires = claimstest.Own(2), claimstest.Now()+300
+	wantOwner(t, claimstest.Put(t, b, c)[0], c.Owner)
+}
+
+// What the server says of a message counts, and not what the message says.
+func TestWhatAMessageSaysOfItself(t *testing.T) {
+	t.Parallel()
+	ack := &client.Msg{Data: []byte(`{"stream":"KV_x-claims", "seq":7}`)}
+	if position, err := acknowledged(ack, "KV_x-claims"); position != 7 || err != nil {
+		t.Error(position, err)
+	}
+	for _, text := range []string{``, `{}`, `{"stream":"KV_y-claims","seq":7}`, `{"stream":"KV_x-claims", "seq":0}`, `{"stream":"KV_x-claims", "seq":-7}`, `[`} {
+		if position, err := acknowledged(&client.Msg{Data: []byte(text)}, "KV_x-claims"); err == nil {
+			t.Errorf("%s: %d", text, position)
+		}
+	}
+	ack.Reply = "$JS.ACK.KV_x-claims.c.1.7.7.1700000000000000000.0" // a stored message, delivered in the place of the answer
+	if position, err := acknowledged(ack, "KV_x-claims"); err == nil {
+		t.Error(position)
+	}
+	is, err := got(&client.Msg{Data: []byte("owner"), Header: client.Header{"Nats-Subject": {"forged", "a"}, "Nats-Sequence": {"1", "2"},
+		"Nats-Time-Stamp": {"2001-01-01T00:00:00Z", "2026-01-01T00:00:00Z"}}})
+	if err != nil || is.Subject != "a" || is.Position != 2 || is.Time.Year() != 2026 {
+		t.Errorf("%+v %v", is, err)
+	}
+}
+
+// What no server will ever do is said at once.
+func TestAStreamThatCantBeMade(t *testing.T) {
+	t.Parallel()
+	m := newMachine(t)
+	if _, err := admin(t, m.URL).AddStream(&client.StreamConfig{Name: "other", Subjects: []string{"$KV.overlap-claims.>"}}); err != nil {
+		t.Fatal(err)
+	}
+	for _, o := range []Options{{Name: "overlap"}, {Name: "several", Replicas: 3}} {
+		o.Servers, o.Terms = []string{m.URL}, claimstest.Usual
+		s := newStore(t, o)
+		var unfit *claims.Unfit
+		if _, err := s.Open(patient(t)); !errors.As(err, &unfit) {
+			t.Errorf("%s: %v", o.Name, err)
+		}
+		s.Close()
+	}
+	for _, o := range []Options{{}, {Name: "a.b", Servers: []string{m.URL}}, {Name: "a"}} {
+		if _, err := New(o); err == nil {
+			t.Errorf("%+v", o)
+		}
+	}
+}
+
+// A member hears at once of a store that another one has made in the place of the one that it knows, and ends its epoch.
+func TestAMemberHearsOfAnotherStore(t *testing.T) {
+	t.Parallel()
+	m := newMachine(t)
+	o := claimstest.Options{Name: "heard", Terms: claimstest.Usual}
+	a := m.Store(t, o).(*Store)
+	a.every = time.Hour
+	t.Cleanup(func() { a.Close() })
+	claimstest.Open(t, a)
+	before := claimstest.State(t, a)
+	claimstest.Put(t, a, one(1))
+	claimstest.Watch(t, a)
+	m.Empty(t, o.Name)
+	late := open(t, m, o)
+	if is := claimstest.State(t, late); is.Epoch == before.Epoch || is.Deaf < before.Time+o.Terms.Lasts {
+		t.Errorf("%+v, and before %+v", is, before)
+	}
+	natstest.Await(t, "one epoch", func() bool { return claimstest.State(t, a).Epoch == claimstest.State(t, late).Epoch })
+}
+
+// A member that was sent more than its client keeps reads what it has missed in the stream: an epoch that ended meanwhile counts.
+func TestMoreIsToldThanTheClientKeeps(t *testing.T) {
+	t.Parallel()
+	m := newMachine(t)
+	o := claimstest.Options{Name: "flood", Terms: claimstest.Usual}
+	a := open(t, m, o)
+	before := claimstest.State(t, a)
+	js := admin(t, m.URL)
+	if err := a.told.SetPendingLimits(1, 1<<20); err != nil {
+		t.Fatal(err)
+	}
+	say := func(subject string) {
+		t.Helper()
+		if _, err := js.Publish(a.base+"e."+subject, []byte("any")); err != nil {
+			t.Fatalf("%s: %v", subject, err)
+		}
+	}
+	k := a.known.Load()
+	for i := 0; i < 5; i++ {
+		say(fmt.Sprint("none", i))
+	}
+	natstest.Await(t, "lost messages", func() bool { n, err := a.told.Dropped(); return err == nil && n > 0 })
+	say(k.Link) // This ends the epoch.
+	is, err := a.current(context.Background(), false)
+	if err != nil || is.Epoch == before.Epoch || is.Deaf < before.Time+claimstest.Usual.Lasts {
+		t.Errorf("%v: %+v", err, is)
+	}
+}
+
+// Members that make a store at once all open it, though the server says to one that its subjects overlap with those of another one's stream.
+func TestMembersThatMakeAStoreAtOnce(t *testing.T) {
+	t.Parallel()
+	m := newMachine(t)
+	ctx, cancel := context.WithTimeout(context.Background(), patience.Long)
+	defer cancel()
+	var all sync.WaitGroup
+	for i := 0; i < 4*20; i++ {
+		store, err := New(Options{Servers: []string{m.URL}, Name: fmt.Sprint("group", i/4), Terms: claimstest.Usual})
+		if err != nil {
+			t.Fatal(err)
+		}
+		t.Cleanup(func() { store.Close() })
+		all.Add(1)
+		go func() {
+			defer all.Done()
+			if _, err := store.Open(ctx); err != nil {
+				t.Error(err)
+			}
+		}()
+	}
+	all.Wait()
+}

@@ -1,0 +1,195 @@
+package nats
+
+import (
+	"context"
+	"fmt"
+	"os"
+	"os/exec"
+	"path/filepath"
+	"strings"
+	"syscall"
+	"testing"
+	"time"
+
+	client "github.com/nats-io/nats.go"
+
+	"svid.example/go/v2/claims"
+	"svid.example/go/v2/claims/claimstest"
+	"svid.example/go/v2/internal/broker"
+	"svid.example/go/v2/internal/natstest"
+	"svid.example/go/v2/internal/patience"
+	"svid.example/go/v2/svid"
+)
+
+func TestMain(m *testing.M) {
+	waitNew, lookEvery = 2*time.Second, 0
+	os.Exit(m.Run())
+}
+
+// A machine is a server of NATS that the suite uses.
+type machine struct {
+	*broker.Server
+	dir string
+}
+
+func newMachine(t testing.TB) *machine { return newMachineWith(t, "") }
+
+// newMachineWith starts a server with more lines in its configuration.
+func newMachineWith(t testing.TB, config string) *machine {
+	t.Helper()
+	dir := t.TempDir()
+	server, err := broker.New(dir, "-c", filepath.Join(dir, "nats.conf"))
+	if err != nil {
+		t.Fatal(err)
+	}
+	m := &machine{Server: server, dir: dir}
+	m.setConfig(t, config)
+	t.Cleanup(server.Kill)
+	m.Start(t)
+	return m
+}
+
+func (m *machine) setConfig(t testing.TB, config string) {
+	t.Helper()
+	if err := os.WriteFile(filepath.Join(m.dir, "nats.conf"), []byte(config+"\n"), 0o600); err != nil {
+		t.Fatal(err)
+	}
+}
+
+func (m *machine) Address() string { return strings.TrimPrefix(m.URL, "nats://") }
+
+func (m *machine) Start(t testing.TB) {
+	t.Helper()
+	if m.Pid() == 0 {
+		if err := m.Server.Start(); err != nil {
+			t.Fatal(err)
+		}
+	}
+	natstest.Await(t, "JetStream", m.Answers)
+}
+
+func (m *machine) Kill(testing.TB) { m.Server.Kill() }
+func (m *machine) Stop(testing.TB) { m.Server.Stop() }
+
+func (m *machine) Pause(t testing.TB) {
+	t.Helper()
+	syscall.Kill(m.Pid(), syscall.SIGSTOP)
+	natstest.Await(t, "the server to stop", func() bool {
+		threads, _ := filepath.Glob(fmt.Sprintf("/proc/%d/task/*/stat", m.Pid()))
+		for _, file := range threads {
+			text, _ := os.ReadFile(file)
+			if _, rest, _ := strings.Cut(string(text), ") "); !strings.HasPrefix(rest, "T") {
+				return false
+			}
+		}
+		return len(threads) > 0
+	})
+}
+
+func (m *machine) Resume(testing.TB) { syscall.Kill(m.Pid(), syscall.SIGCONT) }
+
+func (m *machine) Copy(t testing.TB) (restore func()) {
+	t.Helper()
+	kept := filepath.Join(t.TempDir(), "kept")
+	m.Server.Stop()
+	copied(t, m.dir, kept)
+	m.Start(t)
+	return func() {
+		m.Server.Kill()
+		if err := os.RemoveAll(filepath.Join(m.dir, "jetstream")); err != nil {
+			t.Fatal(err)
+		}
+		copied(t, filepath.Join(kept, "jetstream"), filepath.Join(m.dir, "jetstream"))
+		m.Start(t)
+	}
+}
+
+func copied(t testing.TB, from, to string) {
+	t.Helper()
+	if text, err := exec.Command("cp", "-a", from, to).CombinedOutput(); err != nil {
+		t.Fatalf("cp: %v: %s", err, text)
+	}
+}
+
+func (m *machine) Store(t testing.TB, o claimstest.Options) claims.Store {
+	t.Helper()
+	url := m.URL
+	if o.Address != "" {
+		url = "nats://" + o.Address
+	}
+	return newStore(t, Options{Servers: []string{url}, Name: o.Name, Terms: o.Terms})
+}
+
+func newStore(t testing.TB, o Options) *Store {
+	t.Helper()
+	o.Log = func(event string, fields ...any) {
+		if testing.Verbose() && os.Getenv("SVID_TEST_LOG") != "" {
+			fmt.Fprintln(os.Stderr, append([]any{time.Now().Format("05.000"), t.Name(), event}, fields...)...)
+		}
+	}
+	s, err := New(o)
+	if err != nil {
+		t.Fatal(err)
+	}
+	return s
+}
+
+// adminAt does what an administrator can.
+func adminAt(url string) (js client.JetStreamContext, done func(), err error) {
+	nc, err := client.Connect(url)
+	if err != nil {
+		return nil, nil, err
+	}
+	if js, err = nc.JetStream(client.MaxWait(5 * time.Second)); err != nil {
+		nc.Close()
+	}
+	return js, nc.Close, err
+}
+
+func admin(t testing.TB, url string) client.JetStreamContext {
+	t.Helper()
+	js, done, err := adminAt(url)
+	if err != nil {
+		t.Fatal(err)
+	}
+	t.Cleanup(done)
+	return js
+}
+
+func (m *machine) Empty(t testing.TB, name string) {
+	t.Helper()
+	js := admin(t, m.URL)
+	for _, ending := range endings {
+		if err := js.DeleteStream("KV_" + name + "-claims" + ending); err != nil {
+			t.Fatal(err)
+		}
+	}
+}
+
+// Lie puts what the stream takes of an entry.
+func (m *machine) Lie(t testing.TB, name string, key svid.TokenKey, entry []byte) {
+	t.Helper()
+	js := admin(t, m.URL)
+	subject := "$KV." + name + "-claims.c." + keyText(key)
+	if len(entry) > int(most[ofClaims]) {
+		if _, err := js.Publish(subject, entry); err == nil {
+			t.Fatalf("an entry of %d bytes was taken", len(entry))
+		}
+		entry = entry[:most[ofClaims]]
+	}
+	if _, err := js.Publish(subject, entry); err != nil {
+		t.Fatal(err)
+	}
+}
+
+// (An entry leaves by its age: TestEntriesStay has that.)
+func TestSuite(t *testing.T) {
+	t.Parallel()
+	claimstest.Run(t, newMachine(t), "Expiry")
+}
+
+func patient(t testing.TB) context.Context {
+	ctx, cancel := context.WithTimeout(context.Background(), patience.Long)
+	t.Cleanup(cancel)
+	return ctx
+}

@@ -1,0 +1,55 @@
+package postgres
+
+import (
+	"database/sql"
+	"testing"
+	"time"
+
+	"github.com/lib/pq"
+
+	"svid.example/go/v2/claims"
+	"svid.example/go/v2/claims/claimstest"
+)
+
+// A member that claims a token and does not commit that holds up nobody who claims another one, also in a call that has both.
+func TestAClaimThatIsNotCommitted(t *testing.T) {
+	t.Parallel()
+	s := start(t)
+	a := open(t, Options{URLs: []string{s.URL}, Name: "svid"})
+	held := claim(1)
+	connect, err := pq.NewConnector(s.URL)
+	if err != nil {
+		t.Fatal(err)
+	}
+	liar := sql.OpenDB(connect)
+	defer liar.Close()
+	begun, err := liar.Begin()
+	if err != nil {
+		t.Fatal(err)
+	}
+	defer begun.Rollback()
+	if _, err := begun.Exec(`SELECT svid.put($1::bytea, $2::bytea, $3::bigint)`, held.Key[:], held.Owner[:], int64(held.Expires)); err != nil {
+		t.Fatal(err)
+	}
+	these := []claims.Claim{held}
+	for i := 0; i < 255; i++ {
+		these = append(these, claim(2))
+	}
+	from := time.Now()
+	found := claimstest.Try(a, 4*time.Second, these...)
+	t.Log(time.Since(from))
+	if found[0].Err == nil {
+		t.Errorf("%+v", found[0])
+	}
+	failed := 0
+	for _, f := range found[1:] {
+		if f.Err != nil {
+			failed++
+		}
+	}
+	if failed > 0 {
+		t.Errorf("%d of %d others fail: %v", failed, len(found)-1, found[1].Err)
+	}
+	begun.Rollback()
+	mine(t, a, held)
+}

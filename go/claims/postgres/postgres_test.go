@@ -1,0 +1,140 @@
+package postgres
+
+import (
+	"os"
+	"os/exec"
+	"strings"
+	"testing"
+	"time"
+
+	"svid.example/go/v2/claims"
+	"svid.example/go/v2/claims/claimstest"
+	"svid.example/go/v2/internal/broker"
+)
+
+// A machine is a server of PostgreSQL of a test.
+type machine struct{ *broker.Postgres }
+
+// start starts a server, which ends with the test.
+func start(t testing.TB, more ...string) *machine {
+	t.Helper()
+	dir, err := broker.Folder()
+	if err != nil {
+		t.Fatal(err)
+	}
+	t.Cleanup(func() { os.RemoveAll(dir) })
+	return startIn(t, dir, more...)
+}
+
+func startIn(t testing.TB, dir string, more ...string) *machine {
+	t.Helper()
+	p, err := broker.NewPostgres(dir, more...)
+	if err != nil {
+		t.Fatal(err)
+	}
+	t.Cleanup(p.Kill)
+	s := &machine{p}
+	s.start(t)
+	return s
+}
+
+func (s *machine) start(t testing.TB) {
+	t.Helper()
+	if err := s.Postgres.Start(); err != nil {
+		t.Fatal(err)
+	}
+}
+
+func (s *machine) do(t testing.TB, query string, values ...any) {
+	t.Helper()
+	if err := s.Do(query, values...); err != nil {
+		t.Fatal(query, err)
+	}
+}
+
+// suite is a machine as the suite has it.
+type suite struct{ *machine }
+
+func (s *suite) Store(t testing.TB, o claimstest.Options) claims.Store {
+	t.Helper()
+	address := s.URL
+	if o.Address != "" {
+		address = strings.Replace(address, s.Postgres.Address, o.Address, 1)
+	}
+	return newStore(t, Options{URLs: []string{address}, Name: o.Name, Terms: o.Terms})
+}
+
+func newStore(t testing.TB, o Options) *Store {
+	t.Helper()
+	if o.Name == "" {
+		o.Name = "svid"
+	}
+	if o.Terms == (claims.Terms{}) {
+		o.Terms = claimstest.Usual
+	}
+	store, err := New(o)
+	if err != nil {
+		t.Fatal(err)
+	}
+	t.Cleanup(func() { store.Close() })
+	return store
+}
+
+func (s *suite) Address() string    { return s.Postgres.Address }
+func (s *suite) Start(t testing.TB) { s.start(t) }
+func (s *suite) Kill(testing.TB)    { s.Postgres.Kill() }
+func (s *suite) Stop(testing.TB)    { s.Postgres.Stop() }
+func (s *suite) Pause(testing.TB)   { s.Postgres.Pause() }
+func (s *suite) Resume(testing.TB)  { s.Postgres.Resume() }
+
+func (s *suite) Copy(t testing.TB) func() {
+	t.Helper()
+	kept := t.TempDir()
+	s.Postgres.Stop()
+	copyAll(t, s.Dir, kept)
+	s.start(t)
+	return func() {
+		s.Postgres.Kill()
+		copyAll(t, kept, s.Dir)
+		s.start(t)
+	}
+}
+
+// copyAll puts what a folder has into another one, instead of what that has.
+func copyAll(t testing.TB, from, to string) {
+	t.Helper()
+	for _, words := range [][]string{{"find", to, "-mindepth", "1", "-delete"}, {"cp", "-a", from + "/.", to}} {
+		if out, err := exec.Command(words[0], words[1:]...).CombinedOutput(); err != nil {
+			t.Fatalf("%v: %v %s", words, err, out)
+		}
+	}
+}
+
+func (s *suite) Empty(t testing.TB, name string) { s.do(t, `DROP SCHEMA "`+name+`" CASCADE`) }
+
+func TestMain(m *testing.M) {
+	quarantine = time.Second
+	os.Exit(m.Run())
+}
+
+// What does something to the server runs beside what does not.
+var (
+	beside = []string{"Put", "Many", "Races", "Withdrawals", "Pages", "Expiry", "Past", "Terms", "TooLong", "LostAnswer", "Closed", "Load"}
+	alone  = []string{"Emptied", "EmptiedAndOpened", "ContextEnds", "ClosedMeanwhile"}
+	again  = []string{"Killed", "Stopped", "PutBack", "ServerComesLater"}
+)
+
+func TestStore(t *testing.T) {
+	t.Parallel()
+	claimstest.Run(t, &suite{start(t)}, append(alone, again...)...)
+}
+
+func TestStoreAlone(t *testing.T) {
+	t.Parallel()
+	claimstest.Run(t, &suite{start(t)}, append(beside, again...)...)
+}
+
+func TestStoreOfAServerThatEnds(t *testing.T) {
+	t.Parallel()
+	claimstest.Run(t, &suite{start(t)}, append(beside, alone...)...)
+}

@@ -1,0 +1,1029 @@
+package redis
+
+import (
+	"context"
+	"errors"
+	"fmt"
+	"net"
+	"os"
+	"os/exec"
+	"path/filepath"
+	"strings"
+	"sync"
+	"testing"
+	"time"
+	"unsafe"
+
+	"svid.example/go/v2/claims"
+	"svid.example/go/v2/claims/claimstest"
+	"svid.example/go/v2/internal/broker"
+	"svid.example/go/v2/internal/logtest"
+	"svid.example/go/v2/internal/patience"
+)
+
+// ended looks that the epoch ended for all members, and for one that starts now: all have the same one, and it is deaf.
+func ended(t *testing.T, before claims.State, late *Store, members ...*Store) {
+	t.Helper()
+	is := claimstest.Open(t, late)
+	if is.Epoch == before.Epoch || is.Deaf < before.Time+claimstest.Usual.Lasts {
+		t.Errorf("who starts later has %+v, and before %+v", is, before)
+	}
+	for _, m := range members {
+		logtest.Await(t, "a member to see the end of the epoch", func() bool {
+			now := claimstest.State(t, m)
+			return now.Epoch == is.Epoch && now.Deaf == is.Deaf
+		})
+	}
+	c := claim(1)
+	for _, m := range append(members, late) {
+		if f := claimstest.Put(t, m, c)[0]; claimstest.Judge(c, f, 60) == claimstest.Mine {
+			t.Errorf("a token of the epoch before is accepted: %+v", f)
+		}
+	}
+}
+
+// stays looks that the epoch is the same, for all members and for one that starts now.
+func stays(t *testing.T, before claims.State, members ...*Store) {
+	t.Helper()
+	for _, m := range members {
+		if is := claimstest.State(t, m); is.Epoch != before.Epoch || is.Deaf != before.Deaf {
+			t.Errorf("%+v, and before %+v", is, before)
+		}
+	}
+}
+
+// refused looks that a claim that another member won before is not accepted.
+func refused(t *testing.T, m *Store, c claims.Claim) {
+	t.Helper()
+	c.Owner = claimstest.Own(1000)
+	if f := claimstest.Put(t, m, c)[0]; claimstest.Judge(c, f, 60) == claimstest.Mine {
+		t.Errorf("accepted twice: %+v", f)
+	}
+}
+
+func put(t *testing.T, m *Store, n int) claims.Claim {
+	t.Helper()
+	c := claim(n)
+	if f := claimstest.Put(t, m, c)[0]; claimstest.Judge(c, f, 60) != claimstest.Mine {
+		t.Fatalf("%+v", f)
+	}
+	return c
+}
+
+// An entry that somebody removes by hand is seen by the member whose last one it was. Of others nobody sees it.
+func TestAnEntryThatIsRemovedByHand(t *testing.T) {
+	t.Parallel()
+	s := start(t)
+	a, b := opened(t, Options{URLs: []string{s.URL}}), opened(t, Options{URLs: []string{s.URL}})
+	before := claimstest.State(t, a)
+	first, last := put(t, a, 1), put(t, a, 1)
+	s.do(t, "DEL", a.shards[0].key(&first))
+	again := first
+	again.Owner = claimstest.Own(2)
+	if f := claimstest.Put(t, b, again)[0]; claimstest.Judge(again, f, 60) != claimstest.Mine {
+		t.Errorf("(docs/STORES.md says that it is not seen) %+v", f)
+	}
+	stays(t, before, a, b)
+	s.do(t, "DEL", a.shards[0].key(&last))
+	claimstest.State(t, a)
+	ended(t, before, newStore(t, Options{URLs: []string{s.URL}}), a, b)
+}
+
+// A replica that lacks entries comes up as the primary, under the same name.
+func TestAReplicaUnderTheSameName(t *testing.T) {
+	t.Parallel()
+	primary := start(t)
+	replica := startReplica(t, primary)
+	o := Options{URLs: []string{primary.URL}}
+	a, b := opened(t, o), opened(t, o)
+	put(t, a, 1)
+	before := claimstest.State(t, a)
+	has(t, replica, a)
+	replica.Redis.Kill()
+	lost := put(t, a, 1)
+	primary.Redis.Kill()
+	copyAll(t, replica.Dir, primary.Dir)
+	claimstest.Watch(t, a)
+	primary.Start(t)
+	refused(t, b, lost)
+	ended(t, before, newStore(t, o), a, b)
+}
+
+// startReplica starts a replica, and waits until it follows.
+func startReplica(t *testing.T, primary *machine, more ...string) *machine {
+	t.Helper()
+	host, port, _ := strings.Cut(primary.Redis.Address, ":")
+	replica := start(t, append([]string{"--replicaof", host + " " + port}, more...)...)
+	follows(t, replica)
+	return replica
+}
+
+func follows(t *testing.T, replica *machine) {
+	t.Helper()
+	logtest.Await(t, "the replica", func() bool {
+		answer, err := replica.Do("EVAL", "return redis.call('INFO', 'replication'):match('master_link_status:up') or 'down'", "0")
+		return err == nil && strings.HasPrefix(answer, "$21")
+	})
+}
+
+// has waits until a replica's disk has the last entry of a member.
+func has(t *testing.T, replica *machine, m *Store) {
+	t.Helper()
+	m.mu.Lock()
+	key := m.shards[0].claimed.key
+	m.mu.Unlock()
+	logtest.Await(t, "the replica's disk to have it", func() bool {
+		answer, err := replica.Do("EVAL", "local p = redis.call('INFO', 'persistence'); return p:find('aof_rewrite_in_progress:0') and "+
+			"p:find('aof_rewrite_scheduled:0') and redis.call('EXISTS', KEYS[1])", "1", key)
+		return err == nil && answer == ":1"
+	})
+}
+
+// A replica takes over from a primary that ended. Without Replicas the epoch ends, also where it lacks nothing that a member knows of.
+func TestATakeover(t *testing.T) {
+	t.Parallel()
+	primary := start(t)
+	replica := startReplica(t, primary)
+	o := Options{URLs: []string{primary.URL, replica.URL}}
+	a, b := opened(t, o), opened(t, o)
+	before := claimstest.State(t, a)
+	there := put(t, a, 1)
+	has(t, replica, a)
+	replica.Redis.Pause()
+	lost := put(t, a, 1)
+	primary.Redis.Kill()
+	replica.Redis.Resume()
+	replica.do(t, "REPLICAOF", "NO", "ONE")
+	refused(t, b, lost)
+	refused(t, b, there)
+	ended(t, before, newStore(t, o), a, b)
+}
+
+// With Replicas a claim counts once a replica has it, so a replica that takes over lacks none, and the epoch stays.
+func TestATakeoverWithReplicas(t *testing.T) {
+	t.Parallel()
+	primary := start(t)
+	first, second := startReplica(t, primary), startReplica(t, primary)
+	o := Options{URLs: []string{primary.URL, first.URL, second.URL}, Replicas: 3}
+	a, b, c := opened(t, o), opened(t, o), opened(t, o)
+	before := claimstest.State(t, a)
+	there := put(t, a, 1)
+	claimstest.Watch(t, a)
+	first.Redis.Pause()
+	alone := claim(1)
+	for _, m := range []*Store{b, c} { // (the second time the entry is there, and counts no more than the first time)
+		if f := claimstest.Try(m, time.Second, alone)[0]; f.Err == nil {
+			t.Errorf("one replica has it, and it counts: %+v", f)
+		}
+	}
+	first.Redis.Resume()
+	if f := claimstest.Put(t, b, alone)[0]; claimstest.Judge(alone, f, 60) != claimstest.Mine {
+		t.Errorf("%+v", f)
+	}
+	primary.Redis.Kill()
+	first.do(t, "REPLICAOF", "NO", "ONE")
+	host, port, _ := strings.Cut(first.Redis.Address, ":")
+	second.do(t, "REPLICAOF", host, port)
+	third := startReplica(t, first)
+	refused(t, b, there)
+	put(t, b, 2)
+	stays(t, before, a, b, opened(t, Options{URLs: []string{first.URL, third.URL}, Replicas: 3}))
+}
+
+// Too few replicas are said.
+func TestTooFewReplicas(t *testing.T) {
+	t.Parallel()
+	s := start(t)
+	store := newStore(t, Options{URLs: []string{s.URL + "?replicas=2"}})
+	ctx, cancel := context.WithTimeout(context.Background(), time.Second)
+	defer cancel()
+	if _, err := store.Open(ctx); err == nil || !strings.Contains(err.Error(), "replicas have it, and 1 must") {
+		t.Error(err)
+	}
+}
+
+// Two servers say that they are the primary: nobody accepts anything, and all goes on once one of them is a replica again.
+func TestTwoPrimaries(t *testing.T) {
+	t.Parallel()
+	primary := start(t)
+	replica := startReplica(t, primary)
+	o := Options{URLs: []string{primary.URL, replica.URL}}
+	a := opened(t, o)
+	before := claimstest.State(t, a)
+	put(t, a, 1)
+	replica.do(t, "REPLICAOF", "NO", "ONE")
+	if _, err := a.State(limited(t)); err == nil || !strings.Contains(err.Error(), "both that they are the primary") {
+		t.Fatal(err)
+	}
+	if f := claimstest.Try(a, 5*time.Second, claim(1))[0]; f.Err == nil {
+		t.Errorf("%+v", f)
+	}
+	ctx, cancel := context.WithTimeout(context.Background(), 300*time.Millisecond)
+	defer cancel()
+	if _, err := newStore(t, o).Open(ctx); err == nil || !strings.Contains(err.Error(), "both that they are the primary") {
+		t.Error(err)
+	}
+	host, port, _ := strings.Cut(primary.Redis.Address, ":")
+	replica.do(t, "REPLICAOF", host, port)
+	follows(t, replica)
+	stays(t, before, a)
+	put(t, a, 1)
+}
+
+// A primary becomes a replica of a server that lacks entries, and a primary again. Connections outlive that.
+func TestAPrimaryThatWasAReplica(t *testing.T) {
+	t.Parallel()
+	s, other := start(t), start(t)
+	o := Options{URLs: []string{s.URL}}
+	a, b := opened(t, o), opened(t, o)
+	before := claimstest.State(t, a)
+	put(t, b, 2)
+	lost := put(t, a, 1)
+	host, port, _ := strings.Cut(other.Redis.Address, ":")
+	s.do(t, "REPLICAOF", host, port)
+	follows(t, s)
+	if f := claimstest.Try(a, 200*time.Millisecond, claim(1))[0]; f.Err == nil {
+		t.Errorf("put into a replica: %+v", f)
+	}
+	s.do(t, "REPLICAOF", "NO", "ONE")
+	refused(t, b, lost)
+	ended(t, before, newStore(t, o), a, b)
+}
+
+// As before, and it lost nothing that the record tells, for a member that put nothing meanwhile: each put looks at the server's run.
+func TestEachPutLooksAtTheRun(t *testing.T) {
+	t.Parallel()
+	s := start(t)
+	replica := startReplica(t, s)
+	o := Options{URLs: []string{s.URL}}
+	a, b := opened(t, o), opened(t, o)
+	before := claimstest.State(t, a)
+	put(t, a, 1)
+	put(t, b, 2)
+	has(t, replica, a)
+	has(t, replica, b)
+	replica.do(t, "REPLICAOF", "NO", "ONE")
+	lost := put(t, a, 1) // (the other server has the record, and not this)
+	host, port, _ := strings.Cut(replica.Redis.Address, ":")
+	s.do(t, "REPLICAOF", host, port)
+	follows(t, s)
+	s.do(t, "REPLICAOF", "NO", "ONE")
+	lost.Owner = claimstest.Own(2)
+	if f := claimstest.Try(b, 5*time.Second, lost)[0]; f.Err == nil {
+		t.Errorf("the first put at another run counts: %+v", f)
+	}
+	refused(t, b, lost)
+	ended(t, before, newStore(t, o), a, b)
+}
+
+// Nothing counts at a new run before members have had the time to compare.
+func TestMembersCompareFirst(t *testing.T) {
+	t.Parallel()
+	s := start(t)
+	o := Options{URLs: []string{s.URL}, Wait: time.Hour / 60}
+	quick := o
+	quick.Wait = 0
+	a := opened(t, quick)
+	before := claimstest.State(t, a)
+	there := put(t, a, 1)
+	s.Redis.Kill()
+	s.Start(t)
+	b := newStore(t, o)
+	ctx, cancel := context.WithTimeout(context.Background(), time.Second)
+	defer cancel()
+	if _, err := b.Open(ctx); !errors.Is(err, errCompares) && !errors.Is(err, context.DeadlineExceeded) {
+		t.Fatal(err)
+	}
+	if f := claimstest.Try(a, 300*time.Millisecond, there)[0]; f.Err == nil { // (it may compare for as long as the other one said)
+		t.Errorf("%+v", f)
+	}
+	r, _ := readRecord(recordOf(t, s, a))
+	if r.id != before.Epoch || r.next == "" || r.until == 0 {
+		t.Errorf("%+v", r)
+	}
+}
+
+func recordOf(t *testing.T, s *machine, m *Store) string {
+	t.Helper()
+	c, err := m.servers[0].dial(limited(t))
+	if err != nil {
+		t.Fatal(err)
+	}
+	defer c.Close()
+	answers, err := c.do(limited(t), cmd("GET", "svid:{svid}:epoch"))
+	if err != nil {
+		t.Fatal(err)
+	}
+	return textOf(answers[0])
+}
+
+// Sentinel lets a replica that lacks entries take over.
+func TestSentinel(t *testing.T) {
+	t.Parallel()
+	for _, replicas := range []int{1, 2} {
+		t.Run(fmt.Sprint(replicas), func(t *testing.T) {
+			primary := start(t)
+			all := []*machine{primary, startReplica(t, primary)}
+			if replicas > 1 {
+				all = append(all, startReplica(t, primary))
+			}
+			var o Options
+			for i := 0; i < 3; i++ {
+				s, err := broker.NewSentinel(t.TempDir(), "svid", primary.Redis.Address, 2)
+				if err == nil {
+					err = s.Start()
+				}
+				if err != nil {
+					t.Fatal(err)
+				}
+				t.Cleanup(s.Kill)
+				o.URLs = append(o.URLs, s.URL)
+			}
+			for _, url := range o.URLs {
+				one, err := parse(url)
+				if err != nil {
+					t.Fatal(err)
+				}
+				logtest.Await(t, "the Sentinels to know each other", func() bool {
+					c, err := one.dial(limited(t))
+					if err != nil {
+						return false
+					}
+					defer c.Close()
+					answers, err := c.do(limited(t), cmd("SENTINEL", "CKQUORUM", "svid"), cmd("SENTINEL", "REPLICAS", "svid"), cmd("SENTINEL", "SENTINELS", "svid"))
+					if err != nil || firstFailure(answers) != nil {
+						return false
+					}
+					found, _ := answers[1].([]any)
+					others, _ := answers[2].([]any)
+					return len(found) == len(all)-1 && len(others) == 2
+				})
+			}
+			o.Replicas = replicas
+			a, b := opened(t, o), opened(t, o)
+			before := claimstest.State(t, a)
+			claimstest.Watch(t, a)
+			claimstest.Watch(t, b)
+			var ledger claimstest.Ledger
+			end := claimstest.Load(t, &ledger, a, b)
+			logtest.Await(t, "some claims", func() bool { return ledger.Len() > 200 })
+			var lost claims.Claim
+			if replicas == 1 {
+				all[1].Redis.Pause()
+				lost = put(t, a, 1)
+			}
+			primary.Redis.Kill()
+			if replicas == 1 {
+				all[1].Redis.Resume()
+				refused(t, b, lost)
+				end()
+				ended(t, before, newStore(t, o), a, b)
+				return
+			}
+			n := ledger.Len()
+			logtest.Await(t, "some more", func() bool { return ledger.Len() > n+200 })
+			end()
+			stays(t, before, a, b, opened(t, o))
+		})
+	}
+}
+
+// startClock starts a server whose clock can be set to a number of seconds before this machine's, or behind it.
+func startClock(t *testing.T) (s *machine, set func(seconds int64)) {
+	t.Helper()
+	dir := t.TempDir()
+	library, offset := filepath.Join(dir, "clock.so"), filepath.Join(dir, "offset")
+	if out, err := exec.Command("gcc", "-shared", "-fPIC", "-O1", "-Wall", "-o", library, "testdata/clock.c").CombinedOutput(); err != nil {
+		t.Fatalf("%v: %s", err, out)
+	}
+	file, err := os.Create(offset)
+	if err != nil {
+		t.Fatal(err)
+	}
+	t.Cleanup(func() { file.Close() })
+	set = func(seconds int64) {
+		t.Helper()
+		var text [8]byte
+		*(*int64)(unsafe.Pointer(&text)) = seconds
+		if _, err := file.WriteAt(text[:], 0); err != nil {
+			t.Fatal(err)
+		}
+	}
+	set(0)
+	t.Setenv("CLOCK_OFFSET", offset)
+	t.Setenv("LD_PRELOAD", library)
+	s = start(t)
+	os.Unsetenv("LD_PRELOAD") // (t.Setenv puts back what was there)
+	return s, set
+}
+
+// The server's clock goes back by a day, or ahead.
+func TestAClockThatIsADayOff(t *testing.T) {
+	s, set := startClock(t)
+	const day = 86400
+	o := Options{URLs: []string{s.URL}}
+	a, b := opened(t, o), opened(t, o)
+	before := claimstest.State(t, a)
+	there := put(t, a, 1)
+	set(-30)
+	put(t, b, 2) // (within what it may step back)
+	stays(t, before, a, b)
+	set(-day)
+	there.Owner = claimstest.Own(3)
+	for n := 0; n < 3; n++ {
+		if f := claimstest.Try(b, 5*time.Second, there)[0]; claimstest.Judge(there, f, 60) == claimstest.Mine {
+			t.Errorf("accepted twice: %+v", f)
+		}
+	}
+	is := claimstest.Open(t, newStore(t, o))
+	if is.Epoch == before.Epoch || is.Deaf < before.Time+claimstest.Usual.Lasts {
+		t.Errorf("%+v, and before %+v", is, before)
+	}
+	for _, m := range []*Store{a, b} {
+		if now := claimstest.State(t, m); now.Epoch != is.Epoch || now.Deaf != is.Deaf {
+			t.Errorf("%+v, and not %+v", now, is)
+		}
+	}
+	before = claimstest.State(t, a)
+	set(day)
+	is = claimstest.State(t, b)
+	if is.Epoch != before.Epoch || is.Time < claimstest.Now()+day-10 {
+		t.Errorf("%+v", is)
+	}
+	c := claim(1)
+	if f := claimstest.Try(b, 5*time.Second, c)[0]; claimstest.Judge(c, f, 60) != claimstest.Expired {
+		t.Errorf("by a clock that is ahead: %+v", f)
+	}
+	late := newStore(t, o)
+	set(0)
+	claimstest.Open(t, late) // (who starts now knows it by what the others have seen)
+	f := claimstest.Put(t, late, c)[0]
+	if f.Deaf < claimstest.Now()+day-10 || claimstest.Judge(c, f, 60) == claimstest.Mine {
+		t.Errorf("%+v", f)
+	}
+}
+
+// A server whose memory is full refuses claims, and keeps those that it has.
+func TestFullMemory(t *testing.T) {
+	t.Parallel()
+	s := start(t)
+	full(t, s, func() { s.do(t, "CONFIG", "SET", "maxmemory", "1mb") }, func() { s.do(t, "CONFIG", "SET", "maxmemory", "0") })
+}
+
+// One whose disk is full ends, and goes on once there is room.
+func TestFullDisk(t *testing.T) {
+	t.Parallel()
+	dir, fill, free, ok := logtest.Small(t, 16)
+	if !ok {
+		t.Skip("a small disk needs root")
+	}
+	s := startIn(t, dir)
+	full(t, s, fill, func() {
+		free()
+		if !s.Answers() {
+			s.Redis.Kill()
+			s.Start(t)
+		}
+	})
+}
+
+func full(t *testing.T, s *machine, fill, free func()) {
+	o := Options{URLs: []string{s.URL}}
+	a, b := opened(t, o), opened(t, o)
+	before := claimstest.State(t, a)
+	claimstest.Watch(t, a)
+	var won []claims.Claim
+	fill()
+	for {
+		c := claim(1)
+		f := claimstest.Try(a, time.Second, c)[0]
+		if f.Err != nil {
+			break
+		}
+		if won = append(won, c); len(won) > 200_000 {
+			t.Fatal("the server has room")
+		}
+	}
+	free()
+	for _, c := range won {
+		refused(t, b, c)
+	}
+	put(t, b, 2)
+	stays(t, before, a, b, opened(t, o))
+}
+
+// SET of what is over answers OK, and nothing is kept: the store's time tells.
+func TestWhatIsOverIsNotKept(t *testing.T) {
+	t.Parallel()
+	s := start(t)
+	a := opened(t, Options{URLs: []string{s.URL}})
+	for _, ago := range []uint64{claimstest.Usual.Margin, claimstest.Usual.Margin + 1, 1 << 20} {
+		for n := 0; n < 2; n++ {
+			c := claim(n)
+			c.Expires = claimstest.Now() - ago
+			f := claimstest.Try(a, 5*time.Second, c)[0]
+			if f.Err != nil || f.Owner != c.Owner || f.Time < c.Expires+claimstest.Usual.Margin {
+				t.Errorf("%+v", f)
+			}
+			if got := s.do(t, "EXISTS", a.shards[0].key(&c)); got != ":0" {
+				t.Errorf("%d s ago: it is kept: %s", ago, got)
+			}
+		}
+	}
+}
+
+// Answers that come too late are no answers to what was asked next.
+func TestLateAnswers(t *testing.T) {
+	t.Parallel()
+	s := start(t)
+	o := Options{URLs: []string{s.URL}}
+	a, b := opened(t, o), opened(t, o)
+	before := claimstest.State(t, a)
+	var ledger claimstest.Ledger
+	end := claimstest.Load(t, &ledger, a, b)
+	for n := 0; n < 5; n++ {
+		at := ledger.Len()
+		logtest.Await(t, "some claims", func() bool { return ledger.Len() > at+50 })
+		s.Redis.Pause()
+		for i := 0; i < 3; i++ {
+			if f := claimstest.Try(a, 30*time.Millisecond, claim(5))[0]; f.Err == nil {
+				t.Errorf("%+v", f)
+			}
+		}
+		s.Redis.Resume()
+	}
+	end()
+	stays(t, before, a, b)
+}
+
+// A server with replicas that is killed and started again keeps all, over and over.
+func TestKilledOverAndOver(t *testing.T) {
+	t.Parallel()
+	s := start(t)
+	o := Options{URLs: []string{s.URL}}
+	a, b, c := opened(t, o), opened(t, o), opened(t, o)
+	before := claimstest.State(t, a)
+	claimstest.Watch(t, a)
+	var ledger claimstest.Ledger
+	end := claimstest.Load(t, &ledger, a, b, c)
+	for n := 0; n < 4; n++ {
+		at := ledger.Len()
+		logtest.Await(t, "some claims", func() bool { return ledger.Len() > at+100 })
+		s.Redis.Kill()
+		s.Start(t)
+	}
+	end()
+	stays(t, before, a, b, c, opened(t, o))
+}
+
+// clusterOf starts a Cluster.
+func clusterOf(t *testing.T, replicas int, n int) (all []*broker.Redis, o Options) {
+	t.Helper()
+	var dirs []string
+	for i := 0; i < n; i++ {
+		dirs = append(dirs, t.TempDir())
+	}
+	all, err := broker.NewRedisCluster(dirs)
+	if err != nil {
+		t.Fatal(err)
+	}
+	for _, s := range all {
+		if err := s.Start(); err != nil {
+			t.Fatal(err)
+		}
+		t.Cleanup(s.Kill)
+		logtest.Await(t, "redis-server", s.Answers)
+		o.URLs = append(o.URLs, s.URL)
+	}
+	if err := broker.CreateCluster(all, replicas); err != nil {
+		t.Fatal(err)
+	}
+	for _, s := range all {
+		logtest.Await(t, "the Cluster", func() bool {
+			out, err := exec.Command("redis-cli", "-p", port(s), "CLUSTER", "INFO").Output()
+			return err == nil && strings.Contains(string(out), "cluster_state:ok")
+		})
+	}
+	return all, o
+}
+
+// owns is which server has a shard.
+func owns(t *testing.T, all []*broker.Redis, it *shard) (owner int) {
+	t.Helper()
+	owner = -1
+	for i, s := range all {
+		if s.Pid() == 0 {
+			continue
+		}
+		if _, err := s.Do("EXISTS", it.prefix+"epoch"); err == nil {
+			owner = i
+		}
+	}
+	if owner < 0 {
+		t.Fatal("no server has the slot")
+	}
+	return owner
+}
+
+// clusterMachine runs the common tests.
+type clusterMachine struct{ o Options }
+
+func (m *clusterMachine) Store(t testing.TB, o claimstest.Options) claims.Store {
+	own := m.o
+	own.Name, own.Terms = o.Name, o.Terms
+	return newStore(t, own)
+}
+
+// A Cluster passes the common tests. One of its servers is killed and started again, and another is put back to an older copy; a slot
+// moves.
+func TestCluster(t *testing.T) {
+	t.Parallel()
+	all, o := clusterOf(t, 0, 3)
+	claimstest.Run(t, &clusterMachine{o}, "Pages")
+	a, b := opened(t, o), opened(t, o)
+	before := claimstest.State(t, a)
+	claimstest.Watch(t, a)
+	var ledger claimstest.Ledger
+	end := claimstest.Load(t, &ledger, a, b)
+	logtest.Await(t, "some claims", func() bool { return ledger.Len() > 200 })
+	all[1].Kill()
+	at := ledger.Len()
+	logtest.Await(t, "some claims of the other shards", func() bool { return ledger.Len() > at+50 })
+	if err := all[1].Start(); err != nil {
+		t.Fatal(err)
+	}
+	logtest.Await(t, "the server", func() bool { return len(put16(t, a)) == 16 })
+	at = ledger.Len()
+	logtest.Await(t, "some claims", func() bool { return ledger.Len() > at+200 })
+	end()
+	stays(t, before, a, b, opened(t, o))
+
+	t.Run("Rights", func(t *testing.T) { // those that the documents name are enough
+		own := o
+		own.URLs = nil
+		for _, s := range all {
+			acl(t, func(words ...string) error { _, err := s.Do(words...); return err }, rights(t, "cluster-member"))
+			own.URLs = append(own.URLs, strings.Replace(s.URL, "redis://", "redis://cluster-member:secret@", 1))
+		}
+		m := opened(t, own)
+		if n := len(put16(t, m)); n != 16 {
+			t.Errorf("%d of 16 shards", n)
+		}
+		w := withdrawal()
+		claimstest.Withdraw(t, m, w)
+		if got, _ := claimstest.Withdrawals(t, m, ""); !contains(got, w) {
+			t.Errorf("%v", got)
+		}
+	})
+	t.Run("Move", func(t *testing.T) {
+		it := a.shards[5]
+		from := owns(t, all, it)
+		to := (from + 1) % len(all)
+		var there claims.Claim
+		for there = claim(1); there.Key[0]>>4 != 5; there = claim(1) {
+		}
+		if f := claimstest.Put(t, a, there)[0]; claimstest.Judge(there, f, 60) != claimstest.Mine {
+			t.Fatalf("%+v", f)
+		}
+		move(t, all[from], all[to], int(slotOf(it.prefix)))
+		refused(t, b, there)
+		f := claimstest.Put(t, b, there)[0]
+		if claimstest.Judge(there, f, 60) == claimstest.Mine || f.Deaf == 0 {
+			t.Errorf("behind the move: %+v", f)
+		}
+		other := claim(1)
+		for other.Key[0]>>4 == 5 {
+			other = claim(1)
+		}
+		if f := claimstest.Put(t, b, other)[0]; claimstest.Judge(other, f, 60) != claimstest.Mine || f.Deaf != 0 {
+			t.Errorf("of another shard: %+v", f)
+		}
+		late := claimstest.Open(t, newStore(t, o))
+		logtest.Await(t, "one epoch", func() bool {
+			x, y := claimstest.State(t, a), claimstest.State(t, b)
+			return x.Epoch == late.Epoch && y.Epoch == late.Epoch && x.Deaf == late.Deaf
+		})
+		if late.Deaf == 0 || late.Epoch == before.Epoch {
+			t.Errorf("%+v", late)
+		}
+	})
+}
+
+// put16 puts one claim into each shard, and returns those that have an answer.
+func put16(t *testing.T, m *Store) (answered []claims.Claim) {
+	var these []claims.Claim
+	for i := 0; i < shardCount; i++ {
+		c := claim(1)
+		c.Key[0] = byte(i << 4)
+		these = append(these, c)
+	}
+	for i, f := range claimstest.Try(m, 5*time.Second, these...) {
+		if f.Err == nil {
+			answered = append(answered, these[i])
+		}
+	}
+	return answered
+}
+
+// move moves a slot.
+func move(t *testing.T, from, to *broker.Redis, slot int) {
+	t.Helper()
+	id := func(s *broker.Redis) string {
+		out, err := exec.Command("redis-cli", "-p", port(s), "CLUSTER", "MYID").Output()
+		if err != nil {
+			t.Fatal(err)
+		}
+		return strings.TrimSpace(string(out))
+	}
+	run := func(s *broker.Redis, words ...string) {
+		t.Helper()
+		if _, err := s.Do(words...); err != nil {
+			t.Fatal(words, err)
+		}
+	}
+	number := fmt.Sprint(slot)
+	run(to, "CLUSTER", "SETSLOT", number, "IMPORTING", id(from))
+	run(from, "CLUSTER", "SETSLOT", number, "MIGRATING", id(to))
+	moved := false
+	for end := time.Now().Add(patience.Long); !moved; {
+		answer, err := from.Do("EVAL", "#!lua flags=allow-cross-slot-keys\nlocal k = redis.call('CLUSTER', 'GETKEYSINSLOT', ARGV[1], 100); if #k == 0 then return 0 end; "+
+			"redis.call('MIGRATE', ARGV[2], ARGV[3], '', '0', '5000', 'KEYS', unpack(k)); return 1", "0", number, "127.0.0.1", port(to))
+		if err != nil || time.Now().After(end) {
+			t.Fatal(answer, err)
+		}
+		moved = answer == ":0"
+	}
+	run(to, "CLUSTER", "SETSLOT", number, "NODE", id(to))
+	run(from, "CLUSTER", "SETSLOT", number, "NODE", id(to))
+}
+
+func port(s *broker.Redis) string { _, port, _ := strings.Cut(s.Address, ":"); return port }
+
+// In a Cluster a replica takes over from a primary that was killed, and lacks an entry.
+func TestClusterTakeover(t *testing.T) {
+	t.Parallel()
+	all, o := clusterOf(t, 1, 6)
+	a, b := opened(t, o), opened(t, o)
+	before := claimstest.State(t, a)
+	claimstest.Watch(t, a)
+	claimstest.Watch(t, b)
+	there := put16(t, a)
+	if len(there) != 16 {
+		t.Fatal("not all were put")
+	}
+	from := owns(t, all[:3], a.shards[3])
+	for _, s := range all[3:] {
+		s.Pause()
+	}
+	lost := put16(t, a)
+	if len(lost) != 16 {
+		t.Fatal("not all were put")
+	}
+	all[from].Kill()
+	for _, s := range all[3:] {
+		s.Resume()
+	}
+	for _, c := range append(there, lost...) {
+		refused(t, b, c)
+	}
+	late := claimstest.Open(t, newStore(t, o))
+	if late.Deaf < before.Time+claimstest.Usual.Lasts || late.Epoch == before.Epoch {
+		t.Errorf("%+v, and before %+v", late, before)
+	}
+	logtest.Await(t, "one epoch", func() bool {
+		return claimstest.State(t, a).Epoch == late.Epoch && claimstest.State(t, b).Epoch == late.Epoch
+	})
+}
+
+// A primary that hung while Sentinel let a replica take over goes on, and says that it is the primary until Sentinel tells it. A member
+// whose connection it kept leaves it.
+func TestAPrimaryThatHung(t *testing.T) {
+	t.Parallel()
+	primary := start(t)
+	replica := startReplica(t, primary)
+	sentinel, err := broker.NewSentinel(t.TempDir(), "svid", primary.Redis.Address, 1)
+	if err == nil {
+		err = sentinel.Start()
+	}
+	if err != nil {
+		t.Fatal(err)
+	}
+	t.Cleanup(sentinel.Kill)
+	o := Options{URLs: []string{sentinel.URL}}
+	a, b := opened(t, o), opened(t, o)
+	before := claimstest.State(t, a)
+	put(t, b, 1)
+	put(t, a, 1)
+	has(t, replica, a)
+	primary.Redis.Pause()
+	logtest.Await(t, "the replica to take over", func() bool {
+		answer, err := replica.Do("EVAL", "return redis.call('INFO', 'replication'):find('role:master') and 1 or 0", "0")
+		return err == nil && answer == ":1"
+	})
+	logtest.Await(t, "a member to see it", func() bool { return claimstest.State(t, a).Epoch != before.Epoch })
+	primary.Redis.Resume()
+	if is := claimstest.State(t, b); is.Epoch == before.Epoch {
+		t.Errorf("it still has the primary of before: %+v", is)
+	}
+	ended(t, before, newStore(t, o), a, b)
+}
+
+// Sentinels that name two primaries are an error.
+func TestSentinelsThatDisagree(t *testing.T) {
+	t.Parallel()
+	one, other := start(t), start(t)
+	var o Options
+	for _, s := range []*machine{one, other} {
+		sentinel, err := broker.NewSentinel(t.TempDir(), "svid", s.Redis.Address, 1)
+		if err == nil {
+			err = sentinel.Start()
+		}
+		if err != nil {
+			t.Fatal(err)
+		}
+		t.Cleanup(sentinel.Kill)
+		o.URLs = append(o.URLs, sentinel.URL)
+		logtest.Await(t, "the Sentinel", sentinel.Answers)
+	}
+	if err := tryOpen(t, o, time.Second); !errors.Is(err, errDisagree) {
+		t.Error(err)
+	}
+	opened(t, Options{URLs: o.URLs[:1]})
+}
+
+// A member that put nothing since it looked last sees by its number that the server has an older copy, and one that looked last before
+// its last claim by that claim.
+func TestWhatAMemberKnows(t *testing.T) {
+	for name, what := range map[string]func(t *testing.T, m *Store){
+		"number": func(t *testing.T, m *Store) { claimstest.State(t, m) },
+		"claim":  func(t *testing.T, m *Store) { put(t, m, 1) },
+	} {
+		what := what
+		t.Run(name, func(t *testing.T) {
+			t.Parallel()
+			s := start(t)
+			o := Options{URLs: []string{s.URL}}
+			a := opened(t, o)
+			before := claimstest.State(t, a)
+			restore := s.Copy(t)
+			what(t, a)
+			restore()
+			if is := claimstest.State(t, a); is.Epoch == before.Epoch || is.Deaf < before.Time+claimstest.Usual.Lasts {
+				t.Errorf("%+v, and before %+v", is, before)
+			}
+			ended(t, before, newStore(t, o), a)
+		})
+	}
+}
+
+// A token that lives for too long is not even put where the store's time is known, and where it was another one, it has no answer.
+func TestATokenThatLivesTooLong(t *testing.T) {
+	t.Parallel()
+	s := start(t)
+	a := opened(t, Options{URLs: []string{s.URL}})
+	c := claim(1)
+	c.Expires = claimstest.Now() + claimstest.Usual.Lasts + 100
+	if f := claimstest.Try(a, 5*time.Second, c)[0]; !errors.Is(f.Err, errTooLong) {
+		t.Errorf("%+v", f)
+	}
+	if got := s.do(t, "EXISTS", a.shards[0].key(&c)); got != ":0" {
+		t.Errorf("it was put: %s", got)
+	}
+	a.mu.Lock()
+	a.shards[0].clock.store += 1000
+	a.mu.Unlock()
+	if f := claimstest.Try(a, 5*time.Second, c)[0]; !errors.Is(f.Err, errTooLong) {
+		t.Errorf("by another time: %+v", f)
+	}
+}
+
+// Members that see a loss at once agree on one next epoch.
+func TestMembersAgree(t *testing.T) {
+	t.Parallel()
+	s := start(t)
+	o := Options{URLs: []string{s.URL}}
+	var all []*Store
+	for i := 0; i < 8; i++ {
+		all = append(all, opened(t, o))
+	}
+	for n := 0; n < 5; n++ {
+		before := claimstest.State(t, all[0])
+		s.do(t, "FLUSHALL")
+		var asking sync.WaitGroup
+		for _, m := range all {
+			asking.Add(1)
+			go func(m *Store) { defer asking.Done(); m.State(limited(t)) }(m)
+		}
+		asking.Wait()
+		r, _ := readRecord(recordOf(t, s, all[0]))
+		if len(r.before) != n+1 || r.before[0] != before.Epoch {
+			t.Errorf("%d ends, and the epochs before are %v", n+1, r.before)
+		}
+		for _, m := range all {
+			stays(t, claimstest.State(t, all[0]), m)
+		}
+	}
+}
+
+// Who ends an epoch may not know of all that another member has answered in it. That one sees to it before anybody puts anything.
+func TestAnEndCoversWhatEachMemberKnows(t *testing.T) {
+	t.Parallel()
+	s := start(t)
+	o := Options{URLs: []string{s.URL}}
+	a, b := opened(t, o), opened(t, o)
+	before := claimstest.State(t, a)
+	a.mu.Lock()
+	a.shards[0].record.terms.Lasts += 1000 // (as if another member had just said so)
+	a.mu.Unlock()
+	s.do(t, "FLUSHALL")
+	ctx, cancel := context.WithTimeout(context.Background(), compares/3)
+	defer cancel()
+	if _, err := b.State(ctx); err == nil {
+		t.Fatal("who ends an epoch does not wait for others")
+	}
+	claimstest.Watch(t, a)
+	c := claim(1)
+	if f := claimstest.Put(t, b, c)[0]; f.Deaf < before.Time+claimstest.Usual.Lasts+1000 {
+		t.Errorf("%+v", f)
+	}
+	ended(t, before, newStore(t, o), a, b)
+}
+
+// A record is written in the place of the one that was read, and of no other: also where somebody writes between two steps of that.
+func TestARecordThatChangedMeanwhile(t *testing.T) {
+	t.Parallel()
+	s := start(t)
+	a := opened(t, Options{URLs: []string{s.URL}})
+	it := a.shards[0]
+	was := it.record
+	c, err := a.take(limited(t), a.shards)
+	if err != nil {
+		t.Fatal(err)
+	}
+	defer a.give(c)
+	first, second := was, was
+	first.list, second.list = 10, 20
+	for _, next := range []record{first, second} { // (both have read what was there before)
+		if err := a.swap(limited(t), c, it, was.text(), next.text()); err != nil {
+			t.Fatal(err)
+		}
+	}
+	if got := recordOf(t, s, a); got != first.text() {
+		t.Errorf("%q, and not %q", got, first.text())
+	}
+	if err := a.swap(limited(t), c, it, first.text(), second.text()); err != nil || recordOf(t, s, a) != second.text() {
+		t.Error("a record is not written", err)
+	}
+}
+
+// A member that knows nothing makes an emptied store anew, and waits. Who ran before sees in that time that it is another history.
+func TestAStoreThatWasMadeAnew(t *testing.T) {
+	t.Parallel()
+	s := start(t)
+	o := Options{URLs: []string{s.URL}}
+	a := opened(t, o)
+	before := claimstest.State(t, a)
+	put(t, a, 1)
+	s.do(t, "FLUSHALL")
+	late := newStore(t, o)
+	ctx, cancel := context.WithTimeout(context.Background(), compares/3)
+	defer cancel()
+	if is, err := late.Open(ctx); err == nil {
+		t.Fatalf("who makes a store does not wait for others: %+v", is)
+	}
+	if is := claimstest.State(t, a); is.Epoch == before.Epoch || is.Deaf < before.Time+claimstest.Usual.Lasts {
+		t.Errorf("%+v, and before %+v", is, before)
+	}
+	ended(t, before, late, a)
+}
+
+// Servers of a Cluster that hang do not keep a member from the others for good, though each look at them ends too early.
+func TestServersThatHang(t *testing.T) {
+	t.Parallel()
+	_, o := clusterOf(t, 0, 3)
+	var hang []string
+	for i := 0; i < 2; i++ {
+		l, err := net.Listen("tcp", "127.0.0.1:0")
+		if err != nil {
+			t.Fatal(err)
+		}
+		t.Cleanup(func() { l.Close() })
+		hang = append(hang, "redis://"+l.Addr().String())
+	}
+	o.URLs = append(hang, o.URLs...)
+	a := opened(t, o)
+	a.lost()
+	a.mu.Lock()
+	a.from = 0
+	a.mu.Unlock()
+	var err error
+	for try := 0; try < 4; try++ {
+		ctx, cancel := context.WithTimeout(context.Background(), askWait+askWait/2)
+		_, err = a.State(ctx)
+		cancel()
+		if err == nil {
+			return
+		}
+	}
+	t.Error(err)
+}

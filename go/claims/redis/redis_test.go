@@ -1,0 +1,145 @@
+package redis
+
+import (
+	"context"
+	"os/exec"
+	"strings"
+	"testing"
+	"time"
+
+	"svid.example/go/v2/claims"
+	"svid.example/go/v2/claims/claimstest"
+	"svid.example/go/v2/internal/broker"
+	"svid.example/go/v2/internal/logtest"
+	"svid.example/go/v2/internal/patience"
+	"svid.example/go/v2/svid"
+)
+
+// compares is how long members of a test compare. They look at the state each 20 ms.
+const compares = 300 * time.Millisecond
+
+// A machine is a redis-server of a test.
+type machine struct {
+	*broker.Redis
+	replicas int
+}
+
+// start starts a server, which ends with the test.
+func start(t testing.TB, more ...string) *machine {
+	t.Helper()
+	return startIn(t, t.TempDir(), more...)
+}
+
+func startIn(t testing.TB, dir string, more ...string) *machine {
+	t.Helper()
+	r, err := broker.NewRedis(dir, more...)
+	if err != nil {
+		t.Fatal(err)
+	}
+	t.Cleanup(r.Kill)
+	s := &machine{Redis: r}
+	s.Start(t)
+	return s
+}
+
+func (s *machine) Start(t testing.TB) {
+	t.Helper()
+	if err := s.Redis.Start(); err != nil {
+		t.Fatal(err)
+	}
+	logtest.Await(t, "redis-server", s.Answers)
+}
+
+func (s *machine) Store(t testing.TB, o claimstest.Options) claims.Store {
+	url := s.URL
+	if o.Address != "" {
+		url = "redis://" + o.Address
+	}
+	return newStore(t, Options{URLs: []string{url}, Name: o.Name, Terms: o.Terms, Replicas: s.replicas})
+}
+
+// newStore is a store that is not open yet.
+func newStore(t testing.TB, o Options) *Store {
+	t.Helper()
+	if o.Name == "" {
+		o.Name = "svid"
+	}
+	if o.Terms == (claims.Terms{}) {
+		o.Terms = claimstest.Usual
+	}
+	if o.Wait == 0 {
+		o.Wait = compares
+	}
+	store, err := New(o)
+	if err != nil {
+		t.Fatal(err)
+	}
+	t.Cleanup(func() { store.Close() })
+	return store
+}
+
+// opened is a store that is open.
+func opened(t testing.TB, o Options) *Store {
+	t.Helper()
+	store := newStore(t, o)
+	claimstest.Open(t, store)
+	return store
+}
+
+func (s *machine) Address() string   { return s.Redis.Address }
+func (s *machine) Kill(testing.TB)   { s.Redis.Kill() }
+func (s *machine) Stop(testing.TB)   { s.Redis.Stop() }
+func (s *machine) Pause(testing.TB)  { s.Redis.Pause() }
+func (s *machine) Resume(testing.TB) { s.Redis.Resume() }
+
+func (s *machine) do(t testing.TB, words ...string) string {
+	t.Helper()
+	answer, err := s.Do(words...)
+	if err != nil {
+		t.Fatal(err)
+	}
+	return answer
+}
+
+func (s *machine) Empty(t testing.TB, name string) { s.do(t, "FLUSHALL") }
+
+func (s *machine) Lie(t testing.TB, name string, key svid.TokenKey, entry []byte) {
+	s.do(t, "SET", "svid:{"+name+"}:"+string(key[:]), string(entry), "EX", "3600")
+}
+
+func (s *machine) Copy(t testing.TB) func() {
+	t.Helper()
+	kept := t.TempDir()
+	s.Redis.Stop()
+	copyAll(t, s.Dir, kept)
+	s.Start(t)
+	return func() {
+		s.Redis.Kill()
+		copyAll(t, kept, s.Dir)
+		s.Start(t)
+	}
+}
+
+// copyAll puts what a folder has into another one, instead of what that has.
+func copyAll(t testing.TB, from, to string) {
+	t.Helper()
+	for _, words := range [][]string{{"find", to, "-mindepth", "1", "-delete"}, {"cp", "-a", from + "/.", to}} {
+		if out, err := exec.Command(words[0], words[1:]...).CombinedOutput(); err != nil {
+			t.Fatalf("%v: %v %s", words, err, out)
+		}
+	}
+}
+
+func claim(n int) claims.Claim {
+	return claims.Claim{Key: claimstest.Key(), Owner: claimstest.Own(n), Expires: claimstest.Now() + 300}
+}
+
+func limited(t testing.TB) context.Context {
+	ctx, cancel := context.WithTimeout(context.Background(), patience.Long)
+	t.Cleanup(cancel)
+	return ctx
+}
+
+func TestStore(t *testing.T) { claimstest.Run(t, start(t)) }
+
+var _ = strings.Contains

@@ -1,0 +1,112 @@
+package main
+
+import (
+	"flag"
+	"fmt"
+	"strings"
+
+	"svid.example/go/v2/carriers"
+	"svid.example/go/v2/carriers/jetstream"
+	"svid.example/go/v2/claims"
+	"svid.example/go/v2/claims/nats"
+	"svid.example/go/v2/claims/postgres"
+	"svid.example/go/v2/claims/redis"
+	"svid.example/go/v2/guard"
+	"svid.example/go/v2/internal/server"
+)
+
+// schemes are those of the addresses of a group's store or log, and what answers there.
+var schemes = map[string]string{"nats": "NATS", "tls": "NATS", "ws": "NATS", "wss": "NATS",
+	"redis": "Redis", "rediss": "Redis", "redis+sentinel": "Redis", "rediss+sentinel": "Redis", "unix": "Redis", "postgres": "PostgreSQL", "postgresql": "PostgreSQL"}
+
+// kindOf says what addresses stand for: "NATS", "Redis" or "PostgreSQL"; "" where there is none, or where one is of another kind than
+// the first: its number is told then.
+func kindOf(addresses []string) (kind string, wrong int) {
+	for i, address := range addresses {
+		scheme, _, _ := strings.Cut(address, "://")
+		is := schemes[scheme]
+		if is == "" || kind != "" && is != kind {
+			return "", i + 1
+		}
+		kind = is
+	}
+	return kind, 0
+}
+
+// isGrouped says whether the sidecar tells others of its uses.
+func (o *options) isGrouped() bool { return len(o.logs) > 0 || len(o.servers()) > 0 }
+
+// groupProblems is what is wrong with --store, --group-log and --nats.
+func (o *options) groupProblems(all *problems) {
+	once := server.Mode(o.replay) == server.Once
+	log, wrong := kindOf(o.logs)
+	all.wrong(wrong > 0, "--group-log: address %d must begin with nats:// or tls://, as all others do", wrong)
+	all.wrong(log != "" && log != "NATS", "--group-log: a log stands in NATS. Over %s tokens are claimed in a store: --replay strict --store", log)
+	all.wrong(len(o.logs) > 0 && len(o.nats) > 0, "--group-log and --nats both say what carries the group: give one of them")
+	all.wrong(!once && o.isGrouped(), "--group-log and --nats are for --replay once, whose sidecars tell each other of their uses: in %s give --store", o.replay)
+	kind, wrong := kindOf(o.stores)
+	all.wrong(wrong > 0, "--store: address %d must begin with redis://, rediss://, postgres://, nats:// or tls://, as all others do", wrong)
+	all.wrong(o.files != jetstream.Files{} && kind != "NATS" && !o.isGrouped(), "--nats-ca, --nats-cert, --nats-key and --nats-creds are for NATS: name the files in the address of --store")
+	if _, err := o.files.Connect(); kind == "" || kind == "NATS" && err != nil {
+		return // (what is wrong with the files was said)
+	}
+	if store, err := o.store(nil); err != nil {
+		all.wrong(true, "--store: %v", err)
+	} else {
+		store.Close()
+	}
+}
+
+// terms are those of the group's store.
+func (o *options) terms() claims.Terms { return guard.Terms(o.longest.value, o.ahead.value) }
+
+// store is the group's store, and nil where there is none.
+func (o *options) store(said func(event string, fields ...any)) (claims.Store, error) {
+	switch kind, _ := kindOf(o.stores); kind {
+	case "Redis":
+		return redis.New(redis.Options{URLs: o.stores, Name: o.group, Terms: o.terms(), Replicas: o.replicas})
+	case "PostgreSQL":
+		return postgres.New(postgres.Options{URLs: o.stores, Name: o.group, Terms: o.terms(), Replicas: o.replicas})
+	case "NATS":
+		connect, err := o.files.Connect()
+		if err != nil {
+			return nil, err
+		}
+		return nats.New(nats.Options{Servers: o.stores, Name: o.group, Terms: o.terms(), Replicas: o.replicas, Connect: connect, Log: said})
+	}
+	return nil, nil
+}
+
+// groupLog is the log of a group of mode once, and nil where there is none.
+func (o *options) groupLog() carriers.Log {
+	if !o.isGrouped() {
+		return nil
+	}
+	return jetstream.Options{Files: o.files, Servers: o.servers(), Name: o.group, Replicas: o.replicas}
+}
+
+// schema prints what makes a group's store in PostgreSQL.
+func schema(args []string, std stdio) int {
+	var o options
+	var role string
+	f := flagsOf("schema", func(f *flag.FlagSet) {
+		f.StringVar(&o.group, "group", "", "")
+		f.Var(&o.longest, "longest", "")
+		f.Var(&o.ahead, "ahead", "")
+		f.StringVar(&role, "role", "", "")
+	})
+	f.SetOutput(std.err)
+	if err := parseWords(f, args); err != nil {
+		return fail(std, err)
+	}
+	var all problems
+	all.wrong(f.NArg() > 0, "schema takes no argument")
+	all.wrong(!claims.ValidName(o.group), "--group %q can't name a group: use up to 64 letters, digits, - and _", o.group)
+	all.wrong(!o.longest.given || o.longest.value == 0 || o.longest.value > mostLongest, "--longest must be from 1 to %d seconds", uint64(mostLongest))
+	all.wrong(o.ahead.value > mostAhead, "--ahead must be at most %d seconds", uint64(mostAhead))
+	if len(all) > 0 {
+		return all.tell(std)
+	}
+	fmt.Fprint(std.out, postgres.Schema(o.group, o.terms(), role))
+	return exitYes
+}

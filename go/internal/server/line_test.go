@@ -1,0 +1,130 @@
+package server
+
+import (
+	"context"
+	"errors"
+	"testing"
+	"time"
+
+	"svid.example/go/v2/claims"
+	"svid.example/go/v2/svid"
+)
+
+// Where a claim ends and nothing is known of the token, one request of those that wait claims it, and the others wait for that one: no
+// request is judged each time. They leave, one after the other, at their own time.
+func TestAClaimIsHandedOn(t *testing.T) {
+	b := newBench(t)
+	const many = 5 * mostAgain
+	all := []*Request{b.asks("1")}
+	for i := 1; i < many; i++ {
+		b.now.Up += 5 * nextCall
+		all = append(all, b.asks("1"))
+	}
+	b.step(Gone{all[3], context.Canceled})
+	holds := func(r *Request) {
+		t.Helper()
+		if len(b.machine.again) > 0 || len(b.machine.claims.open) != 1 || !r.open {
+			t.Fatalf("%d go on, %d claims are open", len(b.machine.again), len(b.machine.claims.open))
+		}
+	}
+	for i, gone := range []*Request{all[0], all[1], all[2]} {
+		b.step(Gone{gone, context.Canceled})
+		next := all[i+1+i/2]
+		if holds(next); b.machine.Due() > b.now.Up+nextCall {
+			t.Errorf("the claim of request %d is put in %v", i+1, b.machine.Due()-b.now.Up)
+		}
+	}
+	b.pass(nextCall)
+	last := b.batches[len(b.batches)-1]
+	if len(last.requests) != 1 || last.requests[0] != all[4] {
+		t.Errorf("the last call is not of the request that holds the claim")
+	}
+	b.now.Up = time.Hour + time.Minute + 50*5*nextCall
+	if b.pass(0); !errors.Is(all[50].Err, context.DeadlineExceeded) || all[51].answered {
+		t.Error("they are not answered at their own time")
+	}
+	holds(all[51])
+	b.pass(nextCall)
+	held := len(b.batches) - 1
+	b.answers(held, nil)
+	for i := 0; i < many/mostAgain; i++ {
+		b.pass(0)
+	}
+	if err := all[51].Err; err != nil {
+		t.Error(err)
+	}
+	for i, r := range all[52:] {
+		if r.Err != svid.Replayed {
+			t.Errorf("request %d: %v", 52+i, r.Err)
+		}
+	}
+	for call := range b.batches[:held] {
+		b.answers(call, nil)
+	}
+	if n := b.machine.Backlog(); n != 0 {
+		t.Errorf("%d things are under way", n)
+	}
+}
+
+// An answer by which it is unknown what became of a token is that of one request. The next one asks by itself.
+func TestEachRequestHearsOfALoss(t *testing.T) {
+	b := newBench(t)
+	var all []*Request
+	for i := 0; i < 5; i++ {
+		all = append(all, b.asks("1"))
+	}
+	for i := range all {
+		b.pass(0)
+		batch := b.batches[len(b.batches)-1]
+		if len(b.batches) != i+1 || len(b.machine.again) > 0 {
+			t.Fatalf("%d calls, and %d requests go on", len(b.batches), len(b.machine.again))
+		}
+		batch.Found[0] = claims.Found{Owner: batch.Claims[0].Owner, Time: moment, Deaf: moment + 300}
+		if b.step(Claimed{batch}); all[i].Err != ErrLost {
+			t.Errorf("request %d: %v", i, all[i].Err)
+		}
+	}
+	b.want(0, 0, uint64(len(all)))
+}
+
+// Where a token comes for hours while the store is away, what is kept of it is no more than those that wait.
+func TestALineStaysShort(t *testing.T) {
+	b := newBench(t)
+	var r *Request
+	for i := 0; i < 4000; i++ {
+		b.now.Up += time.Minute / 100
+		b.pass(0)
+		r = b.asks("1")
+	}
+	if n := len(r.line.requests); n > 400 {
+		t.Errorf("the line has room for %d requests, where 100 wait", n)
+	}
+	if n := len(b.machine.claims.open); n != 1 {
+		t.Errorf("%d claims are open", n)
+	}
+}
+
+// Where the rules change while requests wait for a claim, none of them claims the token by the rules of before: all come again.
+func TestWhoWaitsComesAgainByOtherRules(t *testing.T) {
+	b := newBench(t)
+	var all []*Request
+	for i := 0; i < 4; i++ {
+		r := NewRequest(token("1"))
+		r.rules = b.machine.rules
+		b.step(r)
+		r.Key, r.Fault = b.keyring.VerifyToken(&r.read)
+		b.step(Verified{r})
+		all = append(all, r)
+	}
+	b.step(&Ruling{Rules: &Rules{Audiences: b.machine.rules.Audiences, Allow: []string{"spiffe://example.org/job"}}})
+	b.answers(0, nil)
+	b.pass(0)
+	for i, r := range all {
+		if r.Err != errOtherRules || r.rules != b.machine.rules {
+			t.Errorf("request %d: %v", i, r.Err)
+		}
+	}
+	if len(b.batches) != 1 {
+		t.Errorf("%d calls", len(b.batches))
+	}
+}

@@ -1,0 +1,100 @@
+package server
+
+import (
+	"context"
+	"time"
+
+	"svid.example/go/v2/claims"
+	"svid.example/go/v2/svid"
+)
+
+// A storeView is what the machine knows of the group's store.
+type storeView struct {
+	opened bool         // it was reached
+	heard  bool         // its withdrawals were read to the end once
+	state  claims.State // as it was when it was looked at last
+}
+
+// StoreOpened: the group's store was reached, and agrees on the terms.
+type StoreOpened struct{ State claims.State }
+
+func (o StoreOpened) happen(m *Machine) {
+	m.store.opened = true
+	Looked{State: o.State}.happen(m)
+}
+
+// Looked: the store said what it is.
+type Looked struct{ State claims.State }
+
+func (l Looked) happen(m *Machine) {
+	before := m.store.state
+	if m.store.state = l.State; before.Epoch != "" && before.Epoch != l.State.Epoch {
+		m.metrics.Epochs.Add(1)
+		m.Log.Error("epoch", ErrLost, "epoch", l.State.Epoch, "before", before.Epoch, "until", l.State.Deaf,
+			"why", "of tokens that expire by then, none is accepted: one of them may have been used")
+	}
+}
+
+// isDeaf says whether no token can be accepted, since each one that lives for as long as it may could have been used before the store
+// lost entries.
+func (m *Machine) isDeaf() bool {
+	return m.store.state.Deaf > 0 && m.store.state.Deaf >= svid.StaysUntil(m.now.Wall, m.Longest)
+}
+
+// Heard has withdrawals that the store told of. Whole says that there are no more at the moment.
+type Heard struct {
+	These []claims.Withdrawal
+	Whole bool
+	Err   error // why the record did not take one: it is to come again
+}
+
+func (h *Heard) happen(m *Machine) {
+	if h.Err = m.hear(h.These); h.Err == nil && h.Whole {
+		m.store.heard = true
+	}
+}
+
+// hear adds withdrawals of others to the record, and brings them to the disk.
+func (m *Machine) hear(these []claims.Withdrawal) error {
+	for _, w := range these {
+		use, err := m.validator.WithdrawOnce(m.now.Wall, w.Key, w.Expires)
+		if err == svid.ErrGone || err == svid.Withdrawn {
+			continue // The token has expired, or the record has a withdrawal of it.
+		}
+		if err != nil {
+			return err
+		}
+		m.keepSoon(use)
+	}
+	return nil
+}
+
+// A StoreWithdraw is a withdrawal on its way to the store.
+type StoreWithdraw struct {
+	claims.Withdrawal
+	Within time.Duration // how long anybody waits for it
+
+	// What the effect WithdrawAtStore is to say.
+	Owner claims.Owner // as claims.Store has it
+	Err   error        // why the store does not have it. It may have it all the same
+
+	by   *Withdraw // nil once it is done, or too late
+	late timer
+}
+
+// Stored: the effect WithdrawAtStore is done.
+type Stored struct{ *StoreWithdraw }
+
+func (s Stored) happen(m *Machine) {
+	m.timers.stop(&s.late)
+	s.end(m, s.Err)
+}
+
+func (s *StoreWithdraw) isLate(m *Machine) { s.end(m, context.DeadlineExceeded) }
+
+func (s *StoreWithdraw) end(m *Machine, err error) {
+	if by := s.by; by != nil {
+		s.by = nil
+		by.stored(m, s.Owner, err)
+	}
+}
