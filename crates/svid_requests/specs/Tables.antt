@@ -242,14 +242,14 @@ is_awaited now (Some r) = is_judging r.stage && nat_lt now r.deadline
 abbrev pub awaits : State → ℕ → Bool
 awaits s n = is_awaited s.now (find n s.table.requests)
 
--- a request waits for the answer to its claim, and its time is not over
-abbrev pub is_claiming : Stage → Bool
-is_claiming (Claiming u) = true
-is_claiming _ = false
+-- the use whose claim a request waits for, where its time is not over
+abbrev pub claim_at : Stage → Option Use
+claim_at (Claiming u) = Some u
+claim_at _ = None
 
-abbrev pub is_expecting : ℕ → Option Request → Bool
-is_expecting now None = false
-is_expecting now (Some r) = is_claiming r.stage && nat_lt now r.deadline
+abbrev pub claim_of : ℕ → Option Request → Option Use
+claim_of now None = None
+claim_of now (Some r) = if nat_lt now r.deadline then claim_at r.stage else None
 
-abbrev pub expects : State → ℕ → Bool
-expects s n = is_expecting s.now (find n s.table.requests)
+abbrev pub claimed : State → ℕ → Option Use
+claimed s n = claim_of s.now (find n s.table.requests)

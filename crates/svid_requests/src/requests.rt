@@ -1,5 +1,5 @@
 ghost use Rattle.std.specs.Prelude.{◌≡◌, Bool, IfOk, OnErr};
-ghost use Rattle.svid_requests.specs.Tables.{at_moment, awaits, begun, came, come_deed, due, expects, heard, heard_deed, is_claiming, is_judging};
+ghost use Rattle.svid_requests.specs.Tables.{at_moment, awaits, begun, came, come_deed, claim_at, claimed, due, heard, heard_deed, is_judging};
 
 use crate::deed::Deed;
 use crate::event::Event;
@@ -8,6 +8,7 @@ use crate::stage::Stage;
 use crate::table::Table;
 use std::alloc::{AllocError, Global};
 use std::marker::Model;
+use svid_replay::Use;
 
 /// The requests of a member that have no answer yet.
 ///
@@ -92,14 +93,15 @@ impl Requests {
         }
     }
 
-    /// Whether the request of this number waits for the answer to its claim, and its time is not over at `up`.
-    pub fn expects(&self, up: u64, number: u64) -> bool
-        ensures { result ≡ expects (at_moment self.now up) number }
+    /// The use whose claim the request of this number waits for, if its time is not over at `up`. Else the answer to a claim is of no use.
+    pub fn claimed(&self, up: u64, number: u64) -> Option<Use>
+        ensures { result ≡ claimed (at_moment self.now up) number }
     {
-        match self.table.find(number) {
-            None => false,
-            Some(request) => request.stage.is_claiming() && request.deadline > self.moment.max(up),
+        let request = self.table.find(number)?;
+        if request.deadline <= self.moment.max(up) {
+            return None;
         }
+        request.stage.claimed()
     }
 }
 
@@ -113,12 +115,12 @@ impl Stage {
         }
     }
 
-    fn is_claiming(self) -> bool
-        ensures { result ≡ is_claiming self }
+    fn claimed(self) -> Option<Use>
+        ensures { result ≡ claim_at self }
     {
         match self {
-            Stage::Claiming(_) => true,
-            _ => false,
+            Stage::Claiming(used) => Some(used),
+            _ => None,
         }
     }
 }

@@ -1,0 +1,5 @@
+pub mod Claiming
+pub mod Judging
+pub mod Members
+pub mod Modes
+pub mod Reasons

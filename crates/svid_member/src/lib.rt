@@ -1,0 +1,19 @@
+//! One member of a group: a validator, and the requests that wait for its answers.
+//!
+//! A [`Member`] has no clock, thread or socket. Each call tells what happened, asks the validator where one is to be asked, and says one thing
+//! to do at the most. So nobody can tell the requests of a verdict that the validator did not give.
+#![tactic(auto)]
+
+mod asked;
+mod claimed;
+mod claiming;
+mod judging;
+mod member;
+mod mode;
+mod reason;
+
+pub use asked::Asked;
+pub use claimed::Claimed;
+pub use member::Member;
+pub use mode::Mode;
+pub use reason::reason_of;

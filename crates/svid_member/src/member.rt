@@ -1,0 +1,102 @@
+ghost use Rattle.std.specs.Prelude.{◌≡◌, IfOk, OnErr, Bool};
+ghost use Rattle.svid_requests.specs.Tables.{at_moment, begun, came, come_deed, due, heard, heard_deed};
+ghost use Rattle.svid_requests.specs.declared.event.Event.{Event};
+ghost use Rattle.svid_member.specs.Members.{Hears, member_of, with_requests};
+ghost use Rattle.svid_member.specs.Modes.{needs_of};
+
+use crate::mode::Mode;
+use std::alloc::{AllocError, Global};
+use std::marker::Model;
+use svid_requests::{Deed, Event, Requests};
+
+/// The requests of a validator, with what they are answered by.
+///
+/// `up` is a moment by a clock that only goes ahead, in any unit. `now` is one of the wall clock, in seconds.
+#[derive(Drop)]
+pub struct Member {
+    pub(crate) mode: Mode,
+    pub(crate) life: [u8; 16],
+    pub(crate) ahead: u64,
+    pub(crate) lasts: u64,
+    pub(crate) requests: Requests,
+}
+
+impl Model for Member {
+    ghost use Rattle.svid_member.specs.Members.{MemberData};
+
+    ghost Value = { MemberData };
+
+    ghost view = { λ m. record { mode = m.mode; life = m.life; ahead = m.ahead; lasts = m.lasts; requests = m.requests } };
+}
+
+impl Member {
+    /// A member without requests. No memory is taken.
+    ///
+    /// `kept` says that there is a state folder. `life` is 16 random bytes, which each start takes anew. `ahead` is how many seconds the store's
+    /// time may be ahead of the own clock, and `lasts` how many seconds past the store's time a token may expire. Each request is answered within
+    /// `wait`.
+    pub fn new(
+        alloc: Global,
+        mode: Mode,
+        kept: bool,
+        life: [u8; 16],
+        ahead: u64,
+        lasts: u64,
+        wait: u64,
+    ) -> Member
+        ensures { result ≡ member_of mode life ahead lasts (begun (needs_of mode kept) wait) }
+    {
+        Member {
+            mode,
+            life,
+            ahead,
+            lasts,
+            requests: Requests::new(alloc, mode.needs(kept), wait),
+        }
+    }
+
+    /// A request comes. Its number is that of the deed: it is to be judged. `Nothing` where no number is left.
+    ///
+    /// Where memory is refused, nothing came: the request is to be answered so.
+    pub fn come(&mut self, up: u64) -> Result<Deed, AllocError>
+        ensures ok { IfOk result (λ deed. (deed ≡ come_deed (at_moment self.old.requests up)) × (self.new ≡ with_requests self.old (came (at_moment self.old.requests up)))) }
+        ensures err { OnErr result (self.new ≡ with_requests self.old (at_moment self.old.requests up)) }
+    {
+        self.requests.come(up)
+    }
+
+    /// The use of the request of this number is on the disk, or it could not be brought there.
+    pub fn wrote(&mut self, up: u64, number: u64, ok: bool) -> Deed
+        ensures { Hears up (Event.Wrote number ok) self.old result self.new }
+    {
+        self.requests.hear(up, &Event::Wrote(number, ok))
+    }
+
+    /// The claim of the request of this number is about to go out: `Claim` where it still is to.
+    pub fn send(&mut self, up: u64, number: u64) -> Deed
+        ensures { Hears up (Event.Send number) self.old result self.new }
+    {
+        self.requests.hear(up, &Event::Send(number))
+    }
+
+    /// Nobody waits any more for the answer to the request of this number. A use that is on its way to the disk goes there.
+    pub fn leave(&mut self, up: u64, number: u64) -> Deed
+        ensures { Hears up (Event.Leave number) self.old result self.new }
+    {
+        self.requests.hear(up, &Event::Leave(number))
+    }
+
+    /// Answers the request that came first, if its time is over. To be called until it says `Nothing`.
+    pub fn overdue(&mut self, up: u64) -> Deed
+        ensures { Hears up Event.Overdue self.old result self.new }
+    {
+        self.requests.hear(up, &Event::Overdue)
+    }
+
+    /// When the request that came first is due, by the clock of `up`.
+    pub fn due(&self) -> Option<u64>
+        ensures { result ≡ due self.now.requests }
+    {
+        self.requests.due()
+    }
+}
