@@ -1,5 +1,7 @@
 -- What becomes of a request whose claim was answered.
-use Rattle.std.specs.Prelude.{◌≡◌, ℕ, max, Bool, List, Some, None, Result, if◌then◌else◌}
+use Rattle.std.specs.Prelude.{◌≡◌, ℕ, max, Bool, ◌==◌, ◌&&◌, List, Option, Some, None, Result, if◌then◌else◌}
+use Rattle.std.specs.Ordering.{is_eq, nat_cmp}
+use Rattle.std.specs.Cmp.Lexicographic.{slice_cmp}
 use Rattle.svid_token.specs.Rows.{Answers}
 use Rattle.svid_token.specs.declared.refusal.Refusal.{Refusal}
 use Rattle.svid_claims.specs.Outcomes.{outcome_of}
@@ -14,15 +16,28 @@ use Rattle.svid_replay.specs.Buckets.{raised_to}
 use Rattle.svid_check.specs.Changes.{IsWithdrawal, gains, withdrawn_in}
 use Rattle.svid_check.specs.Said.{Said}
 use Rattle.svid_check.specs.Setting.{Held, Setting, with_state}
-use Rattle.svid_check.specs.Verdict.{verdict_on}
+use Rattle.svid_check.specs.Verdict.{key_of, verdict_on}
 use Rattle.svid_check.specs.declared.accepted.Accepted.{Accepted}
 use Rattle.svid_check.specs.declared.withdraw_fault.WithdrawFault.{WithdrawFault}
+use Rattle.svid_requests.specs.Tables.{at_moment, claimed}
 use Rattle.svid_requests.specs.declared.judgment.Judgment.TheVariants.{Fails}
 use Rattle.svid_requests.specs.declared.event.Event.TheVariants.{Found}
 use Rattle.svid_member.specs.declared.claimed.Claimed.{Claimed}
 use Rattle.svid_member.specs.Judging.{judged_by, judgment_of}
 use Rattle.svid_member.specs.Members.{Hears, MemberData}
 use Rattle.svid_member.specs.Modes.{adds_at_claim, is_bound}
+
+-- the claim of a use is of what a token says
+abbrev pub is_of : Said → Use → Bool
+is_of t u = t.exp == u.exp && is_eq (slice_cmp nat_cmp (key_of t) u.key)
+
+-- the use whose claim a request waits for, if it is of this token
+abbrev pub of_token : Said → Option Use → Option Use
+of_token t None = None
+of_token t (Some u) = if is_of t u then Some u else None
+
+abbrev pub awaited : MemberData → (up n : ℕ) → Said → Option Use
+awaited m up n t = of_token t (claimed (at_moment m.requests up) n)
 
 -- whose claim of a token is put: the caller's where tokens are bound to callers, else that of a life
 abbrev pub owner_by : Bool → (life : List ℕ) → Use → (caller : List ℕ) → List ℕ

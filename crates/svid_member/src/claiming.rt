@@ -3,10 +3,9 @@ ghost use Rattle.svid_claims.specs.Outcomes.{outcome_of};
 ghost use Rattle.svid_replay.specs.declared.token_use.Use.{Use};
 ghost use Rattle.svid_check.specs.Said.{said_in};
 ghost use Rattle.svid_check.specs.Setting.{setting_by};
-ghost use Rattle.svid_requests.specs.Tables.{at_moment, claimed};
 ghost use Rattle.svid_requests.specs.declared.deed.Deed.{Deed};
 ghost use Rattle.svid_requests.specs.declared.event.Event.{Event};
-ghost use Rattle.svid_member.specs.Claiming.{Finds, FindsBy, FindsMine, IsRefused, claim_for, look_at, owner_by, owner_for, reason_for};
+ghost use Rattle.svid_member.specs.Claiming.{Finds, FindsBy, FindsMine, IsRefused, awaited, claim_for, is_of, look_at, owner_by, owner_for, reason_for};
 ghost use Rattle.svid_member.specs.Members.{Hears};
 
 use crate::claimed::Claimed;
@@ -30,6 +29,13 @@ fn reason_for(outcome: Outcome) -> u8
         Outcome::Withdrawn => 124,
         Outcome::Taken => 125,
     }
+}
+
+// Whether the claim of this use is of this token.
+fn is_of(reading: &Reading, used: &Use) -> bool
+    ensures { result ≡ is_of (said_in reading.now) used.now }
+{
+    reading.claims.exp == used.exp && reading.key().cmp(&used.key).is_eq()
 }
 
 // Whose claim of a token is put: the caller's, or that of a life.
@@ -138,8 +144,19 @@ impl Member {
         }
     }
 
+    // The use whose claim the request of this number waits for, if it is of this token.
+    fn awaited(&self, up: u64, number: u64, reading: &Reading) -> Option<Use>
+        ensures { result ≡ awaited self.now up number (said_in reading.now) }
+    {
+        let used = self.requests.claimed(up, number)?;
+        if !is_of(reading, &used) {
+            return None;
+        }
+        Some(used)
+    }
+
     /// Lets the request of this number hear what the store answered to its claim, or to any put of the same claim. Where the request does not wait
-    /// for that, or its time is over, nothing happens.
+    /// for that, its time is over, or the claim is of another token, nothing happens.
     ///
     /// If the claim counts, the validator judges the token once more, by a verifier that has looked at its signature; and in mode `Strict` the
     /// record gains its use. If the store says that the token was withdrawn, so does the record from now on, unless memory is refused.
@@ -154,10 +171,10 @@ impl Member {
         reading: &Reading,
         verifier: &W,
     ) -> Claimed
-        ensures unclaimed { claimed (at_moment self.old.requests up) number ≡ None → (validator.new ≡ validator.old) × (self.new ≡ self.old) × (result.deed ≡ Deed.Nothing) × (result.outcome ≡ None) × (result.answer ≡ None) }
-        ensures claimed { (u : Use) → claimed (at_moment self.old.requests up) number ≡ Some u → Finds (setting_by (W.says verifier.now) validator.old) now up number u caller.now found.now (said_in reading.now) validator.old validator.new self.old self.new result }
+        ensures unclaimed { awaited self.old up number (said_in reading.now) ≡ None → (validator.new ≡ validator.old) × (self.new ≡ self.old) × (result.deed ≡ Deed.Nothing) × (result.outcome ≡ None) × (result.answer ≡ None) }
+        ensures claimed { (u : Use) → awaited self.old up number (said_in reading.now) ≡ Some u → Finds (setting_by (W.says verifier.now) validator.old) now up number u caller.now found.now (said_in reading.now) validator.old validator.new self.old self.new result }
     {
-        let Some(used) = self.requests.claimed(up, number) else {
+        let Some(used) = self.awaited(up, number, reading) else {
             return Claimed {
                 deed: Deed::Nothing,
                 outcome: None,
