@@ -2,4 +2,5 @@ pub mod Claiming
 pub mod Judging
 pub mod Members
 pub mod Modes
+pub mod Readiness
 pub mod Reasons

@@ -7,13 +7,19 @@
 mod asked;
 mod claimed;
 mod claiming;
+mod coming;
 mod judging;
 mod member;
 mod mode;
+mod readiness;
 mod reason;
+mod unready;
 
 pub use asked::Asked;
 pub use claimed::Claimed;
+pub use coming::Coming;
 pub use member::Member;
 pub use mode::Mode;
+pub use readiness::Readiness;
 pub use reason::reason_of;
+pub use unready::Unready;

@@ -1,10 +1,12 @@
 ghost use Rattle.std.specs.Prelude.{◌≡◌, IfOk, OnErr, Bool};
-ghost use Rattle.svid_requests.specs.Tables.{at_moment, begun, came, come_deed, due, heard, heard_deed};
+ghost use Rattle.svid_requests.specs.Tables.{at_moment, begun, due};
 ghost use Rattle.svid_requests.specs.declared.event.Event.{Event};
-ghost use Rattle.svid_member.specs.Members.{Hears, member_of, with_requests};
+ghost use Rattle.svid_member.specs.Members.{Comes, Hears, with_readiness, with_requests};
 ghost use Rattle.svid_member.specs.Modes.{needs_of};
 
+use crate::coming::Coming;
 use crate::mode::Mode;
+use crate::readiness::Readiness;
 use std::alloc::{AllocError, Global};
 use std::marker::Model;
 use svid_requests::{Deed, Event, Requests};
@@ -18,6 +20,7 @@ pub struct Member {
     pub(crate) life: [u8; 16],
     pub(crate) ahead: u64,
     pub(crate) lasts: u64,
+    pub(crate) readiness: Readiness,
     pub(crate) requests: Requests,
 }
 
@@ -26,7 +29,7 @@ impl Model for Member {
 
     ghost Value = { MemberData };
 
-    ghost view = { λ m. record { mode = m.mode; life = m.life; ahead = m.ahead; lasts = m.lasts; requests = m.requests } };
+    ghost view = { λ m. record { mode = m.mode; life = m.life; ahead = m.ahead; lasts = m.lasts; readiness = m.readiness; requests = m.requests } };
 }
 
 impl Member {
@@ -43,26 +46,40 @@ impl Member {
         ahead: u64,
         lasts: u64,
         wait: u64,
+        readiness: Readiness,
     ) -> Member
-        ensures { result ≡ member_of mode life ahead lasts (begun (needs_of mode kept) wait) }
+        ensures { result ≡ record { mode = mode; life = life; ahead = ahead; lasts = lasts; readiness = readiness; requests = begun (needs_of mode kept) wait } }
     {
         Member {
             mode,
             life,
             ahead,
             lasts,
+            readiness,
             requests: Requests::new(alloc, mode.needs(kept), wait),
         }
     }
 
-    /// A request comes. Its number is that of the deed: it is to be judged. `Nothing` where no number is left.
+    /// What the member knows from now on. No request that is open changes.
+    pub fn know(&mut self, readiness: Readiness)
+        ensures { self.new ≡ with_readiness self.old readiness }
+    {
+        self.readiness = readiness;
+    }
+
+    /// A request comes. Where a reason says that no token is judged yet, nothing came. Else its number is that of the deed: it is to be judged, or
+    /// there is `Nothing` to do where no number is left.
     ///
     /// Where memory is refused, nothing came: the request is to be answered so.
-    pub fn come(&mut self, up: u64) -> Result<Deed, AllocError>
-        ensures ok { IfOk result (λ deed. (deed ≡ come_deed (at_moment self.old.requests up)) × (self.new ≡ with_requests self.old (came (at_moment self.old.requests up)))) }
+    pub fn come(&mut self, up: u64) -> Result<Coming, AllocError>
+        ensures ok { IfOk result (λ coming. Comes up self.old coming self.new) }
         ensures err { OnErr result (self.new ≡ with_requests self.old (at_moment self.old.requests up)) }
     {
-        self.requests.come(up)
+        if let Some(reason) = self.readiness.blocks(self.mode) {
+            return Ok(Coming::Waits(reason));
+        }
+        let deed = self.requests.come(up)?;
+        Ok(Coming::Comes(deed))
     }
 
     /// The use of the request of this number is on the disk, or it could not be brought there.

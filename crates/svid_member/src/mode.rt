@@ -1,4 +1,5 @@
 ghost use Rattle.std.specs.Prelude.{◌≡◌};
+ghost use Rattle.svid_member.specs.Readiness.{hears_by_claims, keeps_first};
 ghost use Rattle.svid_member.specs.Modes.{adds_at_judgment, adds_at_claim, is_bound, needs_of};
 
 use svid_requests::Needs;
@@ -54,6 +55,26 @@ impl Mode {
     {
         match self {
             Mode::Bound => true,
+            _ => false,
+        }
+    }
+
+    // Whether a claim of a token tells that it was withdrawn, so that nobody reads the list.
+    pub(crate) fn hears_by_claims(self) -> bool
+        ensures { result ≡ hears_by_claims self }
+    {
+        match self {
+            Mode::Strict => true,
+            _ => false,
+        }
+    }
+
+    // Whether an acceptance is on the disk before it is answered.
+    pub(crate) fn keeps_first(self) -> bool
+        ensures { result ≡ keeps_first self }
+    {
+        match self {
+            Mode::Once => true,
             _ => false,
         }
     }

@@ -1,0 +1,11 @@
+use crate::unready::Unready;
+use svid_requests::Deed;
+
+/// What becomes of a request that comes.
+#[derive(Clone, Copy, Debug, PartialEq, Eq)]
+pub enum Coming {
+    /// It is there, and this is to be done.
+    Comes(Deed),
+    /// No token is judged, for this reason.
+    Waits(Unready),
+}
