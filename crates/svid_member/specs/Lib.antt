@@ -4,3 +4,4 @@ pub mod Members
 pub mod Modes
 pub mod Readiness
 pub mod Reasons
+pub mod Withdrawals
