@@ -1,5 +1,5 @@
 -- A member: how it accepts tokens, and its requests.
-use Rattle.std.specs.Prelude.{◌≡◌, ℕ, Bool, List, Option, Some, None}
+use Rattle.std.specs.Prelude.{◌≡◌, ℕ, Bool, not, List, Option, Some, None}
 use Rattle.svid_member.specs.declared.mode.Mode.{Mode}
 use Rattle.svid_member.specs.declared.coming.Coming.{Coming}
 use Rattle.svid_member.specs.declared.coming.Coming.TheVariants.{Comes as Arrives, Waits}
@@ -27,6 +27,26 @@ with_requests m s = record { mode = m.mode; life = m.life; ahead = m.ahead; last
 -- the same member, which knows this
 abbrev pub with_readiness : MemberData → Known → MemberData
 with_readiness m r = record { mode = m.mode; life = m.life; ahead = m.ahead; lasts = m.lasts; readiness = r; requests = m.requests }
+
+-- the same member, whose state folder took the last use, or did not
+abbrev pub knows_kept : Bool → Known → Known
+knows_kept ok r = record {
+  bundled = r.bundled;
+  loaded = r.loaded;
+  opened = r.opened;
+  heard = r.heard;
+  joined = r.joined;
+  caught_up = r.caught_up;
+  draining = r.draining;
+  jumped = r.jumped;
+  unkept = not ok;
+  away = r.away;
+  deaf = r.deaf;
+  ended = r.ended;
+}
+
+abbrev pub with_kept : Bool → MemberData → MemberData
+with_kept ok m = with_readiness m (knows_kept ok m.readiness)
 
 -- a request comes at a moment, unless a reason speaks against it
 abbrev pub ComesBy : ℕ → Option Reason → MemberData → Coming → MemberData → Type 0

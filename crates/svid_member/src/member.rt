@@ -1,12 +1,14 @@
 ghost use Rattle.std.specs.Prelude.{◌≡◌, IfOk, OnErr, Bool};
 ghost use Rattle.svid_requests.specs.Tables.{at_moment, begun, due};
 ghost use Rattle.svid_requests.specs.declared.event.Event.{Event};
-ghost use Rattle.svid_member.specs.Members.{Comes, Hears, with_readiness, with_requests};
+ghost use Rattle.svid_member.specs.Members.{Comes, Hears, with_kept, with_readiness, with_requests};
 ghost use Rattle.svid_member.specs.Modes.{needs_of};
+ghost use Rattle.svid_member.specs.Readiness.{doubts};
 
 use crate::coming::Coming;
 use crate::mode::Mode;
 use crate::readiness::Readiness;
+use crate::unready::Unready;
 use std::alloc::{AllocError, Global};
 use std::marker::Model;
 use svid_requests::{Deed, Event, Requests};
@@ -82,10 +84,12 @@ impl Member {
         Ok(Coming::Comes(deed))
     }
 
-    /// The use of the request of this number is on the disk, or it could not be brought there.
+    /// The use of the request of this number is on the disk, or it could not be brought there. In mode `Once` the member is not ready while the last
+    /// one could not.
     pub fn wrote(&mut self, up: u64, number: u64, ok: bool) -> Deed
-        ensures { Hears up (Event.Wrote number ok) self.old result self.new }
+        ensures { Hears up (Event.Wrote number ok) (with_kept ok self.old) result self.new }
     {
+        self.readiness.unkept = !ok;
         self.requests.hear(up, &Event::Wrote(number, ok))
     }
 
@@ -108,6 +112,13 @@ impl Member {
         ensures { Hears up Event.Overdue self.old result self.new }
     {
         self.requests.hear(up, &Event::Overdue)
+    }
+
+    /// Why no tokens are to be sent to the member, if none are.
+    pub fn doubts(&self) -> Option<Unready>
+        ensures { result ≡ doubts self.now.readiness self.now.mode }
+    {
+        self.readiness.doubts(self.mode)
     }
 
     /// When the request that came first is due, by the clock of `up`.
