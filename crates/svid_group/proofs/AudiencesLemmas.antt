@@ -1,0 +1,100 @@
+-- A validator that gets other audiences is the same one in all else, and so is a new one that takes its record and reads on.
+use Rattle.std.proofs.Common.{◌≡◌, ◌<◌, ℕ, Bool, true, false, nat_lt, List, [], Option, None, Some, refl, sym, ap, ◌∙◌, subst, inl, inr}
+use Rattle.std.specs.Prelude.{IsTrue}
+use Rattle.std.proofs.lemmas.Bool.{ltb-true}
+use Rattle.svid_replay.specs.declared.token_use.Use.{Use}
+use Rattle.svid_replay.specs.Batches.{BatchData}
+use Rattle.svid_replay.specs.Parts.{join_all}
+use Rattle.svid_replay.specs.Records.{State, state_of}
+use Rattle.svid_replay.specs.Sets.{holds}
+use Rattle.svid_replay.specs.Uses.{Uses}
+use Rattle.svid_replay.proofs.UsesLemmas.{same_uses}
+use Rattle.svid_check.specs.Runs.{Terms}
+use Rattle.svid_check.specs.Setting.{Renewal, Setting, renewed}
+use Rattle.svid_check.specs.World as check
+use Rattle.svid_check.specs.World.{Member, Renew, setting_at}
+use Rattle.svid_check.proofs.IndexesLemmas.{put_own}
+use Rattle.svid_check.proofs.LaterLemmas.{saves_add_nothing, saves_lose_nothing}
+use Rattle.svid_check.proofs.MembersLemmas.{IsTold}
+use Rattle.svid_check.proofs.RestartsLemmas.{restart_absorbs}
+use Rattle.svid_log.specs.Calls.{IsMember}
+use Rattle.svid_log.specs.Groups as log
+use Rattle.svid_log.specs.Members.{MemberState}
+use Rattle.svid_log.specs.Steps.{AreSound}
+use Rattle.svid_log.proofs.SavesLemmas.{saves_put_back}
+use Rattle.svid_group.specs.Audiences.{AudiencesAlone, Carry, SuccessorsGoOn, reads_on, readdress, taken_over, with_own}
+use Rattle.svid_group.specs.World.{World, happen, happens, reader, reader_at, start}
+use Rattle.svid_group.proofs.ChangesLemmas.{event_changes}
+use Rattle.svid_group.proofs.ReadersLemmas.{lives}
+use Rattle.svid_group.proofs.StandsLemmas.{is_whole}
+
+-- a renewal of a setting with its own bundles and verifier gives it other audiences
+other_own : (s : Setting) (before : Option Renewal) (own : List (List ℕ)) → renewed s (Some (record { own = own; bundles = (renewed s before).bundles; says = (renewed s before).says })) ≡ with_own (renewed s before) own
+other_own s None own = refl
+other_own s (Some r) own = refl
+
+pub audiences_alone : AudiencesAlone
+audiences_alone group w v own =
+    let s = setting_at group w.group v in
+    let x = w.group.members v in
+    let r : Renewal = record { own = own; bundles = s.bundles; says = s.says } in
+    let is = put_own w.group v (check.with_renewal x (Some r)) in
+    record {
+      setting = ap (λ (m : Member). renewed (group v).setting m.renewal) is ∙ other_own (group v).setting x.renewal own;
+      reader = ap (λ (m : Member). reader m (w.asides v)) is;
+      told = ap (λ (m : Member). m.told) is;
+      noted = ap (λ (m : Member). m.log) is;
+      others = (event_changes group w.group (Renew v r)).others;
+      asides = refl;
+      log = refl;
+      pool = refl;
+      saves = (refl, refl);
+    }
+
+-- The record.
+
+same_tests : (a b : Bool) → (a ≡ true → b ≡ true) → (b ≡ true → a ≡ true) → a ≡ b
+same_tests true b k l = sym (k refl)
+same_tests false true k l = l refl
+same_tests false false k l = refl
+
+state_at : ℕ → Uses → State
+state_at moment uses = record { moment = moment; uses = uses }
+
+same_state : (a b : State) → a.moment ≡ b.moment → a.uses ≡ b.uses → a ≡ b
+same_state a b moment uses = ap (λ n. state_at n a.uses) moment ∙ ap (state_at b.moment) uses
+
+-- whoever takes batches that carry a record has that record
+carried_whole : (x : Member) → IsTold x → (batches : List BatchData) → Carry batches x.held → taken_over batches ≡ x.held
+carried_whole x told batches (inl parts) = ap (join_all (state_of 0 [])) parts ∙ restart_absorbs x told
+carried_whole x told batches (inr saved) =
+    let s = taken_over batches in
+    let adds = saves_add_nothing x.held x.held batches saved in
+    same_state s x.held adds.0 (same_uses s.uses x.held.uses (λ u.
+    same_tests (holds s.uses u) (holds x.held.uses u) (adds.1 u)
+    (λ h. saves_lose_nothing x.held x.held batches u saved h (ltb-true x.held.moment u.exp (lives x told u h)))))
+
+-- The position in the log.
+
+goes_on_there : (values : List (List Use)) (m : MemberState) (x y : State) (r : log.Reader) → AreSound m.beside → y ≡ x → IsMember values m x r → IsMember values (reads_on m) y r
+goes_on_there values m x y r sound same is = record {
+  held = is.held ∙ sym same;
+  beside = is.beside ∙ sym (saves_put_back m.beside sound).2;
+  read = is.read;
+  ready = is.ready;
+  deaf = is.deaf;
+  begun = is.begun;
+}
+
+pub successors_go_on : SuccessorsGoOn
+successors_go_on group events v own batches carry =
+    let w = happen group start events in
+    let z = happens group w (readdress group w v own) in
+    let x = w.group.members v in
+    let alone = audiences_alone group w v own in
+    let whole = carried_whole x ((is_whole group events).sound.members v).is_told batches carry in (
+      ap (λ (r : log.Reader). r.held) alone.reader ∙ sym whole,
+      λ values m sound is.
+          subst (λ (r : log.Reader). IsMember values (reads_on m) (taken_over batches) r) (sym alone.reader)
+          (goes_on_there values m x.held (taken_over batches) (reader_at w v) sound whole is),
+    )
