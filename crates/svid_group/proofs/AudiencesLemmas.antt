@@ -58,7 +58,7 @@ same_tests true b k l = sym (k refl)
 same_tests false true k l = l refl
 same_tests false false k l = refl
 
-state_at : ℕ → Uses → State
+abbrev state_at : ℕ → Uses → State
 state_at moment uses = record { moment = moment; uses = uses }
 
 same_state : (a b : State) → a.moment ≡ b.moment → a.uses ≡ b.uses → a ≡ b
