@@ -1,20 +1,25 @@
 -- A validator that gets other audiences is the same one in all else, and so is a new one that takes its record and reads on.
-use Rattle.std.proofs.Common.{◌≡◌, ◌<◌, ℕ, Bool, true, false, nat_lt, List, [], Option, None, Some, refl, sym, ap, ◌∙◌, subst, inl, inr}
+use Rattle.std.proofs.Common.{◌≡◌, ◌<◌, ◌≤◌, ℕ, Bool, true, false, nat_lt, List, [], ◌∷◌, Option, None, Some, refl, sym, ap, ◌∙◌, subst, inl, inr, arith}
 use Rattle.std.specs.Prelude.{IsTrue}
+use Rattle.std.specs.List.{AllByRecursion}
 use Rattle.std.proofs.lemmas.Bool.{ltb-true}
+use Rattle.std.proofs.lemmas.List.Elements.{recursion_from_All}
 use Rattle.svid_replay.specs.declared.token_use.Use.{Use}
-use Rattle.svid_replay.specs.Batches.{BatchData}
-use Rattle.svid_replay.specs.Parts.{join_all}
+use Rattle.svid_replay.specs.Batches.{BatchData, last_of}
+use Rattle.svid_replay.specs.Parts.{join_all, parts_of}
 use Rattle.svid_replay.specs.Records.{State, state_of}
-use Rattle.svid_replay.specs.Sets.{holds}
+use Rattle.svid_replay.specs.Sets.{holds, rising}
 use Rattle.svid_replay.specs.Uses.{Uses}
+use Rattle.svid_replay.proofs.ListLemmas.{each_weaker}
+use Rattle.svid_replay.proofs.PartsLemmas.{cut_gives_parts}
 use Rattle.svid_replay.proofs.UsesLemmas.{same_uses}
 use Rattle.svid_check.specs.Runs.{Terms}
+use Rattle.svid_check.specs.Saves.{IsSaved}
 use Rattle.svid_check.specs.Setting.{Renewal, Setting, renewed}
 use Rattle.svid_check.specs.World as check
 use Rattle.svid_check.specs.World.{Member, Renew, setting_at}
 use Rattle.svid_check.proofs.IndexesLemmas.{put_own}
-use Rattle.svid_check.proofs.LaterLemmas.{saves_add_nothing, saves_lose_nothing}
+use Rattle.svid_check.proofs.LaterLemmas.{raised_first, saves_add_nothing, saves_lose_nothing}
 use Rattle.svid_check.proofs.MembersLemmas.{IsTold}
 use Rattle.svid_check.proofs.RestartsLemmas.{restart_absorbs}
 use Rattle.svid_log.specs.Calls.{IsMember}
@@ -22,7 +27,7 @@ use Rattle.svid_log.specs.Groups as log
 use Rattle.svid_log.specs.Members.{MemberState}
 use Rattle.svid_log.specs.Steps.{AreSound}
 use Rattle.svid_log.proofs.SavesLemmas.{saves_put_back}
-use Rattle.svid_group.specs.Audiences.{AudiencesAlone, Carry, SuccessorsGoOn, reads_on, readdress, taken_over, with_own}
+use Rattle.svid_group.specs.Audiences.{AudiencesAlone, Carry, SuccessorsGoOn, TakesEach, reads_on, readdress, with_own}
 use Rattle.svid_group.specs.World.{World, happen, happens, reader, reader_at, start}
 use Rattle.svid_group.proofs.ChangesLemmas.{event_changes}
 use Rattle.svid_group.proofs.ReadersLemmas.{lives}
@@ -58,21 +63,40 @@ same_tests true b k l = sym (k refl)
 same_tests false true k l = l refl
 same_tests false false k l = refl
 
-abbrev state_at : ℕ → Uses → State
-state_at moment uses = record { moment = moment; uses = uses }
-
 same_state : (a b : State) → a.moment ≡ b.moment → a.uses ≡ b.uses → a ≡ b
-same_state a b moment uses = ap (λ n. state_at n a.uses) moment ∙ ap (state_at b.moment) uses
+same_state a b moment uses = λ i. record { moment = moment i; uses = uses i }
 
--- whoever takes batches that carry a record has that record
-carried_whole : (x : Member) → IsTold x → (batches : List BatchData) → Carry batches x.held → taken_over batches ≡ x.held
+-- batches that carry a record give that record
+carried_whole : (x : Member) → IsTold x → (batches : List BatchData) → Carry batches x.held → join_all (state_of 0 []) batches ≡ x.held
 carried_whole x told batches (inl parts) = ap (join_all (state_of 0 [])) parts ∙ restart_absorbs x told
 carried_whole x told batches (inr saved) =
-    let s = taken_over batches in
+    let s = join_all (state_of 0 []) batches in
     let adds = saves_add_nothing x.held x.held batches saved in
     same_state s x.held adds.0 (same_uses s.uses x.held.uses (λ u.
     same_tests (holds s.uses u) (holds x.held.uses u) (adds.1 u)
     (λ h. saves_lose_nothing x.held x.held batches u saved h (ltb-true x.held.moment u.exp (lives x told u h)))))
+
+-- each piece of a record is of its moment, or of a later one
+pieces_late : (now : ℕ) (a z : State) (before : Option Use) (batches : List BatchData) → now ≤ a.moment → IsSaved a before batches z → AllByRecursion (λ b. now ≤ b.moment) batches
+pieces_late now a z before [] le saved = tt
+pieces_late now a z before (b ∷ []) le saved = (subst (λ (c : BatchData). now ≤ c.moment) (sym saved.1) le, tt)
+pieces_late now a z before (b ∷ c ∷ more) le saved = (
+  subst (λ (d : BatchData). now ≤ d.moment) (sym saved.2) le,
+  pieces_late now saved.1 z (last_of before b.uses) (c ∷ more) (let up = saved.3.moment in omega (arith, le, up)) saved.4,
+)
+
+carried_late : (now : ℕ) (x : State) (batches : List BatchData) → now ≤ x.moment → Carry batches x → AllByRecursion (λ b. now ≤ b.moment) batches
+carried_late now x batches le (inl parts) =
+    subst (AllByRecursion (λ b. now ≤ b.moment)) (sym parts)
+    (each_weaker (λ b. b.moment ≡ x.moment) (λ b. now ≤ b.moment) (λ b same. subst (λ n. now ≤ n) (sym same) le) (parts_of x)
+    (recursion_from_All (λ (b : BatchData). b.moment ≡ x.moment) (parts_of x) (cut_gives_parts x.moment (rising x.uses)).moments))
+carried_late now x batches le (inr saved) = pieces_late now x x None batches le saved
+
+-- to take batches is to join them
+takes_join : (now far : ℕ) (x y : State) (batches : List BatchData) → AllByRecursion (λ b. now ≤ b.moment) batches → TakesEach now far x batches y → y ≡ join_all x batches
+takes_join now far x y [] late is = is
+takes_join now far x y (b ∷ batches) late is =
+    takes_join now far is.0 y batches late.1 is.2 ∙ ap (λ (r : State). join_all r batches) (is.1.1 ∙ raised_first x now b late.0)
 
 -- The position in the log.
 
@@ -87,14 +111,16 @@ goes_on_there values m x y r sound same is = record {
 }
 
 pub successors_go_on : SuccessorsGoOn
-successors_go_on group events v own batches carry =
+successors_go_on group events v own batches now far y carry le takes =
     let w = happen group start events in
     let z = happens group w (readdress group w v own) in
     let x = w.group.members v in
     let alone = audiences_alone group w v own in
-    let whole = carried_whole x ((is_whole group events).sound.members v).is_told batches carry in (
+    let whole : y ≡ x.held =
+    takes_join now far (state_of 0 []) y batches (carried_late now x.held batches le carry) takes
+    ∙ carried_whole x ((is_whole group events).sound.members v).is_told batches carry in (
       ap (λ (r : log.Reader). r.held) alone.reader ∙ sym whole,
       λ values m sound is.
-          subst (λ (r : log.Reader). IsMember values (reads_on m) (taken_over batches) r) (sym alone.reader)
-          (goes_on_there values m x.held (taken_over batches) (reader_at w v) sound whole is),
+          subst (λ (r : log.Reader). IsMember values (reads_on m) y r) (sym alone.reader)
+          (goes_on_there values m x.held y (reader_at w v) sound whole is),
     )

@@ -1,9 +1,11 @@
 -- A validator gets other audiences, as an event of a group.
-use Rattle.std.specs.Prelude.{◌≡◌, ◌≢◌, ◌⊎◌, ℕ, List, [], Option, None}
+use Rattle.std.specs.Prelude.{◌≡◌, ◌≢◌, ◌⊎◌, ℕ, ◌≤◌, List, [], ◌∷◌, Option, None, Ok}
 use Rattle.svid_replay.specs.declared.token_use.Use.{Use}
 use Rattle.svid_replay.specs.Batches.{BatchData}
-use Rattle.svid_replay.specs.Parts.{join_all, parts_of}
+use Rattle.svid_replay.specs.Buckets.{raised_to}
+use Rattle.svid_replay.specs.Parts.{parts_of}
 use Rattle.svid_replay.specs.Records.{State, state_of}
+use Rattle.svid_check.specs.Changes.{Takes}
 use Rattle.svid_check.specs.Runs.{Terms}
 use Rattle.svid_check.specs.Saves.{IsSaved}
 use Rattle.svid_check.specs.Setting.{Setting}
@@ -44,20 +46,21 @@ AudiencesAlone = (group : ℕ → Terms) (w : World) (v : ℕ) (own : List (List
 abbrev pub Carry : List BatchData → State → Type 0
 Carry batches x = (batches ≡ parts_of x) ⊎ IsSaved x None batches x
 
--- the record of a new validator that takes these
-abbrev pub taken_over : List BatchData → State
-taken_over batches = join_all (state_of 0 []) batches
+-- a validator takes these one after the other at a time, and answers of each that it is taken: from this record to that one
+abbrev pub TakesEach : (now far : ℕ) → State → List BatchData → State → Type 0
+TakesEach now far x [] y = y ≡ x
+TakesEach now far x (b ∷ batches) y = (next : State) × Takes (raised_to x now) far b (Ok tt) next × TakesEach now far next batches y
 
 -- a member that reads on from where another one is, with the uses beside its record, and behind as many earlier lives
 abbrev pub reads_on : MemberState → MemberState
 reads_on m = restored m.validator_id m.lasts (mark_of m) m.ready (uses_in (saved_of m.beside))
 
--- so a new validator with other audiences that takes the record of validator v, and reads on where v is, is v after that event
+-- so a new validator with other audiences that takes the record of validator v, at no later time than v has seen, and reads on where v is, is v after that event
 abbrev pub SuccessorsGoOn : Type 0
-SuccessorsGoOn = (group : ℕ → Terms) (events : List Event) (v : ℕ) (own : List (List ℕ)) (batches : List BatchData)
+SuccessorsGoOn = (group : ℕ → Terms) (events : List Event) (v : ℕ) (own : List (List ℕ)) (batches : List BatchData) (now far : ℕ) (y : State)
     → let w = happen group start events in
     let z = happens group w (readdress group w v own) in
     let x = (w.group.members v).held in
-    Carry batches x
-    → ((z.group.members v).held ≡ taken_over batches)
-    × ((values : List (List Use)) (m : MemberState) → AreSound m.beside → IsMember values m x (reader_at w v) → IsMember values (reads_on m) (taken_over batches) (reader_at z v))
+    Carry batches x → now ≤ x.moment → TakesEach now far (state_of 0 []) batches y
+    → ((z.group.members v).held ≡ y)
+    × ((values : List (List Use)) (m : MemberState) → AreSound m.beside → IsMember values m x (reader_at w v) → IsMember values (reads_on m) y (reader_at z v))
