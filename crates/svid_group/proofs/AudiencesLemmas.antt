@@ -1,6 +1,5 @@
 -- A validator that gets other audiences is the same one in all else, and so is a new one that takes its record and reads on.
-use Rattle.std.proofs.Common.{◌≡◌, ◌<◌, ◌≤◌, ℕ, Bool, true, false, nat_lt, List, [], ◌∷◌, Option, None, Some, refl, sym, ap, ◌∙◌, subst, inl, inr, arith}
-use Rattle.std.specs.Prelude.{IsTrue}
+use Rattle.std.proofs.Common.{◌≡◌, ◌≤◌, ℕ, Bool, true, false, List, [], ◌∷◌, Option, None, Some, refl, sym, ap, ◌∙◌, subst, inl, inr, arith}
 use Rattle.std.specs.List.{AllByRecursion}
 use Rattle.std.proofs.lemmas.Bool.{ltb-true}
 use Rattle.std.proofs.lemmas.List.Elements.{recursion_from_All}
@@ -9,11 +8,9 @@ use Rattle.svid_replay.specs.Batches.{BatchData, last_of}
 use Rattle.svid_replay.specs.Parts.{join_all, parts_of}
 use Rattle.svid_replay.specs.Records.{State, state_of}
 use Rattle.svid_replay.specs.Sets.{holds, rising}
-use Rattle.svid_replay.specs.Uses.{Uses}
 use Rattle.svid_replay.proofs.ListLemmas.{each_weaker}
 use Rattle.svid_replay.proofs.PartsLemmas.{cut_gives_parts}
 use Rattle.svid_replay.proofs.UsesLemmas.{same_uses}
-use Rattle.svid_check.specs.Runs.{Terms}
 use Rattle.svid_check.specs.Saves.{IsSaved}
 use Rattle.svid_check.specs.Setting.{Renewal, Setting, renewed}
 use Rattle.svid_check.specs.World as check
@@ -28,7 +25,7 @@ use Rattle.svid_log.specs.Members.{MemberState}
 use Rattle.svid_log.specs.Steps.{AreSound}
 use Rattle.svid_log.proofs.SavesLemmas.{saves_put_back}
 use Rattle.svid_group.specs.Audiences.{AudiencesAlone, Carry, SuccessorsGoOn, TakesEach, reads_on, readdress, with_own}
-use Rattle.svid_group.specs.World.{World, happen, happens, reader, reader_at, start}
+use Rattle.svid_group.specs.World.{happen, happens, reader, reader_at, start}
 use Rattle.svid_group.proofs.ChangesLemmas.{event_changes}
 use Rattle.svid_group.proofs.ReadersLemmas.{lives}
 use Rattle.svid_group.proofs.StandsLemmas.{is_whole}

@@ -1,5 +1,5 @@
 -- A validator gets other audiences, as an event of a group.
-use Rattle.std.specs.Prelude.{◌≡◌, ◌≢◌, ◌⊎◌, ℕ, ◌≤◌, List, [], ◌∷◌, Option, None, Ok}
+use Rattle.std.specs.Prelude.{◌≡◌, ◌≢◌, ◌⊎◌, ℕ, ◌≤◌, List, [], ◌∷◌, None, Ok}
 use Rattle.svid_replay.specs.declared.token_use.Use.{Use}
 use Rattle.svid_replay.specs.Batches.{BatchData}
 use Rattle.svid_replay.specs.Buckets.{raised_to}
@@ -9,7 +9,6 @@ use Rattle.svid_check.specs.Changes.{Takes}
 use Rattle.svid_check.specs.Runs.{Terms}
 use Rattle.svid_check.specs.Saves.{IsSaved}
 use Rattle.svid_check.specs.Setting.{Setting}
-use Rattle.svid_check.specs.World as check
 use Rattle.svid_check.specs.World.{Renew, setting_at}
 use Rattle.svid_log.specs.Calls.{IsMember}
 use Rattle.svid_log.specs.Members.{MemberState}
@@ -42,7 +41,7 @@ pub record IsReaddressed (group : ℕ → Terms) (w : World) (v : ℕ) (own : Li
 abbrev pub AudiencesAlone : Type 0
 AudiencesAlone = (group : ℕ → Terms) (w : World) (v : ℕ) (own : List (List ℕ)) → IsReaddressed group w v own (happens group w (readdress group w v own))
 
--- these batches carry a record: they are its parts, or pieces of it, between which nothing happened to it
+-- these batches carry a record: they are its parts, or pieces of it, and it is the same after the last piece as before the first
 abbrev pub Carry : List BatchData → State → Type 0
 Carry batches x = (batches ≡ parts_of x) ⊎ IsSaved x None batches x
 
