@@ -1,5 +1,6 @@
 -- A validator that gets other audiences is the same one in all else, and so is a new one that takes its record and reads on.
-use Rattle.std.proofs.Common.{◌≡◌, ◌≤◌, ℕ, Bool, true, false, List, [], ◌∷◌, Option, None, Some, refl, sym, ap, ◌∙◌, subst, inl, inr, arith}
+use Rattle.std.proofs.Common.{◌≡◌, ◌<◌, ◌≤◌, ℕ, Bool, true, false, List, [], ◌∷◌, Option, None, Some, refl, sym, ap, ◌∙◌, subst, inl, inr, arith}
+use Rattle.std.specs.Prelude.{IsTrue}
 use Rattle.std.specs.List.{AllByRecursion}
 use Rattle.std.proofs.lemmas.Bool.{ltb-true}
 use Rattle.std.proofs.lemmas.List.Elements.{recursion_from_All}
@@ -9,7 +10,7 @@ use Rattle.svid_replay.specs.Parts.{join_all, parts_of}
 use Rattle.svid_replay.specs.Records.{State, state_of}
 use Rattle.svid_replay.specs.Sets.{holds, rising}
 use Rattle.svid_replay.proofs.ListLemmas.{each_weaker}
-use Rattle.svid_replay.proofs.PartsLemmas.{cut_gives_parts}
+use Rattle.svid_replay.proofs.PartsLemmas.{cut_gives_parts, parts_give_record}
 use Rattle.svid_replay.proofs.UsesLemmas.{same_uses}
 use Rattle.svid_check.specs.Saves.{IsSaved}
 use Rattle.svid_check.specs.Setting.{Renewal, Setting, renewed}
@@ -24,7 +25,7 @@ use Rattle.svid_log.specs.Groups as log
 use Rattle.svid_log.specs.Members.{MemberState}
 use Rattle.svid_log.specs.Steps.{AreSound}
 use Rattle.svid_log.proofs.SavesLemmas.{saves_put_back}
-use Rattle.svid_group.specs.Audiences.{AudiencesAlone, Carry, SuccessorsGoOn, TakesEach, reads_on, readdress, with_own}
+use Rattle.svid_group.specs.Audiences.{AudiencesAlone, Carry, RecordsAreTakenOver, SuccessorsGoOn, TakesEach, reads_on, readdress, with_own}
 use Rattle.svid_group.specs.World.{happen, happens, reader, reader_at, start}
 use Rattle.svid_group.proofs.ChangesLemmas.{event_changes}
 use Rattle.svid_group.proofs.ReadersLemmas.{lives}
@@ -63,15 +64,19 @@ same_tests false false k l = refl
 same_state : (a b : State) → a.moment ≡ b.moment → a.uses ≡ b.uses → a ≡ b
 same_state a b moment uses = λ i. record { moment = moment i; uses = uses i }
 
--- batches that carry a record give that record
-carried_whole : (x : Member) → IsTold x → (batches : List BatchData) → Carry batches x.held → join_all (state_of 0 []) batches ≡ x.held
-carried_whole x told batches (inl parts) = ap (join_all (state_of 0 [])) parts ∙ restart_absorbs x told
-carried_whole x told batches (inr saved) =
+-- a record whose parts give it, and whose uses are live
+record IsLive (x : State) : Type 0 where
+  parts : join_all (state_of 0 []) (parts_of x) ≡ x
+  uses : (u : Use) → IsTrue (holds x.uses u) → x.moment < u.exp
+
+-- batches that carry such a record give it
+carried_whole : (x : State) → IsLive x → (batches : List BatchData) → Carry batches x → join_all (state_of 0 []) batches ≡ x
+carried_whole x live batches (inl parts) = ap (join_all (state_of 0 [])) parts ∙ live.parts
+carried_whole x live batches (inr saved) =
     let s = join_all (state_of 0 []) batches in
-    let adds = saves_add_nothing x.held x.held batches saved in
-    same_state s x.held adds.0 (same_uses s.uses x.held.uses (λ u.
-    same_tests (holds s.uses u) (holds x.held.uses u) (adds.1 u)
-    (λ h. saves_lose_nothing x.held x.held batches u saved h (ltb-true x.held.moment u.exp (lives x told u h)))))
+    let adds = saves_add_nothing x x batches saved in
+    same_state s x adds.0
+    (same_uses s.uses x.uses (λ u. same_tests (holds s.uses u) (holds x.uses u) (adds.1 u) (λ h. saves_lose_nothing x x batches u saved h (live.uses u h))))
 
 -- each piece of a record is of its moment, or of a later one
 pieces_late : (now : ℕ) (a z : State) (before : Option Use) (batches : List BatchData) → now ≤ a.moment → IsSaved a before batches z → AllByRecursion (λ b. now ≤ b.moment) batches
@@ -95,6 +100,15 @@ takes_join now far x y [] late is = is
 takes_join now far x y (b ∷ batches) late is =
     takes_join now far is.0 y batches late.1 is.2 ∙ ap (λ (r : State). join_all r batches) (is.1.1 ∙ raised_first x now b late.0)
 
+takes_give : (x y : State) (batches : List BatchData) (now far : ℕ) → IsLive x → Carry batches x → now ≤ x.moment → TakesEach now far (state_of 0 []) batches y → y ≡ x
+takes_give x y batches now far live carry le takes = takes_join now far (state_of 0 []) y batches (carried_late now x batches le carry) takes ∙ carried_whole x live batches carry
+
+pub records_are_taken_over : RecordsAreTakenOver
+records_are_taken_over x y batches now far is = takes_give x y batches now far (record { parts = parts_give_record x is; uses = λ u h. (is.each u h).live })
+
+told_live : (x : Member) → IsTold x → IsLive x.held
+told_live x told = record { parts = restart_absorbs x told; uses = λ u h. ltb-true x.held.moment u.exp (lives x told u h) }
+
 -- The position in the log.
 
 goes_on_there : (values : List (List Use)) (m : MemberState) (x y : State) (r : log.Reader) → AreSound m.beside → y ≡ x → IsMember values m x r → IsMember values (reads_on m) y r
@@ -113,9 +127,7 @@ successors_go_on group events v own batches now far y carry le takes =
     let z = happens group w (readdress group w v own) in
     let x = w.group.members v in
     let alone = audiences_alone group w v own in
-    let whole : y ≡ x.held =
-    takes_join now far (state_of 0 []) y batches (carried_late now x.held batches le carry) takes
-    ∙ carried_whole x ((is_whole group events).sound.members v).is_told batches carry in (
+    let whole = takes_give x.held y batches now far (told_live x ((is_whole group events).sound.members v).is_told) carry le takes in (
       ap (λ (r : log.Reader). r.held) alone.reader ∙ sym whole,
       λ values m sound is.
           subst (λ (r : log.Reader). IsMember values (reads_on m) y r) (sym alone.reader)

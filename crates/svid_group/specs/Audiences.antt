@@ -4,7 +4,7 @@ use Rattle.svid_replay.specs.declared.token_use.Use.{Use}
 use Rattle.svid_replay.specs.Batches.{BatchData}
 use Rattle.svid_replay.specs.Buckets.{raised_to}
 use Rattle.svid_replay.specs.Parts.{parts_of}
-use Rattle.svid_replay.specs.Records.{State, state_of}
+use Rattle.svid_replay.specs.Records.{IsRecord, State, state_of}
 use Rattle.svid_check.specs.Changes.{Takes}
 use Rattle.svid_check.specs.Runs.{Terms}
 use Rattle.svid_check.specs.Saves.{IsSaved}
@@ -50,11 +50,15 @@ abbrev pub TakesEach : (now far : ℕ) → State → List BatchData → State �
 TakesEach now far x [] y = y ≡ x
 TakesEach now far x (b ∷ batches) y = (next : State) × Takes (raised_to x now) far b (Ok tt) next × TakesEach now far next batches y
 
+-- whatever record they carry, a new validator has it that takes them at no later time than the record has seen
+abbrev pub RecordsAreTakenOver : Type 0
+RecordsAreTakenOver = (x y : State) (batches : List BatchData) (now far : ℕ) → IsRecord x → Carry batches x → now ≤ x.moment → TakesEach now far (state_of 0 []) batches y → y ≡ x
+
 -- a member that reads on from where another one is, with the uses beside its record, and behind as many earlier lives
 abbrev pub reads_on : MemberState → MemberState
 reads_on m = restored m.validator_id m.lasts (mark_of m) m.ready (uses_in (saved_of m.beside))
 
--- so a new validator with other audiences that takes the record of validator v, at no later time than v has seen, and reads on where v is, is v after that event
+-- so a new validator with other audiences that takes the record of validator v, and reads on where v is, is v after that event
 abbrev pub SuccessorsGoOn : Type 0
 SuccessorsGoOn = (group : ℕ → Terms) (events : List Event) (v : ℕ) (own : List (List ℕ)) (batches : List BatchData) (now far : ℕ) (y : State)
     → let w = happen group start events in
