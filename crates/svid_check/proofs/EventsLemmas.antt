@@ -184,7 +184,7 @@ renewed_twice s (Some before) r = refl
 
 pub renewals_are_events : RenewalsAreEvents
 renewals_are_events group w v old new bundles same gives =
-    let r : Renewal = record { bundles = bundles; says = old.says } in
+    let r : Renewal = record { own = old.own; bundles = bundles; says = old.says } in
     let is = put_own w v (with_renewal (w.members v) (Some r)) in (
       gives ∙ ap (λ (s : Setting). renewed s (Some r)) same ∙ renewed_twice (group v).setting (w.members v).renewal r ∙ sym (ap (λ (m : Member). renewed (group v).setting m.renewal) is),
       ap (λ (m : Member). m.held) is,

@@ -119,7 +119,7 @@ PutsBackFrom n [] = Unit {0}
 PutsBackFrom n (Restart k ∷ more) = (n ≤ k) × PutsBackFrom n more
 PutsBackFrom n (_ ∷ more) = PutsBackFrom n more
 
--- from any state, once a check accepts a token, no later check accepts one of its signing input, whatever the renewals between, unless a save from before the acceptance is put back
+-- from any state, once a check accepts a token, no later check accepts one of its signing input, whatever audiences, bundles and verifiers it is given between, unless a save from before the acceptance is put back
 abbrev pub AcceptsOnce : Type 0
 AcceptsOnce = (t : Terms) (w : Alone) (now later : ℕ) (token again : List ℕ) (calls_between : List Call) (refused : Bool) (first second : Accepted)
     → answer_alone t w now token false ≡ Ok first

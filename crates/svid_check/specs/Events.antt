@@ -102,7 +102,7 @@ SumsAreEvents = (group : ℕ → Terms) (w : World) (v : ℕ) (summary : Summary
 -- where a validator has the setting of the group, it has that of the group too when its bundles were replaced; a renewal leaves its record, what it was told and its log
 abbrev pub RenewalsAreEvents : Type 0
 RenewalsAreEvents = (group : ℕ → Terms) (w : World) (v : ℕ) (old new : Setting) (bundles : List Bundle)
-    → let renewal : Renewal = record { bundles = bundles; says = old.says } in
+    → let renewal : Renewal = record { own = old.own; bundles = bundles; says = old.says } in
     let x = w.members v in
     let after = happens group w (Renew v renewal) in
     let y = after.members v in

@@ -21,15 +21,16 @@ pub record Setting : Type 0 where
   pub says : Says
   pub longest : Option ℕ
 
--- what a validator is given anew while it lives: its trust bundles, and what its verifier says
+-- what a validator is given anew while it lives: its audiences, its trust bundles, and what its verifier says
 pub record Renewal : Type 0 where
+  pub own : List (List ℕ)
   pub bundles : List Bundle
   pub says : Says
 
--- a setting as it is since the last renewal, if there was one: the audiences, the validator ID and the longest life stay for good
+-- a setting as it is since the last renewal, if there was one: the validator ID and the longest life stay for good
 abbrev pub renewed : Setting → Option Renewal → Setting
 renewed s None = s
-renewed s (Some r) = record { own = s.own; validator_id = s.validator_id; bundles = r.bundles; says = r.says; longest = s.longest }
+renewed s (Some r) = record { own = r.own; validator_id = s.validator_id; bundles = r.bundles; says = r.says; longest = s.longest }
 
 -- what a validator is to a contract; its verifier is a V
 pub record Held (V : Type 0) : Type 0 where

@@ -21,7 +21,7 @@ impl<V: Verifier, S: UseStore> Validator<V, S> {
         ensures state { self.new ≡ with_bundles self.old bundles }
         ensures before { result ≡ self.old.bundles }
         ensures renewed { setting_of V.says self.new
-            ≡ renewed (setting_of V.says self.old) (Some (record { bundles = bundles; says = V.says self.old.verifier })) }
+            ≡ renewed (setting_of V.says self.old) (Some (record { own = self.old.own; bundles = bundles; says = V.says self.old.verifier })) }
     {
         mem::replace(&mut self.given.bundles, bundles)
     }

@@ -1,3 +1,4 @@
+pub mod AudiencesLemmas
 pub mod ChangesLemmas
 pub mod HistoryLemmas
 pub mod LaterLemmas

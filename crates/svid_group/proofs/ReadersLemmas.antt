@@ -47,7 +47,7 @@ news_tests true false false k l = refl
 news_tests false had true k l = absurd (false≢true (k refl))
 news_tests false had false k l = refl
 
-lives : (y : Member) → IsTold y → (u : Use) → holds y.held.uses u ≡ true → nat_lt y.held.moment u.exp ≡ true
+pub lives : (y : Member) → IsTold y → (u : Use) → holds y.held.uses u ≡ true → nat_lt y.held.moment u.exp ≡ true
 lives y is u h =
     subst (λ (r : State). holds r.uses u ≡ true → nat_lt r.moment u.exp ≡ true) (sym is)
     (λ k. (and_parts (nat_lt y.told.greatest u.exp) (holds y.told.uses u) (sym (holds-live y.told.uses y.told.greatest u) ∙ k)).0) h

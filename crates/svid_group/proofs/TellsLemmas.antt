@@ -1,5 +1,5 @@
 -- What a read of the log tells a validator.
-use Rattle.std.proofs.Common.{◌≡◌, ◌⊎◌, ℕ, ◌<◌, ◌≤◌, max, Bool, true, false, ◌&&◌, ◌||◌, nat_lt, List, cond, IsTrue, Option, Some, None, refl, sym, ap, ◌∙◌, subst, inl, inr, if◌then◌else◌}
+use Rattle.std.proofs.Common.{◌≡◌, ◌⊎◌, ℕ, ◌<◌, Bool, true, false, ◌&&◌, nat_lt, List, IsTrue, Option, Some, refl, sym, ap, ◌∙◌, subst, inl, inr, if◌then◌else◌}
 use Rattle.std.specs.Prelude.{◌==◌, slice_get}
 use Rattle.std.specs.Ordering.{eq_by_cmp, is_eq}
 use Rattle.std.proofs.lemmas.Bool.{and_from, and_parts, cases_lt, cond-true, eq-eqb, false≢true, lt-ltb, ltb-true, or_cases, or_left}
@@ -13,20 +13,19 @@ use Rattle.svid_replay.specs.Uses.{Uses, has_use_of, has_withdrawal_of, live}
 use Rattle.svid_replay.proofs.UseLemmas.{use_total}
 use Rattle.svid_replay.proofs.UsesLemmas.{holds-live, with_holds_one_more}
 use Rattle.svid_check.specs.Runs.{Terms}
-use Rattle.svid_check.specs.Told.{Told, record_of, tell_now}
+use Rattle.svid_check.specs.Told.{record_of, tell_now}
 use Rattle.svid_check.specs.World as check
 use Rattle.svid_check.specs.World.{Member, gained, ticked}
 use Rattle.svid_check.proofs.RunsLemmas.{told_now}
 use Rattle.svid_log.specs.declared.fate.Fate.{Fate}
 use Rattle.svid_log.specs.declared.fate.Fate.TheVariants.{Accepted, First, Expired, TooFarAhead, Withdrawal, Withdrawn, Replayed}
 use Rattle.svid_log.specs.Groups as log
-use Rattle.svid_log.specs.Once.{AllGone}
-use Rattle.svid_log.specs.Steps.{counts, fate_at, fate_by, is_early, reached}
+use Rattle.svid_log.specs.Steps.{counts, fate_at, fate_by, is_early}
 use Rattle.svid_log.proofs.GroupsLemmas as groups
 use Rattle.svid_log.proofs.GroupsLemmas.{Stands, none_of_key, not_live}
 use Rattle.svid_log.proofs.StepsLemmas.{counts_from, first_by, first_from, held_is_used, live_is_held, live_is_live, same_use, unused_is_not_withdrawn, withdrawal_by}
 use Rattle.svid_group.specs.Tells.{IsToldGone, ReadsTellFirstClaims, ReadsTellNothingElse, ReadsTellWithdrawals, ReadsTimely, told_after}
-use Rattle.svid_group.specs.World.{Aside, Event, Read, World, as_readers, as_terms, gain_by, happen, happens, judges, passed, read_next, start, told_by}
+use Rattle.svid_group.specs.World.{Event, Read, World, as_terms, gain_by, happen, happens, judges, passed, read_next, start, told_by}
 use Rattle.svid_group.proofs.OnceLemmas.{carried, history}
 use Rattle.svid_group.proofs.ToldLemmas.{records_are_told}
 

@@ -1,3 +1,4 @@
+pub mod Audiences
 pub mod History
 pub mod Once
 pub mod Reads

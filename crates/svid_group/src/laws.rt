@@ -1,5 +1,6 @@
 //! Laws of a group that reads a log, carried by functions that compute nothing.
 
+ghost use Rattle.svid_group.specs.Audiences.{AudiencesAlone, RecordsAreTakenOver, SuccessorsGoOn};
 ghost use Rattle.svid_group.specs.History.{EveryKindHappens, OwnClaimIsAccepted};
 ghost use Rattle.svid_group.specs.Once.{AcceptedIsFirst, AcceptedIsHeld, AcceptedIsUnrefused, AcceptedOnce, LaterInLogIsPast, OneUseOfAKey, OnlyClaimIsAccepted, OwnIsAccepted, PositionIsAcceptedOnce};
 ghost use Rattle.svid_group.specs.Reads.{ReadsAreEvents};
@@ -118,6 +119,16 @@ pub fn accepted_claims_are_verdicts()
     ensures claims { ClaimsAreVerdicts }
     ensures judged { JudgedAreVerdicts }
     ensures renewed { RenewedAreVerdicts }
+{}
+
+/// A validator may get other audiences, by a renewal that leaves its bundles, its verifier, its record and all else as they are. So
+/// each law of this module speaks of such changes too, and a check asks for the audiences of its moment. A new validator that takes all
+/// parts of a record, or all pieces of it, has that record. If it has the new audiences, and reads the log on from where the old one is,
+/// it is what this event leaves.
+pub fn audiences_change_alone()
+    ensures alone { AudiencesAlone }
+    ensures records { RecordsAreTakenOver }
+    ensures successors { SuccessorsGoOn }
 {}
 
 /// Of one signing input a group accepts one claim at most, whoever made the claims, and however its tokens were judged.

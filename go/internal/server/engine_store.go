@@ -8,7 +8,7 @@ import (
 	"svid.example/go/v2/claims"
 )
 
-// UseStore lets the engine claim tokens at the group's store, which was opened. It reads the withdrawals that the store has.
+// UseStore lets the engine claim tokens at the group's store, which was opened. But for mode strict, it reads the withdrawals that the store has.
 func (e *Engine) UseStore(store claims.Store, state claims.State) {
 	e.store.Store(&reached{store})
 	e.step(StoreOpened{state})
@@ -44,7 +44,8 @@ const (
 	hearWithin = time.Second
 )
 
-// lookAtStore asks the store what it is, and reads the withdrawals that are new, by one goroutine at a time.
+// lookAtStore asks the store what it is, and reads the withdrawals that are new, by one goroutine at a time. In mode strict the claim of a
+// token tells that it was withdrawn.
 func (e *Engine) lookAtStore() {
 	store := e.store.Load()
 	if store == nil {
@@ -57,7 +58,9 @@ func (e *Engine) lookAtStore() {
 	state, err := store.State(ctx)
 	if err == nil {
 		e.step(Looked{state})
-		err = e.hearFromStore(store)
+		if e.Mode != Strict {
+			err = e.hearFromStore(store)
+		}
 	}
 	if e.life.Err() != nil {
 		return // It is the engine that ends.

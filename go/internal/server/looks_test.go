@@ -83,7 +83,9 @@ func TestOneLookAtTheStoreAtATime(t *testing.T) {
 // A member looks at a store that hangs well within the time for which others wait for it, however long a request may wait.
 func TestALookEndsBeforeOthersStopWaiting(t *testing.T) {
 	const quarantine = 3 * time.Second // of all stores
-	e := ready(t, engine(t, inStrict(Options{Wait: time.Minute})))
+	o := inStrict(Options{Wait: time.Minute})
+	o.Mode = Reuse
+	e := engine(t, o)
 	store := &watchedShop{shop: newShop()}
 	state, err := store.shop.Open(context.Background())
 	if err != nil {
@@ -101,7 +103,9 @@ func TestALookEndsBeforeOthersStopWaiting(t *testing.T) {
 
 // A store that has more withdrawals than one look can read is not away. The next look goes on where this one ended.
 func TestAStoreWithManyWithdrawalsIsNotAway(t *testing.T) {
-	e := ready(t, engine(t, inStrict(Options{Wait: 50 * time.Millisecond})))
+	o := inStrict(Options{Wait: 50 * time.Millisecond})
+	o.Mode = Reuse
+	e := engine(t, o)
 	store := &watchedShop{shop: newShop(), endless: true}
 	state, err := store.shop.Open(context.Background())
 	if err != nil {
@@ -117,6 +121,21 @@ func TestAStoreWithManyWithdrawalsIsNotAway(t *testing.T) {
 	}
 	if first == 0 || len(e.outlook.heard) <= first {
 		t.Errorf("%d and %d pages are read", first, len(e.outlook.heard))
+	}
+}
+
+// In mode strict a claim finds the withdrawal of its token, so nobody reads the list.
+func TestStrictReadsNoWithdrawals(t *testing.T) {
+	e := ready(t, engine(t, inStrict(Options{})))
+	store := &watchedShop{shop: newShop()}
+	state, err := store.shop.Open(context.Background())
+	if err != nil {
+		t.Fatal(err)
+	}
+	e.UseStore(store, state)
+	e.lookAhead()
+	if store.looks.Load() == 0 || store.withdrawals.Load() != 0 {
+		t.Errorf("%d looks, and withdrawals were read within %d", store.looks.Load(), store.withdrawals.Load())
 	}
 }
 
