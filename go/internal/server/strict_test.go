@@ -458,7 +458,7 @@ func TestWithdrawalsAreReadPageByPage(t *testing.T) {
 		t.Errorf("the record has %d withdrawals: %v", len(uses), err)
 	}
 	e.lookAhead()
-	if got := fmt.Sprint(pages.read); got != fmt.Sprint([]int{claims.MostWithdrawals, 5, 0}) {
+	if got := fmt.Sprint(pages.read); got != fmt.Sprint([]int{claims.MostWithdrawals, 5, 0, 0}) {
 		t.Errorf("pages of %s", got)
 	}
 }
