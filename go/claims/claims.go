@@ -78,9 +78,9 @@ type Store interface {
 	// it returns is Withdrawn, or the one whose claim stands there already: then the token was used. The error is nil once both are
 	// there to stay; else the same call may be made again.
 	Withdraw(ctx context.Context, w Withdrawal) (Owner, error)
-	// Withdrawals returns the withdrawals that came after a position, and the position of the last one. The first position is "".
-	// A position that the store does not know reads all again. It returns at most MostWithdrawals: the caller asks again at once where
-	// as many came.
+	// Withdrawals returns the withdrawals that came after a position, and the position up to which it has read. The first position is "".
+	// A position that the store does not know reads all again. It returns at most MostWithdrawals, and fewer where others have written what is
+	// none: the caller asks again until the position stays.
 	Withdrawals(ctx context.Context, after string) (these []Withdrawal, last string, err error)
 	// State asks what the store is now. It also does what is due: it removes entries that are over where the server doesn't, and
 	// ends the epoch where a loss shows.

@@ -534,10 +534,11 @@ func Withdrawals(t testing.TB, store claims.Store, after string) (all []claims.W
 		if len(these) > claims.MostWithdrawals {
 			t.Fatalf("%d at once", len(these))
 		}
-		all, after = append(all, these...), last
-		if len(these) < claims.MostWithdrawals {
+		all = append(all, these...)
+		if last == after {
 			return all, last
 		}
+		after = last
 	}
 }
 

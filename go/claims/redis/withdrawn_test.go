@@ -113,6 +113,12 @@ func TestGarbageInAList(t *testing.T) {
 	}
 	all, _ := claimstest.Withdrawals(t, a, "")
 	same(t, all, due)
+	s.do(t, "APPEND", list, strings.Repeat("z", mostPages*claims.MostWithdrawals*withdrawalLength+1)) // (one call does not read so much)
+	behind := withdrawal()
+	claimstest.Withdraw(t, a, behind)
+	due = append(due, behind)
+	all, _ = claimstest.Withdrawals(t, a, "")
+	same(t, all, due)
 	bad := withdrawalText(withdrawal())
 	bad[20]++
 	s.do(t, "APPEND", list, string(bad))

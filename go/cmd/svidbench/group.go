@@ -63,7 +63,7 @@ func startStore(dir, kind string) (*measuredStore, error) {
 		s := &measuredStore{kind, r.URL, r.Pid, r.Kill, func() (func(string) error, func(), error) { return setPeer(r.Address) }}
 		return s, firstError(r.Start(), awaitThat("redis", r.Answers))
 	case "postgres":
-		p, err := broker.NewPostgres(dir, "-c", "max_connections=1500")
+		p, err := broker.NewPostgres(dir, "-c", "max_connections=5000")
 		if err != nil {
 			return nil, err
 		}

@@ -16,6 +16,10 @@ const (
 	nextCall = 20 * time.Millisecond
 	// mostCalls is how many calls may be under way.
 	mostCalls = 64
+	// fullCall is how many claims go out at once beside a call that is under way, as long as fewCalls are: a call of so many costs no less for each
+	// claim if more wait for it.
+	fullCall = 32
+	fewCalls = 4
 	// firstRetry is the pause before claims without an answer are put again. It doubles up to lastRetry while nothing is answered.
 	firstRetry = 10 * time.Millisecond
 	lastRetry  = 250 * time.Millisecond
@@ -79,7 +83,7 @@ func (c *claimTable) begin(r *Request) {
 	c.gather = append(c.gather, r)
 }
 
-// next returns the requests whose claims are to go out now, in one call. Else due says when to ask again, where some wait.
+// next returns the requests whose claims are to go out now, in one call. Where it returns none, due says when to ask again, if some wait.
 func (c *claimTable) next(now time.Duration) (these []*Request) {
 	if c.retryAt <= now {
 		c.gather, c.again, c.retryAt = append(c.gather, c.again...), nil, never
@@ -87,7 +91,8 @@ func (c *claimTable) next(now time.Duration) (these []*Request) {
 	if c.due = never; len(c.gather) == 0 {
 		return nil
 	}
-	if c.calls > 0 && c.at+nextCall > now || c.calls >= mostCalls {
+	full := len(c.gather)-c.over >= fullCall && c.calls < fewCalls
+	if c.calls > 0 && c.at+nextCall > now && !full || c.calls >= mostCalls {
 		if c.calls < mostCalls {
 			c.due = c.at + nextCall
 		}
@@ -107,8 +112,6 @@ func (c *claimTable) next(now time.Duration) (these []*Request) {
 	}
 	if c.gather = c.gather[taken:]; len(c.gather) == 0 {
 		c.gather = nil
-	} else {
-		c.due = now + nextCall
 	}
 	return these
 }

@@ -89,7 +89,7 @@ func (e *Engine) hearFromStore(store claims.Store) error {
 			}
 			return err
 		}
-		h := &Heard{These: these, Whole: len(these) < claims.MostWithdrawals}
+		h := &Heard{These: these, Whole: last == e.outlook.heard}
 		if e.step(h); h.Err != nil {
 			return h.Err
 		}

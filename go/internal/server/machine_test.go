@@ -148,6 +148,34 @@ func TestAClaimWaitsForTheCallUnderWay(t *testing.T) {
 	}
 }
 
+// As many claims as fill a call do not wait for the call under way, as long as few calls are.
+func TestAFullCallGoesOutBesideOthers(t *testing.T) {
+	b := newBench(t)
+	b.asks("first")
+	for i := 0; i < (fewCalls+1)*fullCall; i++ {
+		b.asks(fmt.Sprint(i))
+		if want := 1 + min(fewCalls-1, (i+1)/fullCall); len(b.batches) != want {
+			t.Fatalf("%d claims wait, and %d calls go out; want %d", i+1, len(b.batches), want)
+		}
+	}
+	for i := 1; i < fewCalls; i++ {
+		if n := len(b.batches[i].Claims); n != fullCall {
+			t.Errorf("call %d has %d claims", i, n)
+		}
+	}
+	for i := 0; i < len(b.batches); i++ {
+		b.answers(i, nil)
+	}
+	b.want((fewCalls+1)*fullCall+1, 0, 0)
+}
+
+func min(a, b int) int {
+	if a < b {
+		return a
+	}
+	return b
+}
+
 // While calls have no answer, others go out beside them, and not more than so many.
 func TestCallsBesideEachOther(t *testing.T) {
 	b := newBench(t)
@@ -349,16 +377,23 @@ func TestAPauseIsShortAgainAfterAnAnswer(t *testing.T) {
 // Claims that have no room in a call go out with the next one, also where no answer comes.
 func TestClaimsWithoutRoomGoOutByThemselves(t *testing.T) {
 	b := newBench(t)
-	b.asks("first")
+	for i := 0; i < fewCalls; i++ {
+		b.pass(nextCall)
+		b.asks(fmt.Sprint("first ", i))
+	}
 	const more = 3
 	for i := 0; i < claims.MostClaims+more; i++ {
 		b.asks(fmt.Sprint(i))
 	}
 	for i, want := range []int{1, claims.MostClaims, more} {
-		if len(b.batches) != i+1 || len(b.batches[i].Claims) != want {
-			t.Fatalf("%d calls, and the last one has %d claims", len(b.batches), len(b.batches[len(b.batches)-1].Claims))
+		if last := len(b.batches) - 1; last != fewCalls-1+i || len(b.batches[last].Claims) != want {
+			t.Fatalf("%d calls, and the last one has %d claims", len(b.batches), len(b.batches[last].Claims))
 		}
-		b.pass(b.machine.Due() - b.now.Up)
+		due := b.machine.Due() - b.now.Up
+		if due > nextCall && i < 2 {
+			t.Fatalf("the next call is due after %v", due)
+		}
+		b.pass(due)
 	}
 }
 

@@ -414,7 +414,9 @@ func TestClaimsShareACall(t *testing.T) {
 	answers := make(chan error, many+1)
 	go func() { answers <- check(e, token("first")) }()
 	await(t, "the first call", func() bool { return store.puts() == 1 })
-	e.step(doing(func(m *Machine) { m.claims.at = m.now.Up + time.Hour }))
+	const others = fewCalls - 1 // so that a full call has to wait too
+	e.step(doing(func(m *Machine) { m.claims.at, m.claims.calls = m.now.Up+time.Hour, m.claims.calls+others }))
+	defer e.step(doing(func(m *Machine) { m.claims.calls -= others }))
 	for i := 0; i < many; i++ {
 		go func(i int) { answers <- check(e, token(fmt.Sprint(i))) }(i)
 	}
@@ -456,7 +458,7 @@ func TestWithdrawalsAreReadPageByPage(t *testing.T) {
 		t.Errorf("the record has %d withdrawals: %v", len(uses), err)
 	}
 	e.lookAhead()
-	if got := fmt.Sprint(pages.read); got != fmt.Sprint([]int{claims.MostWithdrawals, 5, 0}) {
+	if got := fmt.Sprint(pages.read); got != fmt.Sprint([]int{claims.MostWithdrawals, 5, 0, 0}) {
 		t.Errorf("pages of %s", got)
 	}
 }
