@@ -7,6 +7,7 @@
 mod deed;
 mod event;
 mod judgment;
+pub mod laws;
 mod lines;
 mod needs;
 mod plan;
