@@ -1,2 +1,4 @@
 pub mod EntriesLemmas
 pub mod ListsLemmas
+pub mod PlansLemmas
+pub mod TablesLemmas
