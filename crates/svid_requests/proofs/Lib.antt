@@ -1,4 +1,5 @@
 pub mod EntriesLemmas
 pub mod ListsLemmas
 pub mod PlansLemmas
+pub mod SoundLemmas
 pub mod TablesLemmas

@@ -165,6 +165,10 @@ pub record InOrder (t : Table) : Type 0 where
   pub holders : IsStrictlySortedBy key_cmp (keys_of t.holders)
   pub lines : IsStrictlySortedBy waiter_cmp t.lines
 
+pub none_in_order : InOrder (record { requests = []; holders = []; lines = [] })
+unfolding IsStrictlySortedBy
+none_in_order = record { numbers = tt; holders = tt; lines = tt }
+
 set_rises : {K X : Type 0} (R : K → K → Ordering) (test : K → Bool) (es : List (K × X)) (x : X) → IsStrictlySortedBy R (keys_of es) → IsStrictlySortedBy R (keys_of (set_value test es x))
 set_rises R test es x up = subst (IsStrictlySortedBy R) (sym (keys-set_value test es x)) up
 
