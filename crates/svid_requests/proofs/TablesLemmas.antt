@@ -55,6 +55,9 @@ one n q = is_eq (nat_cmp n q)
 pub one_is : (n q : ℕ) → one n q ≡ true → n ≡ q
 one_is n q is = exact_unsigned n q (is_equal (nat_cmp n q) is)
 
+pub one_itself : (n : ℕ) → one n n ≡ true
+one_itself n = ap is_eq (tied_itself nat_cmp_total n)
+
 find_restaged : (n q : ℕ) (r : Request) (g : Stage) (es : List (ℕ × Request)) → find n es ≡ Some r → find q (restaged n r g es) ≡ cond (one n q) (Some (at_stage g r)) (find q es)
 find_restaged n q r g es is = lookup_set nat_cmp_total es n q (at_stage g r) (ap is_some is)
 
