@@ -1,3 +1,4 @@
+pub mod CountsLemmas
 pub mod EntriesLemmas
 pub mod ListsLemmas
 pub mod OnceLemmas

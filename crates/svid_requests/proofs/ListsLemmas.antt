@@ -1,5 +1,5 @@
 -- Lists: of entries, by their places, and what holds of each.
-use Rattle.std.proofs.Common.{◌≡◌, inl, inr, ℕ, ◌+◌, ◌<◌, Bool, true, false, cond, List, [], ◌∷◌, ◌++◌, length, refl, ap, arith, zero, suc, Option, Some, None, is_some, sym}
+use Rattle.std.proofs.Common.{◌≡◌, ◌⊎◌, inl, inr, ℕ, ◌+◌, ◌<◌, Bool, true, false, cond, List, [], ◌∷◌, ◌++◌, length, refl, ap, arith, zero, suc, Option, Some, None, is_some, sym}
 use Rattle.std.specs.Prelude.{◌==◌, nat_lt}
 use Rattle.std.specs.List.{AllByRecursion, slice_get}
 use Rattle.std.proofs.lemmas.Bool.{true≢false, eq-eqb, lt-ltb, le-ltb, ne_eqb, cases_order}
@@ -33,6 +33,16 @@ pub get_within : {X : Type 0} (xs : List X) (x : X) (n : ℕ) → slice_get xs n
 get_within [] x n e = absurd cc
 get_within (z ∷ xs) x zero e = omega arith
 get_within (z ∷ xs) x (suc n) e = let below = get_within xs x n e in omega arith
+
+pub get_push : {X : Type 0} (xs : List X) (x y : X) (n : ℕ) → slice_get (xs ++ x ∷ []) n ≡ Some y → (slice_get xs n ≡ Some y) ⊎ ((n ≡ length xs) × (x ≡ y))
+get_push [] x y zero e = inr (refl, cc)
+get_push [] x y (suc n) e = absurd cc
+get_push (z ∷ xs) x y zero e = inl e
+get_push (z ∷ xs) x y (suc n) e = further (get_push xs x y n e)
+  where
+    further : (slice_get xs n ≡ Some y) ⊎ ((n ≡ length xs) × (x ≡ y)) → (slice_get xs n ≡ Some y) ⊎ ((suc n ≡ suc (length xs)) × (x ≡ y))
+    further (inl old) = inl old
+    further (inr new) = inr (ap suc new.0, new.1)
 
 -- a number below one more is below, or it is that one
 pub below_more : (n m : ℕ) → one_if (nat_lt n (m + 1)) ≡ one_if (nat_lt n m) + one_if (m == n)

@@ -1,10 +1,10 @@
 -- Each request is answered once, the first one is due first, and those that are overdue are answered.
-use Rattle.std.proofs.Common.{◌≡◌, inl, inr, ℕ, ◌+◌, ◌<◌, ◌≤◌, Bool, true, false, cond, List, [], ◌∷◌, ◌++◌, length, length-append, arith, refl, sym, ap, ◌∙◌, subst, zero, suc, Option, Some, None, is_some}
+use Rattle.std.proofs.Common.{◌≡◌, ◌⊎◌, inl, inr, ℕ, ◌+◌, ◌<◌, ◌≤◌, Bool, true, false, cond, List, [], ◌∷◌, ◌++◌, length, length-append, arith, refl, sym, ap, ◌∙◌, subst, zero, suc, Option, Some, None, is_some}
 use Rattle.std.specs.Prelude.{◌==◌, ◌&&◌, not, nat_lt, nat_le}
 use Rattle.std.specs.List.{AllByRecursion, slice_get}
 use Rattle.std.specs.Option.{option_map}
 use Rattle.std.specs.Ordering.{nat_cmp}
-use Rattle.std.proofs.lemmas.Bool.{eq-eqb, le-ltb, lt-ltb, ne_eqb, false≢true}
+use Rattle.std.proofs.lemmas.Bool.{eq-eqb, leb-false, le-ltb, lt-ltb, ne_eqb, false≢true}
 use Rattle.svid_requests.specs.declared.needs.Needs.{Needs}
 use Rattle.svid_requests.specs.declared.request.Request.{Request}
 use Rattle.svid_requests.specs.declared.event.Event.{Event}
@@ -13,14 +13,16 @@ use Rattle.svid_requests.specs.declared.stage.Stage.{Stage}
 use Rattle.svid_requests.specs.declared.stage.Stage.TheVariants.{Judging}
 use Rattle.svid_requests.specs.declared.plan.Plan.{Plan}
 use Rattle.svid_requests.specs.declared.plan.Plan.TheVariants.{Stay, Go, Part}
+use Rattle.svid_requests.specs.declared.verdict.Verdict.TheVariants.{Late}
+use Rattle.svid_requests.specs.declared.deed.Deed.TheVariants.{Nothing as NothingToDo}
 use Rattle.svid_requests.specs.Plans.{plan}
-use Rattle.svid_requests.specs.Tables.{State, Table, at_moment, at_stage, deadline, deed_by, deed_of, find, followed, granted, has_number, held_by, left_by, next_after, subject, turned}
+use Rattle.svid_requests.specs.Tables.{State, Table, at_moment, at_stage, deadline, deed_by, deed_of, find, first, followed, granted, has_number, held_by, left_by, next_after, subject, turned}
 use Rattle.svid_requests.specs.History.{Answered, Call, World, answered, at_state, fresh, history, let_in}
 use Rattle.svid_requests.specs.History.Call.{Come, Hear}
 use Rattle.svid_requests.specs.Promises.{EachOnce, FirstIsDueFirst, OverdueAreAnswered, answers_to, count, one_if, open_at}
-use Rattle.svid_requests.proofs.ListsLemmas.{below_more, get_within}
+use Rattle.svid_requests.proofs.ListsLemmas.{below_more, get_push, get_within}
 use Rattle.svid_requests.proofs.SoundLemmas.{Sound, no_answer, sound}
-use Rattle.svid_requests.proofs.TablesLemmas.{NumbersRise, find_gone, find_let_in, find_parted, one, one_is, one_itself, subject_is, turned_at}
+use Rattle.svid_requests.proofs.TablesLemmas.{NumbersRise, find_gone, find_let_in, find_parted, one, one_is, one_itself, first_is_least, subject_is, turned_at}
 
 -- how many requests of a number have no answer yet
 abbrev open_of : ℕ → Table → ℕ
@@ -99,3 +101,70 @@ each_once needs wait (Hear up e refused ∷ calls) n =
     let w = history (fresh needs wait) calls in
     let s = at_moment w.state up in
     kept_heard n s.needs s.now e refused s.table w.answers (subject e s.table.requests) (sound needs wait calls).order.numbers refl ∙ each_once needs wait calls n
+
+-- Deadlines never fall in the order of numbers, and one that comes now would have none that is earlier.
+
+record NeverFall (w : World) : Type 0 where
+  up_to : (n d : ℕ) → slice_get w.deadlines n ≡ Some d → d ≤ deadline w.state
+  rise : (m n c d : ℕ) → slice_get w.deadlines m ≡ Some c → slice_get w.deadlines n ≡ Some d → m ≤ n → c ≤ d
+
+later_is_more : (s : State) (up : ℕ) → deadline s ≤ deadline (at_moment s up)
+later_is_more s up = omega arith
+
+fall_come : (up : ℕ) (w : World) (b : Bool) → NeverFall w → NeverFall (cond {A = World} b (let_in (at_moment w.state up) w) (at_state (at_moment w.state up) w))
+fall_come up w false h = record { up_to = λ n d is. let le = h.up_to n d is in let more = later_is_more w.state up in omega arith; rise = h.rise }
+fall_come up w true h = record { up_to = λ n d is. to n d (get_push w.deadlines (deadline (at_moment w.state up)) d n is); rise = λ m n c d old new le. pair m n c d le (get_push w.deadlines (deadline (at_moment w.state up)) c m old) (get_push w.deadlines (deadline (at_moment w.state up)) d n new) }
+  where
+    to : (n d : ℕ) → (slice_get w.deadlines n ≡ Some d) ⊎ ((n ≡ length w.deadlines) × (deadline (at_moment w.state up) ≡ d)) → d ≤ deadline (at_moment w.state up)
+    to n d (inl old) = let le = h.up_to n d old in let more = later_is_more w.state up in omega arith
+    to n d (inr new) = let is = new.1 in omega arith
+    pair : (m n c d : ℕ) → m ≤ n → (slice_get w.deadlines m ≡ Some c) ⊎ ((m ≡ length w.deadlines) × (deadline (at_moment w.state up) ≡ c)) → (slice_get w.deadlines n ≡ Some d) ⊎ ((n ≡ length w.deadlines) × (deadline (at_moment w.state up) ≡ d)) → c ≤ d
+    pair m n c d le (inl a) (inl b) = h.rise m n c d a b le
+    pair m n c d le a (inr b) = let below = to m c a in let is = b.1 in omega arith
+    pair m n c d le (inr a) (inl b) = let within = get_within w.deadlines d n b in let is = a.0 in absurd (omega arith)
+
+never_fall : (needs : Needs) (wait : ℕ) (calls : List Call) → NeverFall (history (fresh needs wait) calls)
+never_fall needs wait [] = record { up_to = λ n d is. absurd cc; rise = λ m n c d is. absurd cc }
+never_fall needs wait (Come up refused ∷ calls) = let w = history (fresh needs wait) calls in fall_come up w (has_number (at_moment w.state up) && not refused) (never_fall needs wait calls)
+never_fall needs wait (Hear up e refused ∷ calls) =
+    let w = history (fresh needs wait) calls in
+    let h = never_fall needs wait calls in
+    record { up_to = λ n d is. let le = h.up_to n d is in let more = later_is_more w.state up in omega arith; rise = h.rise }
+
+pub first_is_due_first : FirstIsDueFirst
+first_is_due_first needs wait calls p n r is found =
+    let w = history (fresh needs wait) calls in
+    let h = sound needs wait calls in
+    (never_fall needs wait calls).rise p.0 n p.1.deadline r.deadline (h.each p.0 p.1 (subject_is Overdue w.state.table.requests p is).0).0 (h.each n r found).0 (first_is_least w.state.table.requests p n r h.order.numbers is found)
+
+-- Those that are overdue are answered.
+
+-- an event `Overdue` that finds nothing to do finds no request, or one that is not due
+not_due : (needs : Needs) (refused : Bool) (now : ℕ) (t : Table) (p : ℕ × Request) (b : Bool) → nat_le p.1.deadline now ≡ b → deed_of p.0 p.1 (granted refused p.1 (cond b (Part Late) Stay)) t ≡ NothingToDo → now < p.1.deadline
+not_due needs refused now t p true due is = absurd cc
+not_due needs refused now t p false due is = leb-false p.1.deadline now due
+
+none_open : (needs : Needs) (refused : Bool) (now n : ℕ) (t : Table) (o : Option (ℕ × Request)) (x : Option Request) → first t.requests ≡ o → find n t.requests ≡ x → deed_by needs refused now Overdue t o ≡ NothingToDo
+    → ((p : ℕ × Request) (r : Request) → first t.requests ≡ Some p → find n t.requests ≡ Some r → now < p.1.deadline → ⊥) → x ≡ None
+none_open needs refused now n t o None is found deed never = refl
+none_open needs refused now n t None (Some r) is found deed never = absurd (first_if_found t.requests is found)
+  where
+    first_if_found : (es : List (ℕ × Request)) → first es ≡ None → find n es ≡ Some r → ⊥
+    first_if_found [] is found = cc
+    first_if_found (e ∷ es) is found = cc
+none_open needs refused now n t (Some p) (Some r) is found deed never = absurd (never p r is found (not_due needs refused now t p (nat_le p.1.deadline now) refl deed))
+
+pub overdue_are_answered : OverdueAreAnswered
+overdue_are_answered needs wait calls up refused n d deed is over =
+    let w = history (fresh needs wait) calls in
+    let s = at_moment w.state up in
+    let never : (p : ℕ × Request) (r : Request) → first s.table.requests ≡ Some p → find n s.table.requests ≡ Some r → s.now < p.1.deadline → ⊥ = λ p r first found ahead.
+      let due = first_is_due_first needs wait calls p n r first found in
+      let has = ((sound needs wait calls).each n r found).0 in
+      let same : r.deadline ≡ d = cc in
+      omega arith
+    in
+    let closed = ap (λ (o : Option Request). one_if (is_some o)) (none_open s.needs refused s.now n s.table (first s.table.requests) (find n s.table.requests) refl refl deed never) in
+    let once = each_once needs wait calls n in
+    let came : one_if (nat_lt n (length w.deadlines)) ≡ 1 = ap one_if (lt-ltb n (length w.deadlines) (get_within w.deadlines d n is)) in
+    omega arith

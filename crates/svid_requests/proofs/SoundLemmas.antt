@@ -16,11 +16,11 @@ use Rattle.svid_requests.specs.declared.stage.Stage.TheVariants.{Judging, Writin
 use Rattle.svid_requests.specs.declared.plan.Plan.{Plan}
 use Rattle.svid_requests.specs.declared.plan.Plan.TheVariants.{Stay, Go, Part}
 use Rattle.svid_requests.specs.Plans.{plan}
-use Rattle.svid_requests.specs.Tables.{State, Table, at_moment, at_stage, deadline, deed_at, deed_by, deed_of, followed, granted, has_number, held_by, left_by, subject, turned}
+use Rattle.svid_requests.specs.Tables.{State, Table, at_moment, at_stage, deadline, deed_at, deed_by, deed_of, find, followed, granted, has_number, held_by, left_by, subject, turned}
 use Rattle.svid_requests.specs.History.{Answered, Call, World, answered, at_state, fresh, history, let_in}
 use Rattle.svid_requests.specs.History.Call.{Come, Hear}
 use Rattle.svid_requests.specs.Promises.{AcceptedInTime, AnswersAreFounded, IsFounded, IsInTime, RestsOn, Told}
-use Rattle.svid_requests.proofs.ListsLemmas.{all_weaker, get_push_new, get_push_old}
+use Rattle.svid_requests.proofs.ListsLemmas.{all_weaker, get_push_new, get_push_old, get_within}
 use Rattle.svid_requests.proofs.PlansLemmas.{Why, WhyAccept, WhyGo, granted_why}
 use Rattle.svid_requests.proofs.TablesLemmas.{Each, InOrder, each_followed, each_let_in, followed_in_order, let_in_in_order, none_in_order, subject_is}
 
@@ -203,3 +203,14 @@ accepted_in_time needs wait calls = let w = history (fresh needs wait) calls in 
 
 pub answers_are_founded : AnswersAreFounded
 answers_are_founded needs wait calls = let w = history (fresh needs wait) calls in all_weaker (IsGood needs calls w.deadlines) (λ a. IsFounded needs calls a.number a.verdict) w.answers (λ a is. is.1) (sound needs wait calls).good
+
+-- the next number is that of no open request
+pub next_is_new : (needs : Needs) (calls : List Call) (w : World) → Sound needs calls w → find w.state.next w.state.table.requests ≡ None
+next_is_new needs calls w h = by_found (find w.state.next w.state.table.requests) refl
+  where
+    by_found : (o : Option Request) → find w.state.next w.state.table.requests ≡ o → o ≡ None
+    by_found None is = refl
+    by_found (Some r) is =
+        let within = get_within w.deadlines r.deadline w.state.next (h.each w.state.next r is).0 in
+        let number = h.numbered in
+        absurd (omega arith)

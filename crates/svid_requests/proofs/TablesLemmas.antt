@@ -1,13 +1,15 @@
 -- The table after a step: what is found in it, and that it stays in order.
-use Rattle.std.proofs.Common.{◌≡◌, ℕ, Bool, true, false, cond, List, [], ◌∷◌, refl, sym, ap, ◌∙◌, subst, Option, Some, None, is_some}
+use Rattle.std.proofs.Common.{◌≡◌, ℕ, ◌≤◌, arith, Bool, true, false, cond, List, [], ◌∷◌, refl, sym, ap, ◌∙◌, subst, Option, Some, None, is_some}
+use Rattle.std.specs.List.{AllByRecursion}
 use Rattle.std.specs.List.Sorted.{IsStrictlySortedBy}
 use Rattle.std.specs.Map.{keys_of, remove_entry, set_value}
 use Rattle.std.specs.BTreeMap.{insert_entry, is_at}
 use Rattle.std.specs.Cmp.{IsTotalOrder}
 use Rattle.std.specs.Option.{option_map}
 use Rattle.std.specs.declared.cmp.Ordering.{Ordering}
+use Rattle.std.specs.declared.cmp.Ordering.TheVariants.{Less}
 use Rattle.std.specs.Ordering.{nat_cmp, is_eq}
-use Rattle.std.proofs.lemmas.Cmp.{nat_cmp_total, tied_itself, nat_list_cmp_total, on_total, then_total}
+use Rattle.std.proofs.lemmas.Cmp.{ranked, nat_cmp_total, tied_itself, nat_list_cmp_total, on_total, then_total}
 use Rattle.std.proofs.lemmas.Map.{keys-set_value}
 use Rattle.std.proofs.lemmas.Map.Entries.{lookup_head}
 use Rattle.std.proofs.lemmas.Map.Lookups.{exact_unsigned}
@@ -104,7 +106,7 @@ joins_keeps n (Claiming u) t = refl
 joins_keeps n (Behind u) t = refl
 joins_keeps n (Again u) t = refl
 
-joined_keeps : (n : ℕ) (was g : Stage) (t : Table) → (joined n was g t).requests ≡ t.requests
+pub joined_keeps : (n : ℕ) (was g : Stage) (t : Table) → (joined n was g t).requests ≡ t.requests
 joined_keeps n Judging g t = joins_keeps n g t
 joined_keeps n (Writing u) g t = refl
 joined_keeps n (Claiming u) g t = refl
@@ -116,6 +118,29 @@ find_gone n r g t q is = ap (λ es. find q (restaged n r g es)) (joined_keeps n 
 
 pub find_let_in : (n deadline : ℕ) (t : Table) (q : ℕ) → find q (let_in n deadline t).requests ≡ cond (one q n) (Some (record { deadline = deadline; stage = Judging })) (find q t.requests)
 find_let_in n deadline t q = lookup_inserted nat_cmp_total t.requests n q (record { deadline = deadline; stage = Judging })
+
+below_found : (a n : ℕ) (es : List (ℕ × Request)) (r : Request) → AllByRecursion (λ k. nat_cmp a k ≡ Less) (keys_of es) → find n es ≡ Some r → a ≤ n
+below_found a n [] r below found = absurd cc
+below_found a n (e ∷ es) r below found = by_place (one n e.0) refl found (below_found a n es r below.1)
+  where
+    by_place : (b : Bool) → one n e.0 ≡ b → cond b (Some e.1) (find n es) ≡ Some r → (find n es ≡ Some r → a ≤ n) → a ≤ n
+    by_place true same found later =
+        let is = one_is n e.0 same in
+        let less = ranked a e.0 Less (sym below.0) in
+        omega arith
+    by_place false apart found later = later found
+
+-- the first request has the least number
+pub first_is_least : (es : List (ℕ × Request)) (p : ℕ × Request) (n : ℕ) (r : Request) → IsStrictlySortedBy nat_cmp (keys_of es) → first es ≡ Some p → find n es ≡ Some r → p.0 ≤ n
+unfolding IsStrictlySortedBy
+first_is_least [] p n r up is found = absurd cc
+first_is_least (e ∷ es) p n r up is found =
+    let same : e ≡ p = cc in
+    subst (λ (q : ℕ × Request). q.0 ≤ n) same (by_place (one n e.0) refl found)
+  where
+    by_place : (b : Bool) → one n e.0 ≡ b → cond b (Some e.1) (find n es) ≡ Some r → e.0 ≤ n
+    by_place true same found = let is = one_is n e.0 same in omega arith
+    by_place false apart found = below_found e.0 n es r up.0 found
 
 -- What holds of each request, by its number.
 

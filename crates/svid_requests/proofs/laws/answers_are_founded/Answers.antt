@@ -1,0 +1,5 @@
+use Rattle.svid_requests.proofs.SoundLemmas.{answers_are_founded}
+use Rattle.svid_requests.proofs.laws.answers_are_founded.Goals as goal
+
+pub returns : goal.returns
+returns c = record { founded = answers_are_founded }
