@@ -176,3 +176,12 @@ module _ {K : Type 0} {R : K → K → Ordering} (o : IsTotalOrder R) where
       none_cond : (b : Bool) (x : Option (Unit {0})) → is_some (cond b None x) ≡ cond b false (is_some x)
       none_cond true x = refl
       none_cond false x = refl
+
+  -- what is before a key is none of those from it on
+  pub none_before : (k x : K) (ks : List K) → R k x ≡ Less → IsStrictlySortedBy R (x ∷ ks) → list_any (is_at (R k)) (x ∷ ks) ≡ false
+  unfolding IsStrictlySortedBy
+  none_before k x ks less up = rw less (none_found k ks (below_more k x ks less up.0))
+    where
+      none_found : (k : K) (ks : List K) → AllByRecursion (λ y. R k y ≡ Less) ks → list_any (is_at (R k)) ks ≡ false
+      none_found k [] all = refl
+      none_found k (y ∷ ks) all = rw all.0 (none_found k ks all.1)

@@ -1,5 +1,6 @@
 pub mod CountsLemmas
 pub mod EntriesLemmas
+pub mod LinesLemmas
 pub mod ListsLemmas
 pub mod OnceLemmas
 pub mod PlansLemmas
