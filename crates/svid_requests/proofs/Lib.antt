@@ -1,3 +1,4 @@
+pub mod ClaimsLemmas
 pub mod CountsLemmas
 pub mod EntriesLemmas
 pub mod LinesLemmas

@@ -81,7 +81,7 @@ find_turn w q es = by_found (find w es) refl
     by_found None is = none (one w q) refl is ∙ here None (one w q) refl is
     by_found (Some r) is = find_restaged w q r (turned r.stage) es is ∙ here (Some r) (one w q) refl is
 
-find_handed : (key : List ℕ) (o : Option ℕ) (t : Table) (q : ℕ) → find q (hand_to key o t).requests ≡ turned_at o q (find q t.requests)
+pub find_handed : (key : List ℕ) (o : Option ℕ) (t : Table) (q : ℕ) → find q (hand_to key o t).requests ≡ turned_at o q (find q t.requests)
 find_handed key None t q = refl
 find_handed key (Some w) t q = find_turn w q t.requests
 
@@ -96,8 +96,11 @@ find_left n (Again u) t q = find_handed u.key (first_of u.key t.lines) (without 
 abbrev pub NumbersRise : Table → Type 0
 NumbersRise t = IsStrictlySortedBy nat_cmp (keys_of t.requests)
 
+pub find_without : (n : ℕ) (t : Table) (q : ℕ) → NumbersRise t → find q (without n t).requests ≡ cond (one n q) None (find q t.requests)
+find_without n t q up = lookup_removed nat_cmp_total t.requests n q up
+
 pub find_parted : (n : ℕ) (r : Request) (t : Table) (q : ℕ) → NumbersRise t → find q (parted n r t).requests ≡ turned_at (next_after r.stage t) q (cond (one n q) None (find q t.requests))
-find_parted n r t q up = find_left n r.stage t q ∙ ap (turned_at (next_after r.stage t) q) (lookup_removed nat_cmp_total t.requests n q up)
+find_parted n r t q up = find_left n r.stage t q ∙ ap (turned_at (next_after r.stage t) q) (find_without n t q up)
 
 joins_keeps : (n : ℕ) (g : Stage) (t : Table) → (joins n g t).requests ≡ t.requests
 joins_keeps n Judging t = refl
