@@ -14,9 +14,10 @@ use Rattle.std.specs.Cmp.{IsEquivalence}
 use Rattle.std.specs.Ordering.{eq_by_cmp}
 use Rattle.std.specs.Option.{IsSome}
 use Rattle.std.proofs.lemmas.Bool.{false≢true}
-use Rattle.std.proofs.lemmas.Map.{lookup-remove_entry, lookup-set_value}
-use Rattle.std.proofs.lemmas.Map.Keys.{IsDistinct-from_sorted}
-use Rattle.std.proofs.lemmas.Cmp.{alike_right, eq_by_cmp_equiv}
+use Rattle.std.proofs.lemmas.Map.{lookup-none, lookup-remove_entry, lookup-set_value}
+use Rattle.std.proofs.lemmas.Map.Entries.{none_past_head}
+use Rattle.std.proofs.lemmas.Map.Keys.{IsDistinct-from_sorted, sorted_tail}
+use Rattle.std.proofs.lemmas.Cmp.{alike_right, eq_by_cmp_equiv, tied_itself}
 
 pub is_equal : (a : Ordering) → is_eq a ≡ true → a ≡ Equal
 is_equal Less e = absurd (false≢true e)
@@ -185,3 +186,22 @@ module _ {K : Type 0} {R : K → K → Ordering} (o : IsTotalOrder R) where
       none_found : (k : K) (ks : List K) → AllByRecursion (λ y. R k y ≡ Less) ks → list_any (is_at (R k)) ks ≡ false
       none_found k [] all = refl
       none_found k (y ∷ ks) all = rw all.0 (none_found k ks all.1)
+
+  -- what holds of all that is found holds of each
+  pub each_key : (P : K → Type 0) (ks : List K) → ((k : K) → list_any (is_at (R k)) ks ≡ true → P k) → AllByRecursion P ks
+  each_key P [] f = tt
+  each_key P (x ∷ ks) f = (f x (rw (tied_itself o x) refl), each_key P ks (λ k found. f k (later (is_eq (R k x)) (list_any (is_at (R k)) ks) found)))
+    where
+      later : (a b : Bool) → b ≡ true → (a || b) ≡ true
+      later true b found = refl
+      later false b found = found
+
+  pub each_entry : {X : Type 0} (P : K × X → Type 0) (es : List (K × X)) → IsStrictlySortedBy R (keys_of es) → ((k : K) (x : X) → lookup (is_at (R k)) es ≡ Some x → P (k, x)) → AllByRecursion P es
+  each_entry P [] up f = tt
+  each_entry {X} P (e ∷ es) up f = (f e.0 e.1 (rw (tied_itself o e.0) refl), each_entry P es (sorted_tail R e.0 (keys_of es) up) (λ k x found. f k x (later k x (is_eq (R k e.0)) refl found)))
+    where
+      later : (k : K) (x : X) (b : Bool) → is_eq (R k e.0) ≡ b → lookup (is_at (R k)) es ≡ Some x → cond b (Some e.1) (lookup (is_at (R k)) es) ≡ Some x
+      later k x true same found =
+          let none = lookup-none (is_at (R k)) es (none_past_head (eq_by_cmp_equiv o) k e es (IsDistinct-from_sorted R (keys_of (e ∷ es)) up) same) in
+          absurd cc
+      later k x false apart found = found
