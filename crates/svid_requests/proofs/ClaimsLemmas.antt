@@ -1,29 +1,24 @@
 -- Of one key one request has the claim, and none waits in vain.
 use Rattle.std.proofs.Common.{◌≡◌, inl, inr, ℕ, Bool, true, false, cond, ◌&&◌, not, List, [], ◌∷◌, refl, sym, ap, ◌∙◌, subst, Option, Some, None, is_some}
-use Rattle.std.specs.List.{AllByRecursion}
 use Rattle.std.specs.Option.{option_map}
-use Rattle.std.specs.BTreeMap.{insert_entry}
-use Rattle.std.specs.BTreeSet.{insert_key}
-use Rattle.std.specs.Ordering.{is_eq, nat_cmp}
+use Rattle.std.specs.Ordering.{is_eq}
 use Rattle.std.specs.Cmp.{IsEquivalence}
 use Rattle.std.proofs.lemmas.Bool.{false≢true}
 use Rattle.std.proofs.lemmas.Cmp.{eq_by_cmp_equiv, nat_cmp_total, tied_itself}
 use Rattle.svid_replay.specs.declared.token_use.Use.{Use}
 use Rattle.svid_requests.specs.declared.needs.Needs.{Needs}
-use Rattle.svid_requests.specs.declared.judgment.Judgment.TheVariants.{Passes}
 use Rattle.svid_requests.specs.declared.verdict.Verdict.{Verdict}
 use Rattle.svid_requests.specs.declared.request.Request.{Request}
 use Rattle.svid_requests.specs.declared.event.Event.{Event}
-use Rattle.svid_requests.specs.declared.event.Event.TheVariants.{Judged}
 use Rattle.svid_requests.specs.declared.stage.Stage.{Stage}
 use Rattle.svid_requests.specs.declared.stage.Stage.TheVariants.{Judging, Writing, Claiming, Behind, Again}
 use Rattle.svid_requests.specs.declared.plan.Plan.{Plan}
 use Rattle.svid_requests.specs.declared.plan.Plan.TheVariants.{Stay, Go, Part}
 use Rattle.svid_requests.specs.declared.deed.Deed.TheVariants.{Answer}
 use Rattle.svid_requests.specs.declared.waiter.Waiter.{Waiter}
-use Rattle.svid_requests.specs.Lines.{first_of, key_cmp, waiter_cmp}
+use Rattle.svid_requests.specs.Lines.{first_of}
 use Rattle.svid_requests.specs.Plans.{plan}
-use Rattle.svid_requests.specs.Tables.{State, Table, at_moment, at_stage, deadline, deed_at, deed_by, deed_of, find, followed, gone, granted, hand_to, has_number, held_by, holder, joined, left_at, left_by, let_in, next_after, parted, subject, turned, without}
+use Rattle.svid_requests.specs.Tables.{State, Table, at_moment, at_stage, deadline, deed_at, deed_by, deed_of, find, followed, gone, granted, hand_to, has_number, held_by, holder, joined, left_at, left_by, let_in, next_after, subject, turned, without}
 use Rattle.svid_requests.specs.History as histories
 use Rattle.svid_requests.specs.History.{Call, World, at_state, fresh, history}
 use Rattle.svid_requests.specs.History.Call.{Come, Hear}
@@ -32,7 +27,7 @@ use Rattle.svid_requests.specs.Promises.{has_claim, is_again, stands_behind}
 use Rattle.svid_requests.proofs.EntriesLemmas.{any_inserted, any_removed, each_entry, each_key, lookup_inserted, lookup_removed, lookup_set}
 use Rattle.svid_requests.proofs.LinesLemmas.{alike, alike_is, first_stands, none_stands, stands, waiters_alike}
 use Rattle.svid_requests.proofs.PlansLemmas.{Why, WhyGo, granted_why}
-use Rattle.svid_requests.proofs.SoundLemmas.{Sound, next_is_new, sound}
+use Rattle.svid_requests.proofs.SoundLemmas.{next_is_new, sound}
 use Rattle.svid_requests.proofs.TablesLemmas.{InOrder, NumbersRise, find_gone, find_handed, find_let_in, find_without, key_cmp_total, one, one_is, one_itself, subject_is, waiter_cmp_total}
 
 -- the request of a number is so far
@@ -112,14 +107,18 @@ gone_claiming n r u t is was free h = record {
   where
     holder_is : (key : List ℕ) → holder key (gone n r (Claiming u) t).holders ≡ cond (alike key u.key) (Some n) (holder key t.holders)
     holder_is key = ap (λ s. holder key (joined n s (Claiming u) t).holders) was ∙ lookup_inserted key_cmp_total t.holders u.key key n
+
     behind : (key : List ℕ) (q : ℕ) → far (stands_behind key) q (gone n r (Claiming u) t) ≡ far (stands_behind key) q t
     behind key q = far_gone (stands_behind key) n r (Claiming u) t q is ∙ kept (stands_behind key) n q r t false (one n q) is refl (ap (stands_behind key) (sym was))
+
     still : (b : Bool) (o : Option ℕ) → is_some o ≡ true → is_some (cond b (Some n) o) ≡ true
     still true o some = refl
     still false o some = some
+
     none : (q : ℕ) (o : Option ℕ) → is_some o ≡ false → holds q o ≡ false
     none q None e = refl
     none q (Some m) e = absurd (false≢true (sym e))
+
     at : (key : List ℕ) (q : ℕ) (a b : Bool) → one n q ≡ a → alike key u.key ≡ b → holds q (cond b (Some n) (holder key t.holders)) ≡ cond a b (far (has_claim key) q t)
     at key q true true same like = same
     at key q false true apart like = apart ∙ sym (none q (holder key t.holders) (subst (λ k. is_some (holder k t.holders) ≡ false) (sym (alike_is key u.key like)) free)) ∙ h.held key q
@@ -131,8 +130,8 @@ gone_behind : (n : ℕ) (r : Request) (u : Use) (t : Table) → find n t.request
 gone_behind n r u t is was taken h = record {
   held = λ key q. ap (λ s. holds q (holder key (joined n s (Behind u) t).holders)) was ∙ h.held key q ∙ sym (far_gone (has_claim key) n r (Behind u) t q is ∙ kept (has_claim key) n q r t false (one n q) is refl (ap (has_claim key) (sym was)));
   lined = λ key q. ap (λ s. stands key q (joined n s (Behind u) t).lines) was ∙ any_inserted waiter_cmp_total t.lines (record { key = u.key; number = n }) (record { key = key; number = q })
-    ∙ ap (λ b. cond b true (stands key q t.lines)) (waiters_alike (record { key = key; number = q }) (record { key = u.key; number = n })) ∙ at key q (one n q) (alike key u.key) (one_flip n q) refl
-    ∙ sym (far_gone (stands_behind key) n r (Behind u) t q is);
+      ∙ ap (λ b. cond b true (stands key q t.lines)) (waiters_alike (record { key = key; number = q }) (record { key = u.key; number = n })) ∙ at key q (one n q) (alike key u.key) (one_flip n q) refl
+      ∙ sym (far_gone (stands_behind key) n r (Behind u) t q is);
   served = λ key q stands. ap (λ s. is_some (holder key (joined n s (Behind u) t).holders)) was ∙ served key q (one n q) (alike key u.key) refl (sym (far_gone (stands_behind key) n r (Behind u) t q is) ∙ stands);
 }
   where
@@ -141,6 +140,7 @@ gone_behind n r u t is was taken h = record {
     at key q true false same unlike = h.lined key q ∙ far_at (stands_behind key) n q r t is (one_flip q n ∙ same) ∙ ap (stands_behind key) was
     at key q false true apart like = ap (λ x. cond x true (stands key q t.lines)) apart ∙ h.lined key q
     at key q false false apart unlike = h.lined key q
+
     served : (key : List ℕ) (q : ℕ) (a b : Bool) → alike key u.key ≡ b → cond a b (far (stands_behind key) q t) ≡ true → is_some (holder key t.holders) ≡ true
     served key q true b like stands = subst (λ k. is_some (holder k t.holders) ≡ true) (sym (alike_is key u.key (like ∙ stands))) taken
     served key q false b like stands = h.served key q stands
@@ -158,8 +158,8 @@ left_behind : (n : ℕ) (r : Request) (u : Use) (t : Table) → find n t.request
 left_behind n r u t is was order h = record {
   held = λ key q. h.held key q ∙ sym (far_without (has_claim key) n t q order.numbers ∙ kept (has_claim key) n q r t false (one n q) is refl (ap (has_claim key) (sym was)));
   lined = λ key q. any_removed waiter_cmp_total t.lines (record { key = u.key; number = n }) (record { key = key; number = q }) order.lines
-    ∙ ap (λ b. cond b false (stands key q t.lines)) (waiters_alike (record { key = u.key; number = n }) (record { key = key; number = q }))
-    ∙ at key q (one n q) (alike u.key key) refl refl ∙ sym (far_without (stands_behind key) n t q order.numbers);
+      ∙ ap (λ b. cond b false (stands key q t.lines)) (waiters_alike (record { key = u.key; number = n }) (record { key = key; number = q }))
+      ∙ at key q (one n q) (alike u.key key) refl refl ∙ sym (far_without (stands_behind key) n t q order.numbers);
   served = λ key q stands. served key q (one n q) (sym (far_without (stands_behind key) n t q order.numbers) ∙ stands);
 }
   where
@@ -168,6 +168,7 @@ left_behind n r u t is was order h = record {
     at key q true false same unlike = h.lined key q ∙ far_at (stands_behind key) n q r t is same ∙ ap (stands_behind key) was ∙ alike_flip key u.key ∙ unlike
     at key q false true apart like = ap (λ x. cond x false (stands key q t.lines)) apart ∙ h.lined key q
     at key q false false apart unlike = h.lined key q
+
     served : (key : List ℕ) (q : ℕ) (a : Bool) → cond a false (far (stands_behind key) q t) ≡ true → is_some (holder key t.holders) ≡ true
     served key q true stands = absurd (false≢true stands)
     served key q false stands = h.served key q stands
@@ -223,6 +224,7 @@ module _ (n : ℕ) (r : Request) (k : List ℕ) (t : Table) (is : find n t.reque
       gone : (b : Bool) (q : ℕ) (o : Option ℕ) → holds q (cond b None o) ≡ cond b false (holds q o)
       gone true q o = refl
       gone false q o = refl
+
       served : (key : List ℕ) (q : ℕ) (b : Bool) → alike k key ≡ b → far (stands_behind key) q t ≡ true → is_some (cond b None (holder key t.holders)) ≡ true
       served key q true like waits = absurd (false≢true (sym (none_stands k q t.lines order.lines none) ∙ ap (λ x. stands x q t.lines) (alike_is k key like) ∙ h.lined key q ∙ waits))
       served key q false unlike waits = h.served key q waits
@@ -253,8 +255,8 @@ module _ (n : ℕ) (r : Request) (k : List ℕ) (t : Table) (is : find n t.reque
     handed_to_one = record {
       held = λ key q. ap (holds q) (holder_handed key) ∙ held key q (one w q) (alike k key) refl refl ∙ sym (far_handed (has_claim key) (alike key k) (it_waits key).takes q);
       lined = λ key q. any_removed waiter_cmp_total t.lines (record { key = k; number = w }) (record { key = key; number = q }) order.lines
-        ∙ ap (λ b. cond b false (stands key q t.lines)) (waiters_alike (record { key = k; number = w }) (record { key = key; number = q }))
-        ∙ lined key q (one w q) (alike k key) refl refl ∙ sym (far_handed (stands_behind key) false (it_waits key).leaves q);
+          ∙ ap (λ b. cond b false (stands key q t.lines)) (waiters_alike (record { key = k; number = w }) (record { key = key; number = q }))
+          ∙ lined key q (one w q) (alike k key) refl refl ∙ sym (far_handed (stands_behind key) false (it_waits key).leaves q);
       served = λ key q waits. ap is_some (holder_handed key) ∙ served key q (one w q) (one n q) (alike k key) (sym (far_handed (stands_behind key) false (it_waits key).leaves q) ∙ waits);
     }
       where
@@ -263,11 +265,13 @@ module _ (n : ℕ) (r : Request) (k : List ℕ) (t : Table) (is : find n t.reque
         held key q false true apart like = apart ∙ holds_else key q (one n q) true refl like
         held key q true false same unlike = h.held key q ∙ ap (λ x. far (has_claim key) x t) (sym (one_is w q same)) ∙ (it_waits key).claims ∙ sym (alike_flip key k ∙ unlike)
         held key q false false apart unlike = holds_else key q (one n q) false refl unlike
+
         lined : (key : List ℕ) (q : ℕ) (c b : Bool) → one w q ≡ c → alike k key ≡ b → cond (cond b (one w q) false) false (stands key q t.lines) ≡ cond c false (cond (one n q) false (far (stands_behind key) q t))
         lined key q true true same like = ap (λ x. cond x false (stands key q t.lines)) same
         lined key q false true apart like = ap (λ x. cond x false (stands key q t.lines)) apart ∙ h.lined key q ∙ sym (still_behind key q) ∙ far_without (stands_behind key) n t q order.numbers
         lined key q true false same unlike = h.lined key q ∙ ap (λ x. far (stands_behind key) x t) (sym (one_is w q same)) ∙ (it_waits key).stands ∙ alike_flip key k ∙ unlike
         lined key q false false apart unlike = h.lined key q ∙ sym (still_behind key q) ∙ far_without (stands_behind key) n t q order.numbers
+
         served : (key : List ℕ) (q : ℕ) (c a b : Bool) → cond c false (cond a false (far (stands_behind key) q t)) ≡ true → is_some (cond b (Some w) (holder key t.holders)) ≡ true
         served key q true a b waits = absurd (false≢true waits)
         served key q false true b waits = absurd (false≢true waits)
@@ -321,6 +325,7 @@ claims_come s w true none h = claims_same s.table (let_in s.next (deadline s) s.
     here : (test : Stage → Bool) (q : ℕ) (b : Bool) → one q s.next ≡ b → cond b false (far test q s.table) ≡ far test q s.table
     here test q true is = sym (ap (promises.is_at test) (ap (λ x. find x s.table.requests) (one_is q s.next is) ∙ none))
     here test q false is = refl
+
     same : (test : Stage → Bool) (q : ℕ) → test Judging ≡ false → far test q (let_in s.next (deadline s) s.table) ≡ far test q s.table
     same test q new = ap (promises.is_at test) (find_let_in s.next (deadline s) s.table q) ∙ at_cond test (one q s.next) (Some (record { deadline = deadline s; stage = Judging })) (find q s.table.requests) ∙ ap (λ x. cond (one q s.next) x (far test q s.table)) new ∙ here test q (one q s.next) refl
 
@@ -352,9 +357,10 @@ none_waits_in_vain needs wait calls key n is =
 pub nothing_is_left_over : promises.NothingIsLeftOver
 nothing_is_left_over needs wait calls =
     let t = (history (fresh needs wait) calls).state.table in
-    let h = claims needs wait calls in
-    (each_entry key_cmp_total (λ (e : List ℕ × ℕ). far (has_claim e.0) e.1 t ≡ true) t.holders (sound needs wait calls).order.holders (λ key m found. sym (h.held key m) ∙ ap (holds m) found ∙ one_itself m),
-    each_key waiter_cmp_total (λ (v : Waiter). far (stands_behind v.key) v.number t ≡ true) t.lines (λ v found. sym (h.lined v.key v.number) ∙ found))
+    let h = claims needs wait calls in (
+      each_entry key_cmp_total (λ (e : List ℕ × ℕ). far (has_claim e.0) e.1 t ≡ true) t.holders (sound needs wait calls).order.holders (λ key m found. sym (h.held key m) ∙ ap (holds m) found ∙ one_itself m),
+      each_key waiter_cmp_total (λ (v : Waiter). far (stands_behind v.key) v.number t ≡ true) t.lines (λ v found. sym (h.lined v.key v.number) ∙ found),
+    )
 
 -- the next one of an answer
 next_again : (n : ℕ) (r : Request) (g : Stage) (t : Table) (next : ℕ) → find n t.requests ≡ Some r → r.stage ≡ g → InOrder t → Claims t → next_after g t ≡ Some next → promises.is_at is_again (find next (left_at n g (without n t)).requests) ≡ true
@@ -374,6 +380,7 @@ next_heard needs refused now e t (Some p) n v next is order h deed = by_plan (gr
     no_stage (Claiming u) deed = cc
     no_stage (Behind u) deed = cc
     no_stage (Again u) deed = cc
+
     by_plan : (pl : Plan) → deed_of p.0 p.1 pl t ≡ Answer n v (Some next) → promises.is_at is_again (find next (followed p.0 p.1 pl t).requests) ≡ true
     by_plan Stay deed = absurd cc
     by_plan (Go g) deed = absurd (no_stage g deed)

@@ -12,11 +12,10 @@ use Rattle.svid_replay.specs.declared.token_use.Use.{Use}
 use Rattle.svid_requests.specs.declared.needs.Needs.{Needs}
 use Rattle.svid_requests.specs.declared.needs.Needs.TheVariants.{Nothing, Write, Claim}
 use Rattle.svid_requests.specs.declared.judgment.Judgment.TheVariants.{Passes, Holds}
-use Rattle.svid_requests.specs.declared.verdict.Verdict.{Verdict}
 use Rattle.svid_requests.specs.declared.verdict.Verdict.TheVariants.{Accept, Refuse, Late, NotKept, NoMemory, Left}
 use Rattle.svid_requests.specs.declared.request.Request.{Request}
 use Rattle.svid_requests.specs.declared.event.Event.{Event}
-use Rattle.svid_requests.specs.declared.event.Event.TheVariants.{Judged, Wrote, Found}
+use Rattle.svid_requests.specs.declared.event.Event.TheVariants.{Found}
 use Rattle.svid_requests.specs.declared.stage.Stage.{Stage}
 use Rattle.svid_requests.specs.declared.stage.Stage.TheVariants.{Judging, Writing, Claiming, Behind, Again}
 use Rattle.svid_requests.specs.declared.plan.Plan.{Plan}
@@ -27,8 +26,8 @@ use Rattle.svid_requests.specs.Tables.{State, Table, at_moment, at_stage, deadli
 use Rattle.svid_requests.specs.History.{Answered, Call, World, answered, at_state, fresh, history, let_in}
 use Rattle.svid_requests.specs.History.Call.{Come, Hear}
 use Rattle.svid_requests.specs.Promises.{AcceptedAsFound, AcceptedAsJudged, accepted, accepts, count, is_found, is_judged, one_if, told}
-use Rattle.svid_requests.proofs.PlansLemmas.{Why, WhyAccept, WhyGo, granted_why}
-use Rattle.svid_requests.proofs.SoundLemmas.{Rests, Sound, next_is_new, no_answer, sound}
+use Rattle.svid_requests.proofs.PlansLemmas.{Why, WhyAccept, granted_why}
+use Rattle.svid_requests.proofs.SoundLemmas.{Rests, next_is_new, no_answer, sound}
 use Rattle.svid_requests.proofs.TablesLemmas.{Each, NumbersRise, joined_keeps, subject_is}
 
 -- how many acceptances of a use that passes a test a plan gives

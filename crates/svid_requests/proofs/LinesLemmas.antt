@@ -1,5 +1,5 @@
 -- The lines: who stands in them, and who is first.
-use Rattle.std.proofs.Common.{◌≡◌, ℕ, Bool, true, false, cond, ◌&&◌, ◌||◌, not, List, [], ◌∷◌, zero, suc, arith, refl, sym, ap, ◌∙◌, subst, Option, Some, None}
+use Rattle.std.proofs.Common.{◌≡◌, ℕ, Bool, true, false, cond, ◌&&◌, ◌||◌, List, [], ◌∷◌, zero, suc, arith, refl, sym, ◌∙◌, subst, Some, None}
 use Rattle.std.specs.List.{filter, list_any}
 use Rattle.std.specs.List.Sorted.{IsStrictlySortedBy}
 use Rattle.std.specs.BTreeMap.{is_at}
@@ -10,13 +10,12 @@ use Rattle.std.specs.declared.cmp.Ordering.TheVariants.{Less, Equal, Greater}
 use Rattle.std.specs.declared.ops.Bound.TheVariants.{Included, Unbounded}
 use Rattle.std.proofs.lemmas.Bool.{false≢true, lt-ltb}
 use Rattle.std.proofs.lemmas.List.Kept.{IsStrictlySortedBy-filter}
-use Rattle.std.proofs.lemmas.Map.Lookups.{exact_bytes, exact_unsigned}
+use Rattle.std.proofs.lemmas.Map.Lookups.{exact_bytes}
 use Rattle.std.proofs.lemmas.Map.Views.{any-filter_same}
-use Rattle.std.proofs.lemmas.Cmp.{tied_itself, nat_cmp_total}
 use Rattle.svid_requests.specs.declared.waiter.Waiter.{Waiter}
 use Rattle.svid_requests.specs.Lines.{first_of, key_cmp, number_at, waiter_cmp}
 use Rattle.svid_requests.proofs.EntriesLemmas.{is_equal, none_before}
-use Rattle.svid_requests.proofs.TablesLemmas.{one, one_is, one_itself, waiter_cmp_total}
+use Rattle.svid_requests.proofs.TablesLemmas.{one, one_itself, waiter_cmp_total}
 
 -- one key or not
 abbrev pub alike : List ℕ → List ℕ → Bool
@@ -73,6 +72,7 @@ first_stands key w ws is = stands_from key w ws ∙ at_head (filter (from_key ke
         let number : v.number ≡ w = cc in
         rw (waiters_alike (record { key = key; number = w }) v, same, number, one_itself w) refl
     at_key v vs false same is = absurd cc
+
     at_head : (vs : List Waiter) → number_at key vs ≡ Some w → stands key w vs ≡ true
     at_head [] is = absurd cc
     at_head (v ∷ vs) is = at_key v vs (alike key v.key) refl is
@@ -85,9 +85,11 @@ none_stands key n ws up is = stands_from key n ws ∙ at_head (filter (from_key 
     before Less v apart from = refl
     before Equal v apart from = absurd cc
     before Greater v apart from = absurd (false≢true from)
+
     at_key : (v : Waiter) (vs : List Waiter) (b : Bool) → alike key v.key ≡ b → cond b (Some v.number) None ≡ None → from_key key v ≡ true → IsStrictlySortedBy waiter_cmp (v ∷ vs) → stands key n (v ∷ vs) ≡ false
     at_key v vs true same is from up = absurd cc
     at_key v vs false apart is from up = none_before waiter_cmp_total (record { key = key; number = n }) v vs (before (key_cmp key v.key) v apart from) up
+
     at_head : (vs : List Waiter) → filter (from_key key) ws ≡ vs → number_at key vs ≡ None → IsStrictlySortedBy waiter_cmp vs → stands key n vs ≡ false
     at_head [] from is up = refl
     at_head (v ∷ vs) from is up = at_key v vs (alike key v.key) refl is (filter_head (from_key key) ws v vs from) up

@@ -1,27 +1,25 @@
 -- Each request is answered once, the first one is due first, and those that are overdue are answered.
-use Rattle.std.proofs.Common.{◌≡◌, ◌⊎◌, inl, inr, ℕ, ◌+◌, ◌<◌, ◌≤◌, Bool, true, false, cond, List, [], ◌∷◌, ◌++◌, length, length-append, arith, refl, sym, ap, ◌∙◌, subst, zero, suc, Option, Some, None, is_some}
+use Rattle.std.proofs.Common.{◌≡◌, ◌⊎◌, inl, inr, ℕ, ◌+◌, ◌<◌, ◌≤◌, Bool, true, false, cond, List, [], ◌∷◌, ◌++◌, length, length-append, arith, refl, sym, ap, ◌∙◌, Option, Some, None, is_some}
 use Rattle.std.specs.Prelude.{◌==◌, ◌&&◌, not, nat_lt, nat_le}
-use Rattle.std.specs.List.{AllByRecursion, slice_get}
+use Rattle.std.specs.List.{slice_get}
 use Rattle.std.specs.Option.{option_map}
-use Rattle.std.specs.Ordering.{nat_cmp}
 use Rattle.std.proofs.lemmas.Bool.{eq-eqb, leb-false, le-ltb, lt-ltb, ne_eqb, false≢true}
 use Rattle.svid_requests.specs.declared.needs.Needs.{Needs}
 use Rattle.svid_requests.specs.declared.request.Request.{Request}
 use Rattle.svid_requests.specs.declared.event.Event.{Event}
 use Rattle.svid_requests.specs.declared.event.Event.TheVariants.{Overdue}
-use Rattle.svid_requests.specs.declared.stage.Stage.{Stage}
 use Rattle.svid_requests.specs.declared.stage.Stage.TheVariants.{Judging}
 use Rattle.svid_requests.specs.declared.plan.Plan.{Plan}
 use Rattle.svid_requests.specs.declared.plan.Plan.TheVariants.{Stay, Go, Part}
 use Rattle.svid_requests.specs.declared.verdict.Verdict.TheVariants.{Late}
 use Rattle.svid_requests.specs.declared.deed.Deed.TheVariants.{Nothing as NothingToDo}
 use Rattle.svid_requests.specs.Plans.{plan}
-use Rattle.svid_requests.specs.Tables.{State, Table, at_moment, at_stage, deadline, deed_by, deed_of, find, first, followed, granted, has_number, held_by, left_by, next_after, subject, turned}
+use Rattle.svid_requests.specs.Tables.{State, Table, at_moment, at_stage, deadline, deed_by, deed_of, entered, find, first, followed, granted, has_number, held_by, left_by, next_after, subject, turned}
 use Rattle.svid_requests.specs.History.{Answered, Call, World, answered, at_state, fresh, history, let_in}
 use Rattle.svid_requests.specs.History.Call.{Come, Hear}
-use Rattle.svid_requests.specs.Promises.{EachOnce, FirstIsDueFirst, OverdueAreAnswered, answers_to, count, one_if, open_at}
+use Rattle.svid_requests.specs.Promises.{CallsAreHistory, EachOnce, FirstIsDueFirst, OverdueAreAnswered, answers_to, count, one_if}
 use Rattle.svid_requests.proofs.ListsLemmas.{below_more, get_push, get_within}
-use Rattle.svid_requests.proofs.SoundLemmas.{Sound, no_answer, sound}
+use Rattle.svid_requests.proofs.SoundLemmas.{no_answer, sound}
 use Rattle.svid_requests.proofs.TablesLemmas.{NumbersRise, find_gone, find_let_in, find_parted, one, one_is, one_itself, first_is_least, subject_is, turned_at}
 
 -- how many requests of a number have no answer yet
@@ -118,6 +116,7 @@ fall_come up w true h = record { up_to = λ n d is. to n d (get_push w.deadlines
     to : (n d : ℕ) → (slice_get w.deadlines n ≡ Some d) ⊎ ((n ≡ length w.deadlines) × (deadline (at_moment w.state up) ≡ d)) → d ≤ deadline (at_moment w.state up)
     to n d (inl old) = let le = h.up_to n d old in let more = later_is_more w.state up in omega arith
     to n d (inr new) = let is = new.1 in omega arith
+
     pair : (m n c d : ℕ) → m ≤ n → (slice_get w.deadlines m ≡ Some c) ⊎ ((m ≡ length w.deadlines) × (deadline (at_moment w.state up) ≡ c)) → (slice_get w.deadlines n ≡ Some d) ⊎ ((n ≡ length w.deadlines) × (deadline (at_moment w.state up) ≡ d)) → c ≤ d
     pair m n c d le (inl a) (inl b) = h.rise m n c d a b le
     pair m n c d le a (inr b) = let below = to m c a in let is = b.1 in omega arith
@@ -159,12 +158,25 @@ overdue_are_answered needs wait calls up refused n d deed is over =
     let w = history (fresh needs wait) calls in
     let s = at_moment w.state up in
     let never : (p : ℕ × Request) (r : Request) → first s.table.requests ≡ Some p → find n s.table.requests ≡ Some r → s.now < p.1.deadline → ⊥ = λ p r first found ahead.
-      let due = first_is_due_first needs wait calls p n r first found in
-      let has = ((sound needs wait calls).each n r found).0 in
-      let same : r.deadline ≡ d = cc in
-      omega arith
+    let due = first_is_due_first needs wait calls p n r first found in
+    let has = ((sound needs wait calls).each n r found).0 in
+    let same : r.deadline ≡ d = cc in
+    omega arith
     in
     let closed = ap (λ (o : Option Request). one_if (is_some o)) (none_open s.needs refused s.now n s.table (first s.table.requests) (find n s.table.requests) refl refl deed never) in
     let once = each_once needs wait calls n in
     let came : one_if (nat_lt n (length w.deadlines)) ≡ 1 = ap one_if (lt-ltb n (length w.deadlines) (get_within w.deadlines d n is)) in
     omega arith
+
+-- Calls are as their contracts say.
+
+pub calls_are_history : CallsAreHistory
+calls_are_history w up e refused = (come (has_number (at_moment w.state up)), stay (has_number (at_moment w.state up)), refl, refl)
+  where
+    come : (b : Bool) → (cond {A = World} (b && true) (let_in (at_moment w.state up) w) (at_state (at_moment w.state up) w)).state ≡ cond b (entered (at_moment w.state up)) (at_moment w.state up)
+    come true = refl
+    come false = refl
+
+    stay : (b : Bool) → (cond {A = World} (b && false) (let_in (at_moment w.state up) w) (at_state (at_moment w.state up) w)).state ≡ at_moment w.state up
+    stay true = refl
+    stay false = refl

@@ -1,22 +1,22 @@
 -- What holds of each open request and of each answer, over every history.
-use Rattle.std.proofs.Common.{◌≡◌, ◌⊎◌, inl, inr, ℕ, ◌+◌, Bool, true, false, cond, List, [], ◌∷◌, ◌++◌, length, length-append, arith, refl, sym, ap, ◌∙◌, subst, Option, Some, None}
+use Rattle.std.proofs.Common.{◌≡◌, ◌⊎◌, inl, inr, ℕ, Bool, true, false, cond, List, [], ◌∷◌, ◌++◌, length, length-append, arith, refl, sym, subst, Option, Some, None}
 use Rattle.std.specs.Prelude.{◌&&◌, not}
 use Rattle.std.specs.List.{AllByRecursion, slice_get}
 use Rattle.svid_replay.specs.declared.token_use.Use.{Use}
 use Rattle.svid_requests.specs.declared.needs.Needs.{Needs}
 use Rattle.svid_requests.specs.declared.needs.Needs.TheVariants.{Nothing, Write, Claim}
-use Rattle.svid_requests.specs.declared.judgment.Judgment.TheVariants.{Passes, Holds, Fails}
+use Rattle.svid_requests.specs.declared.judgment.Judgment.TheVariants.{Passes, Holds}
 use Rattle.svid_requests.specs.declared.verdict.Verdict.{Verdict}
 use Rattle.svid_requests.specs.declared.verdict.Verdict.TheVariants.{Accept, Refuse, Late, NotKept, NoMemory, Left}
 use Rattle.svid_requests.specs.declared.request.Request.{Request}
 use Rattle.svid_requests.specs.declared.event.Event.{Event}
-use Rattle.svid_requests.specs.declared.event.Event.TheVariants.{Judged, Wrote, Found}
+use Rattle.svid_requests.specs.declared.event.Event.TheVariants.{Judged, Found}
 use Rattle.svid_requests.specs.declared.stage.Stage.{Stage}
 use Rattle.svid_requests.specs.declared.stage.Stage.TheVariants.{Judging, Writing, Claiming, Behind, Again}
 use Rattle.svid_requests.specs.declared.plan.Plan.{Plan}
 use Rattle.svid_requests.specs.declared.plan.Plan.TheVariants.{Stay, Go, Part}
 use Rattle.svid_requests.specs.Plans.{plan}
-use Rattle.svid_requests.specs.Tables.{State, Table, at_moment, at_stage, deadline, deed_at, deed_by, deed_of, find, followed, granted, has_number, held_by, left_by, subject, turned}
+use Rattle.svid_requests.specs.Tables.{Table, at_moment, deadline, deed_at, deed_by, deed_of, find, granted, has_number, held_by, left_by, subject, turned}
 use Rattle.svid_requests.specs.History.{Answered, Call, World, answered, at_state, fresh, history, let_in}
 use Rattle.svid_requests.specs.History.Call.{Come, Hear}
 use Rattle.svid_requests.specs.Promises.{AcceptedInTime, AnswersAreFounded, IsFounded, IsInTime, RestsOn, Told}
@@ -155,8 +155,8 @@ sound_come needs calls up refused true w h =
       numbered = omega (arith, h.numbered, length-append w.deadlines (d ∷ []));
       order = let_in_in_order s.next d s.table h.order;
       each = each_let_in (IsSound needs (Come up refused ∷ calls) (w.deadlines ++ d ∷ [])) s.next d s.table
-        (λ q r found. let sound = h.each q r found in (get_push_old w.deadlines d r.deadline q sound.0, rests_more calls (Come up refused ∷ calls) (λ e told. told) needs q r.stage sound.1))
-        (get_push_new w.deadlines d s.next h.numbered, tt);
+          (λ q r found. let sound = h.each q r found in (get_push_old w.deadlines d r.deadline q sound.0, rests_more calls (Come up refused ∷ calls) (λ e told. told) needs q r.stage sound.1))
+          (get_push_new w.deadlines d s.next h.numbered, tt);
       good = all_weaker (IsGood needs calls w.deadlines) (IsGood needs (Come up refused ∷ calls) (w.deadlines ++ d ∷ [])) w.answers (λ a is. (in_time_more w.deadlines d a a.verdict is.0, founded_more needs calls (Come up refused ∷ calls) (λ e told. told) a.number a.verdict is.1)) h.good;
     }
 sound_come needs calls up refused false w h = record {
@@ -177,11 +177,12 @@ sound_heard needs m same calls up now e refused t ds answers (Some p) is order e
     let held = held_by e t in
     let pl = granted refused p.1 (plan m held now e p.1) in
     let why = subst (λ (x : Needs). Why x held now e p.0 p.1.deadline p.1.stage pl) same (granted_why m held refused now e p.0 p.1 found.1) in
-    let sound = each p.0 p.1 found.0 in
-    (followed_in_order p.0 p.1 pl t order,
-    each_followed (IsSound needs (Hear up e refused ∷ calls) ds) p.0 p.1 pl t order.numbers found.0 each (λ q r h. (h.0, rests_turned needs (Hear up e refused ∷ calls) q r.stage h.1))
-    (λ g goes. (sound.0, rests_gone needs held up e refused calls p.0 p.1.stage g sound.1 (subst (Why needs held now e p.0 p.1.deadline p.1.stage) goes why))),
-    all_answered (IsGood needs (Hear up e refused ∷ calls) ds) now p.0 p.1 pl t answers good (λ v parts. good_part needs held now up e refused calls ds p.0 p.1 v sound (subst (Why needs held now e p.0 p.1.deadline p.1.stage) parts why)))
+    let sound = each p.0 p.1 found.0 in (
+      followed_in_order p.0 p.1 pl t order,
+      each_followed (IsSound needs (Hear up e refused ∷ calls) ds) p.0 p.1 pl t order.numbers found.0 each (λ q r h. (h.0, rests_turned needs (Hear up e refused ∷ calls) q r.stage h.1))
+          (λ g goes. (sound.0, rests_gone needs held up e refused calls p.0 p.1.stage g sound.1 (subst (Why needs held now e p.0 p.1.deadline p.1.stage) goes why))),
+      all_answered (IsGood needs (Hear up e refused ∷ calls) ds) now p.0 p.1 pl t answers good (λ v parts. good_part needs held now up e refused calls ds p.0 p.1 v sound (subst (Why needs held now e p.0 p.1.deadline p.1.stage) parts why)),
+    )
 
 pub sound : (needs : Needs) (wait : ℕ) (calls : List Call) → Sound needs calls (history (fresh needs wait) calls)
 sound needs wait [] = record { needed = refl; numbered = refl; order = none_in_order; each = λ q r found. absurd cc; good = tt }
@@ -193,8 +194,8 @@ sound needs wait (Hear up e refused ∷ calls) =
     let s = at_moment w.state up in
     let h = sound needs wait calls in
     let after = sound_heard needs s.needs h.needed calls up s.now e refused s.table w.deadlines w.answers (subject e s.table.requests) refl h.order
-      (λ q r found. let is = h.each q r found in (is.0, rests_more calls (Hear up e refused ∷ calls) (λ f told. inr told) needs q r.stage is.1))
-      (all_weaker (IsGood needs calls w.deadlines) (IsGood needs (Hear up e refused ∷ calls) w.deadlines) w.answers (λ a is. (is.0, founded_more needs calls (Hear up e refused ∷ calls) (λ f told. inr told) a.number a.verdict is.1)) h.good)
+    (λ q r found. let is = h.each q r found in (is.0, rests_more calls (Hear up e refused ∷ calls) (λ f told. inr told) needs q r.stage is.1))
+    (all_weaker (IsGood needs calls w.deadlines) (IsGood needs (Hear up e refused ∷ calls) w.deadlines) w.answers (λ a is. (is.0, founded_more needs calls (Hear up e refused ∷ calls) (λ f told. inr told) a.number a.verdict is.1)) h.good)
     in
     record { needed = h.needed; numbered = h.numbered; order = after.0; each = after.1; good = after.2 }
 

@@ -2,8 +2,8 @@
 use Rattle.std.proofs.Common.{◌≡◌, ℕ, ◌≤◌, arith, Bool, true, false, cond, List, [], ◌∷◌, refl, sym, ap, ◌∙◌, subst, Option, Some, None, is_some}
 use Rattle.std.specs.List.{AllByRecursion}
 use Rattle.std.specs.List.Sorted.{IsStrictlySortedBy}
-use Rattle.std.specs.Map.{keys_of, remove_entry, set_value}
-use Rattle.std.specs.BTreeMap.{insert_entry, is_at}
+use Rattle.std.specs.Map.{keys_of, set_value}
+use Rattle.std.specs.BTreeMap.{is_at}
 use Rattle.std.specs.Cmp.{IsTotalOrder}
 use Rattle.std.specs.Option.{option_map}
 use Rattle.std.specs.declared.cmp.Ordering.{Ordering}
@@ -22,7 +22,7 @@ use Rattle.svid_requests.specs.declared.plan.Plan.{Plan}
 use Rattle.svid_requests.specs.declared.plan.Plan.TheVariants.{Stay, Go, Part}
 use Rattle.svid_requests.specs.declared.waiter.Waiter.{Waiter}
 use Rattle.svid_requests.specs.Lines.{first_of, key_cmp, waiter_cmp}
-use Rattle.svid_requests.specs.Tables.{Table, at_stage, find, first, followed, gone, hand_to, handed_on, joined, joins, left_at, let_in, next_after, numbered, parted, restaged, subject, turn, turned, without}
+use Rattle.svid_requests.specs.Tables.{Table, at_stage, find, first, followed, gone, hand_to, joined, joins, left_at, let_in, next_after, numbered, parted, restaged, subject, turn, turned, without}
 use Rattle.svid_requests.proofs.EntriesLemmas.{is_equal, lookup_inserted, lookup_removed, lookup_set, sorted_entries_inserted, sorted_entries_removed, sorted_inserted, sorted_removed}
 use Rattle.svid_requests.proofs.PlansLemmas.{IsAbout}
 
@@ -74,9 +74,11 @@ find_turn w q es = by_found (find w es) refl
     here : (o : Option Request) (b : Bool) → one w q ≡ b → find w es ≡ o → cond b (option_map (λ r. at_stage (turned r.stage) r) o) (find q es) ≡ cond b (option_map (λ r. at_stage (turned r.stage) r) (find q es)) (find q es)
     here o true same is = ap (option_map (λ r. at_stage (turned r.stage) r)) (sym is ∙ ap (λ k. find k es) (one_is w q same))
     here o false same is = refl
+
     none : (b : Bool) → one w q ≡ b → find w es ≡ None → find q es ≡ cond b None (find q es)
     none true same is = ap (λ k. find k es) (sym (one_is w q same)) ∙ is
     none false same is = refl
+
     by_found : (o : Option Request) → find w es ≡ o → find q (turn w o es) ≡ turned_at (Some w) q (find q es)
     by_found None is = none (one w q) refl is ∙ here None (one w q) refl is
     by_found (Some r) is = find_restaged w q r (turned r.stage) es is ∙ here (Some r) (one w q) refl is

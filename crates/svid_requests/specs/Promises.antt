@@ -8,19 +8,26 @@ use Rattle.svid_requests.specs.declared.needs.Needs.TheVariants.{Nothing, Write,
 use Rattle.svid_requests.specs.declared.judgment.Judgment.{Judgment}
 use Rattle.svid_requests.specs.declared.judgment.Judgment.TheVariants.{Passes, Holds, Fails}
 use Rattle.svid_requests.specs.declared.verdict.Verdict.{Verdict}
-use Rattle.svid_requests.specs.declared.verdict.Verdict.TheVariants.{Accept, Refuse, Late, NotKept, NoMemory, Left}
+use Rattle.svid_requests.specs.declared.verdict.Verdict.TheVariants.{Accept, Refuse}
 use Rattle.svid_requests.specs.declared.request.Request.{Request}
 use Rattle.svid_requests.specs.declared.event.Event.{Event}
-use Rattle.svid_requests.specs.declared.event.Event.TheVariants.{Judged, Wrote, Send, Found, Leave, Overdue}
+use Rattle.svid_requests.specs.declared.event.Event.TheVariants.{Judged, Wrote, Found, Overdue}
 use Rattle.svid_requests.specs.declared.stage.Stage.{Stage}
-use Rattle.svid_requests.specs.declared.stage.Stage.TheVariants.{Judging, Writing, Claiming, Behind, Again}
+use Rattle.svid_requests.specs.declared.stage.Stage.TheVariants.{Claiming, Behind, Again}
 use Rattle.svid_requests.specs.declared.deed.Deed.TheVariants.{Answer}
 use Rattle.svid_requests.specs.declared.deed.Deed.TheVariants.{Nothing as NothingToDo}
 use Rattle.svid_requests.specs.declared.waiter.Waiter.{Waiter}
 use Rattle.svid_requests.specs.Lines.{key_cmp}
-use Rattle.svid_requests.specs.Tables.{Table, at_moment, find, first, heard, heard_deed, holder}
-use Rattle.svid_requests.specs.History.{Answered, Call, World, fresh, history}
+use Rattle.svid_requests.specs.Tables.{at_moment, came, find, first, heard, heard_deed, holder}
+use Rattle.svid_requests.specs.History.{Answered, Call, World, answered, fresh, happens, history}
 use Rattle.svid_requests.specs.History.Call.{Come, Hear}
+
+-- What a call leaves and answers by its contract is what a history takes it to: a deed that answers is an answer.
+abbrev pub CallsAreHistory : Type 0
+CallsAreHistory = (w : World) (up : ℕ) (e : Event) (refused : Bool)
+    → let s = at_moment w.state up in
+    ((happens w (Come up false)).state ≡ came s) × ((happens w (Come up true)).state ≡ s)
+    × ((happens w (Hear up e refused)).state ≡ heard refused s e) × ((happens w (Hear up e refused)).answers ≡ answered s.now (heard_deed refused s e) w.answers)
 
 -- Answers.
 
