@@ -29,3 +29,6 @@ pub use requests::Requests;
 pub use stage::Stage;
 pub use verdict::Verdict;
 pub use waiter::Waiter;
+
+#[cfg(test)]
+mod tests;
