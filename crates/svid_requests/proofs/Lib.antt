@@ -6,4 +6,5 @@ pub mod ListsLemmas
 pub mod OnceLemmas
 pub mod PlansLemmas
 pub mod SoundLemmas
+pub mod StagesLemmas
 pub mod TablesLemmas

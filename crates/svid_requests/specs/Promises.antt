@@ -14,11 +14,12 @@ use Rattle.svid_requests.specs.declared.event.Event.{Event}
 use Rattle.svid_requests.specs.declared.event.Event.TheVariants.{Judged, Wrote, Found, Overdue}
 use Rattle.svid_requests.specs.declared.stage.Stage.{Stage}
 use Rattle.svid_requests.specs.declared.stage.Stage.TheVariants.{Claiming, Behind, Again}
+use Rattle.svid_requests.specs.declared.deed.Deed.{Deed}
 use Rattle.svid_requests.specs.declared.deed.Deed.TheVariants.{Answer}
 use Rattle.svid_requests.specs.declared.deed.Deed.TheVariants.{Nothing as NothingToDo}
 use Rattle.svid_requests.specs.declared.waiter.Waiter.{Waiter}
 use Rattle.svid_requests.specs.Lines.{key_cmp}
-use Rattle.svid_requests.specs.Tables.{at_moment, came, find, first, heard, heard_deed, holder}
+use Rattle.svid_requests.specs.Tables.{at_moment, came, come_deed, deed_at, find, first, heard, heard_deed, holder}
 use Rattle.svid_requests.specs.History.{Answered, Call, World, answered, fresh, happens, history}
 use Rattle.svid_requests.specs.History.Call.{Come, Hear}
 
@@ -196,3 +197,19 @@ NextIsJudgedAgain = (needs : Needs) (wait : ℕ) (calls : List Call) (up : ℕ) 
     → let w = history (fresh needs wait) calls in
     let s = at_moment w.state up in
     heard_deed refused s e ≡ Answer n v (Some next) → is_at is_again (open_at next (history (fresh needs wait) (Hear up e refused ∷ calls))) ≡ true
+
+-- Deeds.
+
+-- a deed brings the turn of the request of a number
+abbrev pub brings : ℕ → Deed → Bool
+brings n (Answer k v None) = false
+brings n (Answer k v (Some next)) = next == n
+brings n _ = false
+
+-- A request that comes or goes on is told of by the deed of that call: what is to be done for it, or that its turn has come.
+abbrev pub StagesAreTold : Type 0
+StagesAreTold = (needs : Needs) (wait : ℕ) (calls : List Call) (up : ℕ) (e : Event) (refused : Bool) (n : ℕ) (r : Request)
+    → let w = history (fresh needs wait) calls in
+    let s = at_moment w.state up in
+    (open_at n (happens w (Come up refused)) ≡ Some r → (open_at n w ≡ Some r) ⊎ (come_deed s ≡ deed_at n r.stage))
+    × (open_at n (happens w (Hear up e refused)) ≡ Some r → (open_at n w ≡ Some r) ⊎ ((heard_deed refused s e ≡ deed_at n r.stage) ⊎ (brings n (heard_deed refused s e) ≡ true)))
