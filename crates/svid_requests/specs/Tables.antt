@@ -1,15 +1,13 @@
 -- The requests of a member that have no answer yet, and what an event leaves of them.
-use Rattle.std.specs.Prelude.{◌≡◌, ℕ, ◌+◌, ◌^◌, ◌-◌, min, max, Bool, true, false, ◌&&◌, is_some, nat_lt, List, [], ◌∷◌, Option, Some, None, if◌then◌else◌}
+use Rattle.std.specs.Prelude.{ℕ, ◌+◌, ◌^◌, ◌-◌, min, max, Bool, true, false, ◌&&◌, is_some, nat_lt, List, [], ◌∷◌, Option, Some, None, if◌then◌else◌}
 use Rattle.std.specs.Ordering.{nat_cmp}
 use Rattle.std.specs.Map.{lookup, remove_entry, set_value}
 use Rattle.std.specs.BTreeMap.{insert_entry, is_at}
 use Rattle.std.specs.BTreeSet.{insert_key}
 use Rattle.std.specs.Set.{remove_key}
-use Rattle.svid_replay.specs.declared.token_use.Use.{Use}
 use Rattle.svid_requests.specs.declared.needs.Needs.{Needs}
 use Rattle.svid_requests.specs.declared.judgment.Judgment.{Judgment}
 use Rattle.svid_requests.specs.declared.judgment.Judgment.TheVariants.{Passes, Holds, Fails}
-use Rattle.svid_requests.specs.declared.verdict.Verdict.{Verdict}
 use Rattle.svid_requests.specs.declared.verdict.Verdict.TheVariants.{NoMemory}
 use Rattle.svid_requests.specs.declared.request.Request.{Request}
 use Rattle.svid_requests.specs.declared.event.Event.{Event}

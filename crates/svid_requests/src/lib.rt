@@ -7,6 +7,7 @@
 mod deed;
 mod event;
 mod judgment;
+pub mod laws;
 mod lines;
 mod needs;
 mod plan;
@@ -28,3 +29,6 @@ pub use requests::Requests;
 pub use stage::Stage;
 pub use verdict::Verdict;
 pub use waiter::Waiter;
+
+#[cfg(test)]
+mod tests;
