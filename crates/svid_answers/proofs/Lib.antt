@@ -1,3 +1,4 @@
+pub mod ExamplesLemmas
 pub mod FitsLemmas
-pub mod GroupLemmas
 pub mod GrantsLemmas
+pub mod GroupLemmas

@@ -1,5 +1,6 @@
 //! What is proved of members that answer requests.
 
+ghost use Rattle.svid_answers.specs.Examples.{BoundAnswers, StrictAnswers};
 ghost use Rattle.svid_answers.specs.Promises.{AnsweredIsFound, TokensAreAnsweredOnce, TokensAreAnsweredToOneCaller, TokensAreAnsweredToOneOwner};
 
 /// A group that claims tokens in stores, where each token may be used once, answers at most one request for a token with 200: in all of its members, over their restarts, and
@@ -17,4 +18,10 @@ pub fn tokens_are_answered_to_one_owner()
 /// Before a request is answered 200, its member accepted the token by a store's answer.
 pub fn answered_tokens_were_found()
     ensures { AnsweredIsFound }
+{}
+
+/// Histories in which requests are answered 200, so that these laws speak of something.
+pub fn histories_happen()
+    ensures strict { StrictAnswers }
+    ensures bound { BoundAnswers }
 {}
