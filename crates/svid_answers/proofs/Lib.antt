@@ -1,0 +1,4 @@
+pub mod ExamplesLemmas
+pub mod FitsLemmas
+pub mod GrantsLemmas
+pub mod GroupLemmas
