@@ -11,6 +11,7 @@ use svid_script_base::streams;
 use svid_script_base::words::{number, word, words_of};
 use svid_script_journal::Folders;
 use svid_script_log::Logs;
+use svid_script_member::Members;
 use svid_script_trust::{Trust, Validators};
 
 // All values that a script has named.
@@ -21,6 +22,7 @@ struct Values {
     validators: Validators,
     logs: Logs,
     folders: Folders,
+    members: Members,
 }
 
 /// The values of a script, and which allocation of each line is refused.
@@ -125,10 +127,19 @@ fn folder_call(out: &mut Out<'_>, values: &mut Values, words: &[&str]) -> Result
     svid_script_journal::call(out, env, folders, words)
 }
 
+// The calls on members, their requests and their withdrawals.
+fn member_call(out: &mut Out<'_>, values: &mut Values, words: &[&str]) -> Result<(), Stop> {
+    let Values { env, members, .. } = values;
+    match svid_script_member::call(out, env, members, words) {
+        Err(Stop::NoCall) => folder_call(out, values, words),
+        answer => answer,
+    }
+}
+
 // The calls on claims, which name no values.
 fn claim_call(out: &mut Out<'_>, values: &mut Values, words: &[&str]) -> Result<(), Stop> {
     match svid_script_claims::call(out, words) {
-        Err(Stop::NoCall) => folder_call(out, values, words),
+        Err(Stop::NoCall) => member_call(out, values, words),
         answer => answer,
     }
 }
@@ -225,6 +236,7 @@ impl Script {
                 validators: Validators::new(alloc),
                 logs: Logs::new(alloc),
                 folders: Folders::new(alloc),
+                members: Members::new(alloc),
             },
             nth: 0,
         }

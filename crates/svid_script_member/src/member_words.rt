@@ -1,0 +1,148 @@
+use svid_claims::{Found, Owner};
+use svid_member::{Mode, Pacing, Place, Readiness};
+use svid_requests::{Event, Judgment, Needs};
+use svid_script_base::stop::Stop;
+use svid_script_base::use_words::one_use;
+use svid_script_base::words::{key, number, word};
+
+/// Whether a word is `yes`; else it must be `no`.
+pub(crate) fn is_yes(word: &str) -> Result<bool, Stop> {
+    match word {
+        "yes" => Ok(true),
+        "no" => Ok(false),
+        _ => Err(Stop::Script("not yes or no")),
+    }
+}
+
+/// What an acceptance needs.
+pub(crate) fn needs(word: &str) -> Result<Needs, Stop> {
+    match word {
+        "nothing" => Ok(Needs::Nothing),
+        "write" => Ok(Needs::Write),
+        "claim" => Ok(Needs::Claim),
+        _ => Err(Stop::Script("no such need")),
+    }
+}
+
+/// How a member accepts tokens.
+pub(crate) fn mode(word: &str) -> Result<Mode, Stop> {
+    match word {
+        "once" => Ok(Mode::Once),
+        "strict" => Ok(Mode::Strict),
+        "bound" => Ok(Mode::Bound),
+        "reuse" => Ok(Mode::Reuse),
+        _ => Err(Stop::Script("no such mode")),
+    }
+}
+
+// What a member knows to which nothing is missing, and against which nothing speaks.
+fn ready() -> Readiness {
+    Readiness {
+        bundled: true,
+        loaded: true,
+        opened: true,
+        heard: true,
+        joined: true,
+        caught_up: true,
+        draining: false,
+        jumped: false,
+        unkept: false,
+        away: false,
+        deaf: false,
+        ended: false,
+    }
+}
+
+// The same, but for the field of this name.
+fn but(mut known: Readiness, field: &str) -> Result<Readiness, Stop> {
+    match field {
+        "bundled" => known.bundled = false,
+        "loaded" => known.loaded = false,
+        "opened" => known.opened = false,
+        "heard" => known.heard = false,
+        "joined" => known.joined = false,
+        "caught_up" => known.caught_up = false,
+        "draining" => known.draining = true,
+        "jumped" => known.jumped = true,
+        "unkept" => known.unkept = true,
+        "away" => known.away = true,
+        "deaf" => known.deaf = true,
+        "ended" => known.ended = true,
+        _ => return Err(Stop::Script("no such field")),
+    }
+    Ok(known)
+}
+
+/// What a member knows: the fields that are not as in one that is ready, with commas between them.
+pub(crate) fn known(word: &str) -> Result<Readiness, Stop> {
+    let mut known = ready();
+    if word != "-" {
+        for field in word.split(',') {
+            known = but(known, field)?;
+        }
+    }
+    Ok(known)
+}
+
+/// `passes USE`, `holds USE` or `fails N`, from the word at an index on
+fn judgment(words: &[&str], at: usize) -> Result<Judgment, Stop>
+    requires { at < 100 }
+{
+    let judged = word(words, at + 1);
+    match word(words, at) {
+        "passes" => Ok(Judgment::Passes(one_use(judged)?)),
+        "holds" => Ok(Judgment::Holds(one_use(judged)?)),
+        "fails" => Ok(Judgment::Fails(reason(judged)?)),
+        _ => Err(Stop::Script("no judgment")),
+    }
+}
+
+fn reason(word: &str) -> Result<u8, Stop> {
+    u8::try_from(number(word)?).map_err(|_| Stop::Script("no reason"))
+}
+
+/// The event that the words from the fourth on are.
+pub(crate) fn event(words: &[&str]) -> Result<Event, Stop> {
+    if word(words, 3) == "overdue" {
+        return Ok(Event::Overdue);
+    }
+    let about = number(word(words, 4))?;
+    match word(words, 3) {
+        "judged" => Ok(Event::Judged(about, judgment(words, 5)?)),
+        "wrote" => Ok(Event::Wrote(about, is_yes(word(words, 5))?)),
+        "send" => Ok(Event::Send(about)),
+        "found" => Ok(Event::Found(about, judgment(words, 5)?)),
+        "leave" => Ok(Event::Leave(about)),
+        _ => Err(Stop::Script("no such event")),
+    }
+}
+
+/// A place that is to have withdrawals.
+pub(crate) fn place(word: &str) -> Result<Place, Stop> {
+    match word {
+        "disk" => Ok(Place::Disk),
+        "store" => Ok(Place::Store),
+        "log" => Ok(Place::Log),
+        _ => Err(Stop::Script("no such place")),
+    }
+}
+
+/// What a store answers: `OWNER TIME DEAF`, from the seventh word on.
+pub(crate) fn found(words: &[&str]) -> Result<Found, Stop> {
+    Ok(Found {
+        owner: Owner {
+            bytes: key(word(words, 6))?,
+        },
+        time: number(word(words, 7))?,
+        deaf: number(word(words, 8))?,
+    })
+}
+
+/// `CALLS AT PAUSE`, behind the first word
+pub(crate) fn pacing(words: &[&str]) -> Result<Pacing, Stop> {
+    Ok(Pacing {
+        calls: number(word(words, 1))?,
+        at: number(word(words, 2))?,
+        pause: number(word(words, 3))?,
+    })
+}
