@@ -1,5 +1,5 @@
 -- Of one key one request has the claim, and none waits in vain.
-use Rattle.std.proofs.Common.{◌≡◌, inl, inr, ℕ, Bool, true, false, cond, ◌&&◌, not, List, [], ◌∷◌, refl, sym, ap, ◌∙◌, subst, Option, Some, None, is_some}
+use Rattle.std.proofs.Common.{◌≡◌, ◌≤◌, inl, inr, ℕ, Bool, true, false, cond, ◌&&◌, not, List, [], ◌∷◌, refl, sym, ap, ◌∙◌, subst, Option, Some, None, is_some}
 use Rattle.std.specs.Option.{option_map}
 use Rattle.std.specs.Ordering.{is_eq}
 use Rattle.std.specs.Cmp.{IsEquivalence}
@@ -25,7 +25,7 @@ use Rattle.svid_requests.specs.History.Call.{Come, Hear}
 use Rattle.svid_requests.specs.Promises as promises
 use Rattle.svid_requests.specs.Promises.{has_claim, is_again, stands_behind}
 use Rattle.svid_requests.proofs.EntriesLemmas.{any_inserted, any_removed, each_entry, each_key, lookup_inserted, lookup_removed, lookup_set}
-use Rattle.svid_requests.proofs.LinesLemmas.{alike, alike_is, first_stands, none_stands, stands, waiters_alike}
+use Rattle.svid_requests.proofs.LinesLemmas.{alike, alike_is, first_in_line, first_stands, none_stands, stands, waiters_alike}
 use Rattle.svid_requests.proofs.PlansLemmas.{Why, WhyGo, granted_why}
 use Rattle.svid_requests.proofs.SoundLemmas.{next_is_new, sound}
 use Rattle.svid_requests.proofs.TablesLemmas.{InOrder, NumbersRise, find_gone, find_handed, find_let_in, find_without, key_cmp_total, one, one_is, one_itself, subject_is, waiter_cmp_total}
@@ -365,21 +365,44 @@ next_again n r (Claiming u) t next is was order h after = ap (λ o. promises.sta
 next_again n r (Again u) t next is was order h after = ap (λ o. promises.stage_is is_again (find next (hand_to u.key o (without n t)).requests)) after ∙ handed_again n r u.key t is (λ key. ap (has_claim key) was) (λ key. ap (stands_behind key) was) order h next after
 next_again n r g t next is was order h after = absurd cc
 
-next_heard : (needs : Needs) (refused : Bool) (now : ℕ) (e : Event) (t : Table) (o : Option (ℕ × Request)) (n : ℕ) (v : Verdict) (next : ℕ) → subject e t.requests ≡ o → InOrder t → Claims t → deed_by needs refused now e t o ≡ Answer n v (Some next) → promises.stage_is is_again (find next (left_by needs refused now e t o).requests) ≡ true
-next_heard needs refused now e t None n v next is order h deed = absurd cc
-next_heard needs refused now e t (Some p) n v next is order h deed = by_plan (granted refused p.1 (plan needs (held_by e t) now e p.1)) deed
+-- an answer that names a next one is a plan's
+named_by : (n : ℕ) (r : Request) (p : Plan) (t : Table) (k : ℕ) (v : Verdict) (next : ℕ) → deed_of n r p t ≡ Answer k v (Some next) → (verdict : Verdict) × (p ≡ Part verdict) × (next_after r.stage t ≡ Some next)
+named_by n r Stay t k v next deed = absurd cc
+named_by n r (Go g) t k v next deed = absurd (no_stage g deed)
   where
-    no_stage : (g : Stage) → deed_at p.0 g ≡ Answer n v (Some next) → ⊥
+    no_stage : (g : Stage) → deed_at n g ≡ Answer k v (Some next) → ⊥
     no_stage Judging deed = cc
     no_stage g deed = cc
+named_by n r (Part verdict) t k v next deed = (verdict, refl, cc)
 
-    by_plan : (pl : Plan) → deed_of p.0 p.1 pl t ≡ Answer n v (Some next) → promises.stage_is is_again (find next (followed p.0 p.1 pl t).requests) ≡ true
-    by_plan Stay deed = absurd cc
-    by_plan (Go g) deed = absurd (no_stage g deed)
-    by_plan (Part verdict) deed = let after : next_after p.1.stage t ≡ Some next = cc in next_again p.0 p.1 p.1.stage t next (subject_is e t.requests p is).0 refl order h after
+next_heard : (needs : Needs) (refused : Bool) (now : ℕ) (e : Event) (t : Table) (o : Option (ℕ × Request)) (n : ℕ) (v : Verdict) (next : ℕ) → subject e t.requests ≡ o → InOrder t → Claims t → deed_by needs refused now e t o ≡ Answer n v (Some next) → promises.stage_is is_again (find next (left_by needs refused now e t o).requests) ≡ true
+next_heard needs refused now e t None n v next is order h deed = absurd cc
+next_heard needs refused now e t (Some p) n v next is order h deed =
+    let named = named_by p.0 p.1 (granted refused p.1 (plan needs (held_by e t) now e p.1)) t n v next deed in
+    ap (λ pl. promises.stage_is is_again (find next (followed p.0 p.1 pl t).requests)) named.1 ∙ next_again p.0 p.1 p.1.stage t next (subject_is e t.requests p is).0 refl order h named.2
+
+-- it is the first of a line
+first_after : (g : Stage) (t : Table) (next : ℕ) → next_after g t ≡ Some next → (k : List ℕ) × (first_of k t.lines ≡ Some next)
+first_after (Claiming u) t next is = (u.key, is)
+first_after (Again u) t next is = (u.key, is)
+first_after g t next is = absurd cc
+
+first_heard : (needs : Needs) (refused : Bool) (now : ℕ) (e : Event) (t : Table) (o : Option (ℕ × Request)) (n : ℕ) (v : Verdict) (next : ℕ) (key : List ℕ) (m : ℕ) → InOrder t → Claims t → deed_by needs refused now e t o ≡ Answer n v (Some next) → far (stands_behind key) next t ≡ true → far (stands_behind key) m t ≡ true → next ≤ m
+first_heard needs refused now e t None n v next key m order h deed here there = absurd cc
+first_heard needs refused now e t (Some p) n v next key m order h deed here there =
+    let first = first_after p.1.stage t next (named_by p.0 p.1 (granted refused p.1 (plan needs (held_by e t) now e p.1)) t n v next deed).2 in
+    let waiting = waits_at first.0 key (find next t.requests) (sym (h.lined first.0 next) ∙ first_stands first.0 next t.lines first.1) in
+    let same = alike_is key first.0 (sym waiting.stands ∙ here) in
+    first_in_line key next m t.lines order.lines (subst (λ k. first_of k t.lines ≡ Some next) (sym same) first.1) (h.lined key m ∙ there)
 
 pub next_is_judged_again : promises.NextIsJudgedAgain
 next_is_judged_again needs wait calls up e refused n v next deed =
     let w = history (fresh needs wait) calls in
     let s = at_moment w.state up in
     next_heard s.needs refused s.now e s.table (subject e s.table.requests) n v next refl (sound needs wait calls).order (claims needs wait calls) deed
+
+pub first_in_line_is_next : promises.FirstInLineIsNext
+first_in_line_is_next needs wait calls up e refused n v next key m deed =
+    let w = history (fresh needs wait) calls in
+    let s = at_moment w.state up in
+    first_heard s.needs refused s.now e s.table (subject e s.table.requests) n v next key m (sound needs wait calls).order (claims needs wait calls) deed

@@ -1,5 +1,5 @@
 -- A request that comes or goes on is told of.
-use Rattle.std.proofs.Common.{◌≡◌, ◌⊎◌, inl, inr, ℕ, Bool, true, false, cond, List, [], ◌∷◌, refl, sym, ap, ◌∙◌, subst, Option, Some, None}
+use Rattle.std.proofs.Common.{◌≡◌, ◌⊎◌, inl, inr, ℕ, Bool, true, false, cond, refl, sym, ap, ◌∙◌, Option, Some, None}
 use Rattle.std.specs.Prelude.{◌&&◌, not}
 use Rattle.std.specs.Option.{option_map}
 use Rattle.std.proofs.lemmas.Bool.{eq-eqb}
@@ -7,7 +7,6 @@ use Rattle.svid_requests.specs.declared.needs.Needs.{Needs}
 use Rattle.svid_requests.specs.declared.verdict.Verdict.{Verdict}
 use Rattle.svid_requests.specs.declared.request.Request.{Request}
 use Rattle.svid_requests.specs.declared.event.Event.{Event}
-use Rattle.svid_requests.specs.declared.stage.Stage.{Stage}
 use Rattle.svid_requests.specs.declared.stage.Stage.TheVariants.{Judging}
 use Rattle.svid_requests.specs.declared.plan.Plan.{Plan}
 use Rattle.svid_requests.specs.declared.plan.Plan.TheVariants.{Stay, Go, Part}
@@ -17,7 +16,7 @@ use Rattle.svid_requests.specs.Plans.{plan}
 use Rattle.svid_requests.specs.Tables.{State, Table, at_moment, at_stage, come_deed, deadline, deed_at, deed_by, deed_of, find, followed, granted, has_number, held_by, left_by, next_after, subject, turned}
 use Rattle.svid_requests.specs.History.{World, at_state, fresh, history, let_in}
 use Rattle.svid_requests.specs.Promises.{StagesAreTold, brings}
-use Rattle.svid_requests.proofs.SoundLemmas.{Sound, sound}
+use Rattle.svid_requests.proofs.SoundLemmas.{sound}
 use Rattle.svid_requests.proofs.TablesLemmas.{NumbersRise, find_gone, find_let_in, find_parted, one, one_is, subject_is, turned_at}
 
 -- what a deed tells of a request

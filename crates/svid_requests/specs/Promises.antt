@@ -199,6 +199,12 @@ NextIsJudgedAgain = (needs : Needs) (wait : ℕ) (calls : List Call) (up : ℕ) 
     let s = at_moment w.state up in
     heard_deed refused s e ≡ Answer n v (Some next) → stage_is is_again (open_at next (history (fresh needs wait) (Hear up e refused ∷ calls))) ≡ true
 
+-- It came first of those that stood in its line.
+abbrev pub FirstInLineIsNext : Type 0
+FirstInLineIsNext = (needs : Needs) (wait : ℕ) (calls : List Call) (up : ℕ) (e : Event) (refused : Bool) (n : ℕ) (v : Verdict) (next : ℕ) (key : List ℕ) (m : ℕ)
+    → let w = history (fresh needs wait) calls in
+    heard_deed refused (at_moment w.state up) e ≡ Answer n v (Some next) → stage_is (stands_behind key) (open_at next w) ≡ true → stage_is (stands_behind key) (open_at m w) ≡ true → next ≤ m
+
 -- Deeds.
 
 -- a deed brings the turn of the request of a number

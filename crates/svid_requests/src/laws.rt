@@ -1,7 +1,7 @@
 //! What holds of the requests of a member over every history of calls, as contracts of functions without a body. Memory may be refused at
 //! any call.
 
-ghost use Rattle.svid_requests.specs.Promises.{AcceptedAsFound, AcceptedAsJudged, AcceptedInTime, AnswersAreFounded, CallsAreHistory, EachOnce, FirstIsDueFirst, NextIsJudgedAgain, NoneWaitsInVain, NothingIsLeftOver, OneHasAClaim, OverdueAreAnswered, StagesAreTold};
+ghost use Rattle.svid_requests.specs.Promises.{AcceptedAsFound, AcceptedAsJudged, AcceptedInTime, AnswersAreFounded, CallsAreHistory, EachOnce, FirstInLineIsNext, FirstIsDueFirst, NextIsJudgedAgain, NoneWaitsInVain, NothingIsLeftOver, OneHasAClaim, OverdueAreAnswered, StagesAreTold};
 
 /// Histories are made of what the contracts of `come` and `hear` say. Each deed `Answer` is an answer.
 pub fn calls_are_history()
@@ -38,4 +38,5 @@ pub fn one_claims_a_token()
     ensures waits { NoneWaitsInVain }
     ensures kept { NothingIsLeftOver }
     ensures next { NextIsJudgedAgain }
+    ensures first { FirstInLineIsNext }
 {}
