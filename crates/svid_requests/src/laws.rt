@@ -20,7 +20,7 @@ pub fn each_is_answered_once()
     ensures once { EachOnce }
     ensures overdue { OverdueAreAnswered }
     ensures first { FirstIsDueFirst }
-    ensures in_time { AcceptedInTime }
+    ensures timely { AcceptedInTime }
 {}
 
 /// Each acceptance and each refusal rests on what was told of that request. No more tokens are accepted than a validator accepted, or found
