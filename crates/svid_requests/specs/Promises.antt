@@ -13,13 +13,13 @@ use Rattle.svid_requests.specs.declared.request.Request.{Request}
 use Rattle.svid_requests.specs.declared.event.Event.{Event}
 use Rattle.svid_requests.specs.declared.event.Event.TheVariants.{Judged, Wrote, Found, Overdue}
 use Rattle.svid_requests.specs.declared.stage.Stage.{Stage}
-use Rattle.svid_requests.specs.declared.stage.Stage.TheVariants.{Claiming, Behind, Again}
+use Rattle.svid_requests.specs.declared.stage.Stage.TheVariants.{Writing, Claiming, Behind, Again}
 use Rattle.svid_requests.specs.declared.deed.Deed.{Deed}
-use Rattle.svid_requests.specs.declared.deed.Deed.TheVariants.{Answer}
-use Rattle.svid_requests.specs.declared.deed.Deed.TheVariants.{Nothing as NothingToDo}
+use Rattle.svid_requests.specs.declared.deed.Deed.TheVariants.{Judge, Append, Answer}
+use Rattle.svid_requests.specs.declared.deed.Deed.TheVariants.{Nothing as NothingToDo, Claim as PutClaim}
 use Rattle.svid_requests.specs.declared.waiter.Waiter.{Waiter}
 use Rattle.svid_requests.specs.Lines.{key_cmp}
-use Rattle.svid_requests.specs.Tables.{at_moment, came, come_deed, deed_at, find, first, heard, heard_deed, holder}
+use Rattle.svid_requests.specs.Tables.{at_moment, came, come_deed, deed_at, find, first, heard, heard_deed, holder, is_judging}
 use Rattle.svid_requests.specs.History.{Answered, Call, World, answered, fresh, happens, history}
 use Rattle.svid_requests.specs.History.Call.{Come, Hear}
 
@@ -220,3 +220,18 @@ StagesAreTold = (needs : Needs) (wait : ℕ) (calls : List Call) (up : ℕ) (e :
     let s = at_moment w.state up in
     (open_at n (happens w (Come up refused)) ≡ Some r → (open_at n w ≡ Some r) ⊎ (come_deed s ≡ deed_at n r.stage))
     × (open_at n (happens w (Hear up e refused)) ≡ Some r → (open_at n w ≡ Some r) ⊎ ((heard_deed refused s e ≡ deed_at n r.stage) ⊎ (brings n (heard_deed refused s e) ≡ true)))
+
+-- what a deed asks for is what that request waits for, and one that is answered is open no more
+abbrev pub FitsDeed : World → Deed → Type 0
+FitsDeed w (Judge n) = stage_is is_judging (open_at n w) ≡ true
+FitsDeed w (Append n u) = (deadline : ℕ) × (open_at n w ≡ Some (record { deadline = deadline; stage = Writing u }))
+FitsDeed w (PutClaim n u) = (deadline : ℕ) × (open_at n w ≡ Some (record { deadline = deadline; stage = Claiming u }))
+FitsDeed w (Answer n v next) = open_at n w ≡ None
+FitsDeed w _ = Unit {0}
+
+-- Each deed fits what its call leaves.
+abbrev pub DeedsFit : Type 0
+DeedsFit = (needs : Needs) (wait : ℕ) (calls : List Call) (up : ℕ) (e : Event) (refused : Bool)
+    → let w = history (fresh needs wait) calls in
+    let s = at_moment w.state up in
+    FitsDeed (happens w (Come up false)) (come_deed s) × FitsDeed (happens w (Hear up e refused)) (heard_deed refused s e)
