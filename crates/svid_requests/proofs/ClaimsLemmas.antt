@@ -1,5 +1,5 @@
 -- Of one key one request has the claim, and none waits in vain.
-use Rattle.std.proofs.Common.{◌≡◌, inl, inr, ℕ, Bool, true, false, cond, ◌&&◌, not, List, [], ◌∷◌, refl, sym, ap, ◌∙◌, subst, Option, Some, None, is_some}
+use Rattle.std.proofs.Common.{◌≡◌, ◌≤◌, inl, inr, ℕ, Bool, true, false, cond, ◌&&◌, not, List, [], ◌∷◌, refl, sym, ap, ◌∙◌, subst, Option, Some, None, is_some}
 use Rattle.std.specs.Option.{option_map}
 use Rattle.std.specs.Ordering.{is_eq}
 use Rattle.std.specs.Cmp.{IsEquivalence}
@@ -25,14 +25,14 @@ use Rattle.svid_requests.specs.History.Call.{Come, Hear}
 use Rattle.svid_requests.specs.Promises as promises
 use Rattle.svid_requests.specs.Promises.{has_claim, is_again, stands_behind}
 use Rattle.svid_requests.proofs.EntriesLemmas.{any_inserted, any_removed, each_entry, each_key, lookup_inserted, lookup_removed, lookup_set}
-use Rattle.svid_requests.proofs.LinesLemmas.{alike, alike_is, first_stands, none_stands, stands, waiters_alike}
+use Rattle.svid_requests.proofs.LinesLemmas.{alike, alike_is, first_in_line, first_stands, none_stands, stands, waiters_alike}
 use Rattle.svid_requests.proofs.PlansLemmas.{Why, WhyGo, granted_why}
 use Rattle.svid_requests.proofs.SoundLemmas.{next_is_new, sound}
 use Rattle.svid_requests.proofs.TablesLemmas.{InOrder, NumbersRise, find_gone, find_handed, find_let_in, find_without, key_cmp_total, one, one_is, one_itself, subject_is, waiter_cmp_total}
 
 -- the request of a number is so far
 abbrev far : (Stage → Bool) → ℕ → Table → Bool
-far test q t = promises.is_at test (find q t.requests)
+far test q t = promises.stage_is test (find q t.requests)
 
 -- it is the one that holds a claim
 abbrev holds : ℕ → Option ℕ → Bool
@@ -62,18 +62,18 @@ holds_is q (Some m) is = ap Some (one_is m q is)
 
 -- How far requests are after a step.
 
-at_cond : (test : Stage → Bool) (b : Bool) (x y : Option Request) → promises.is_at test (cond b x y) ≡ cond b (promises.is_at test x) (promises.is_at test y)
+at_cond : (test : Stage → Bool) (b : Bool) (x y : Option Request) → promises.stage_is test (cond b x y) ≡ cond b (promises.stage_is test x) (promises.stage_is test y)
 at_cond test true x y = refl
 at_cond test false x y = refl
 
 far_at : (test : Stage → Bool) (n q : ℕ) (r : Request) (t : Table) → find n t.requests ≡ Some r → one n q ≡ true → far test q t ≡ test r.stage
-far_at test n q r t is same = ap (promises.is_at test) (ap (λ k. find k t.requests) (sym (one_is n q same)) ∙ is)
+far_at test n q r t is same = ap (promises.stage_is test) (ap (λ k. find k t.requests) (sym (one_is n q same)) ∙ is)
 
 far_gone : (test : Stage → Bool) (n : ℕ) (r : Request) (g : Stage) (t : Table) (q : ℕ) → find n t.requests ≡ Some r → far test q (gone n r g t) ≡ cond (one n q) (test g) (far test q t)
-far_gone test n r g t q is = ap (promises.is_at test) (find_gone n r g t q is) ∙ at_cond test (one n q) (Some (at_stage g r)) (find q t.requests)
+far_gone test n r g t q is = ap (promises.stage_is test) (find_gone n r g t q is) ∙ at_cond test (one n q) (Some (at_stage g r)) (find q t.requests)
 
 far_without : (test : Stage → Bool) (n : ℕ) (t : Table) (q : ℕ) → NumbersRise t → far test q (without n t) ≡ cond (one n q) false (far test q t)
-far_without test n t q up = ap (promises.is_at test) (find_without n t q up) ∙ at_cond test (one n q) None (find q t.requests)
+far_without test n t q up = ap (promises.stage_is test) (find_without n t q up) ∙ at_cond test (one n q) None (find q t.requests)
 
 -- nothing changes where the request of a number was as far
 kept : (test : Stage → Bool) (n q : ℕ) (r : Request) (t : Table) (x b : Bool) → find n t.requests ≡ Some r → one n q ≡ b → x ≡ test r.stage → cond b x (far test q t) ≡ far test q t
@@ -182,20 +182,17 @@ record Waits (k key : List ℕ) (was turned : Stage) : Type 0 where
   again : is_again turned ≡ true
 
 waits : (k key : List ℕ) (g : Stage) → stands_behind k g ≡ true → Waits k key g (turned g)
-waits k key Judging is = absurd (false≢true is)
-waits k key (Writing u) is = absurd (false≢true is)
-waits k key (Claiming u) is = absurd (false≢true is)
 waits k key (Behind u) is = let same = ap (alike key) (sym (alike_is k u.key is)) in record { claims = refl; stands = same; takes = same; leaves = refl; again = refl }
-waits k key (Again u) is = absurd (false≢true is)
+waits k key g is = absurd (false≢true is)
 
 record WaitsAt (k key : List ℕ) (o : Option Request) : Type 0 where
-  claims : promises.is_at (has_claim key) o ≡ false
-  stands : promises.is_at (stands_behind key) o ≡ alike key k
-  takes : promises.is_at (has_claim key) (option_map (λ r. at_stage (turned r.stage) r) o) ≡ alike key k
-  leaves : promises.is_at (stands_behind key) (option_map (λ r. at_stage (turned r.stage) r) o) ≡ false
-  again : promises.is_at is_again (option_map (λ r. at_stage (turned r.stage) r) o) ≡ true
+  claims : promises.stage_is (has_claim key) o ≡ false
+  stands : promises.stage_is (stands_behind key) o ≡ alike key k
+  takes : promises.stage_is (has_claim key) (option_map (λ r. at_stage (turned r.stage) r) o) ≡ alike key k
+  leaves : promises.stage_is (stands_behind key) (option_map (λ r. at_stage (turned r.stage) r) o) ≡ false
+  again : promises.stage_is is_again (option_map (λ r. at_stage (turned r.stage) r) o) ≡ true
 
-waits_at : (k key : List ℕ) (o : Option Request) → promises.is_at (stands_behind k) o ≡ true → WaitsAt k key o
+waits_at : (k key : List ℕ) (o : Option Request) → promises.stage_is (stands_behind k) o ≡ true → WaitsAt k key o
 waits_at k key None is = absurd (false≢true is)
 waits_at k key (Some r) is = let all = waits k key r.stage is in record { claims = all.claims; stands = all.stands; takes = all.takes; leaves = all.leaves; again = all.again }
 
@@ -240,12 +237,12 @@ module _ (n : ℕ) (r : Request) (k : List ℕ) (t : Table) (is : find n t.reque
     found_still : find w (without n t).requests ≡ find w t.requests
     found_still = find_without n t w order.numbers ∙ ap (λ b. cond b None (find w t.requests)) (another (one n w) refl)
 
-    far_handed : (test : Stage → Bool) (y : Bool) → promises.is_at test (option_map (λ r. at_stage (turned r.stage) r) (find w t.requests)) ≡ y → (q : ℕ) → far test q (hand_to k (Some w) (without n t)) ≡ cond (one w q) y (cond (one n q) false (far test q t))
+    far_handed : (test : Stage → Bool) (y : Bool) → promises.stage_is test (option_map (λ r. at_stage (turned r.stage) r) (find w t.requests)) ≡ y → (q : ℕ) → far test q (hand_to k (Some w) (without n t)) ≡ cond (one w q) y (cond (one n q) false (far test q t))
     far_handed test y turns q =
-        ap (promises.is_at test) (find_handed k (Some w) (without n t) q) ∙ at_cond test (one w q) (option_map (λ r. at_stage (turned r.stage) r) (find q (without n t).requests)) (find q (without n t).requests) ∙ at (one w q) refl
+        ap (promises.stage_is test) (find_handed k (Some w) (without n t) q) ∙ at_cond test (one w q) (option_map (λ r. at_stage (turned r.stage) r) (find q (without n t).requests)) (find q (without n t).requests) ∙ at (one w q) refl
       where
-        at : (c : Bool) → one w q ≡ c → cond c (promises.is_at test (option_map (λ r. at_stage (turned r.stage) r) (find q (without n t).requests))) (far test q (without n t)) ≡ cond c y (cond (one n q) false (far test q t))
-        at true same = ap (λ o. promises.is_at test (option_map (λ r. at_stage (turned r.stage) r) o)) (ap (λ x. find x (without n t).requests) (sym (one_is w q same)) ∙ found_still) ∙ turns
+        at : (c : Bool) → one w q ≡ c → cond c (promises.stage_is test (option_map (λ r. at_stage (turned r.stage) r) (find q (without n t).requests))) (far test q (without n t)) ≡ cond c y (cond (one n q) false (far test q t))
+        at true same = ap (λ o. promises.stage_is test (option_map (λ r. at_stage (turned r.stage) r) o)) (ap (λ x. find x (without n t).requests) (sym (one_is w q same)) ∙ found_still) ∙ turns
         at false apart = far_without test n t q order.numbers
 
     holder_handed : (key : List ℕ) → holder key (hand_to k (Some w) (without n t)).holders ≡ cond (alike k key) (Some w) (holder key t.holders)
@@ -283,7 +280,7 @@ module _ (n : ℕ) (r : Request) (k : List ℕ) (t : Table) (is : find n t.reque
   handed (Some w) is = handed_to_one w is
 
   -- the next one is to be judged again
-  handed_again : (w : ℕ) → first_of k t.lines ≡ Some w → promises.is_at is_again (find w (hand_to k (Some w) (without n t)).requests) ≡ true
+  handed_again : (w : ℕ) → first_of k t.lines ≡ Some w → promises.stage_is is_again (find w (hand_to k (Some w) (without n t)).requests) ≡ true
   handed_again w next = far_handed w next is_again true (it_waits w next k).again w ∙ ap (λ b. cond b true (cond (one n w) false (far is_again w t))) (one_itself w)
 
 claims_left : (n : ℕ) (r : Request) (g : Stage) (t : Table) → find n t.requests ≡ Some r → r.stage ≡ g → InOrder t → Claims t → Claims (left_at n g (without n t))
@@ -323,11 +320,11 @@ claims_come s w false none h = h
 claims_come s w true none h = claims_same s.table (let_in s.next (deadline s) s.table) refl refl (λ key q. same (has_claim key) q refl) (λ key q. same (stands_behind key) q refl) h
   where
     here : (test : Stage → Bool) (q : ℕ) (b : Bool) → one q s.next ≡ b → cond b false (far test q s.table) ≡ far test q s.table
-    here test q true is = sym (ap (promises.is_at test) (ap (λ x. find x s.table.requests) (one_is q s.next is) ∙ none))
+    here test q true is = sym (ap (promises.stage_is test) (ap (λ x. find x s.table.requests) (one_is q s.next is) ∙ none))
     here test q false is = refl
 
     same : (test : Stage → Bool) (q : ℕ) → test Judging ≡ false → far test q (let_in s.next (deadline s) s.table) ≡ far test q s.table
-    same test q new = ap (promises.is_at test) (find_let_in s.next (deadline s) s.table q) ∙ at_cond test (one q s.next) (Some (record { deadline = deadline s; stage = Judging })) (find q s.table.requests) ∙ ap (λ x. cond (one q s.next) x (far test q s.table)) new ∙ here test q (one q s.next) refl
+    same test q new = ap (promises.stage_is test) (find_let_in s.next (deadline s) s.table q) ∙ at_cond test (one q s.next) (Some (record { deadline = deadline s; stage = Judging })) (find q s.table.requests) ∙ ap (λ x. cond (one q s.next) x (far test q s.table)) new ∙ here test q (one q s.next) refl
 
 pub claims : (needs : Needs) (wait : ℕ) (calls : List Call) → Claims (history (fresh needs wait) calls).state.table
 claims needs wait [] = record { held = λ key q. refl; lined = λ key q. refl; served = λ key q is. absurd (false≢true is) }
@@ -363,31 +360,49 @@ nothing_is_left_over needs wait calls =
     )
 
 -- the next one of an answer
-next_again : (n : ℕ) (r : Request) (g : Stage) (t : Table) (next : ℕ) → find n t.requests ≡ Some r → r.stage ≡ g → InOrder t → Claims t → next_after g t ≡ Some next → promises.is_at is_again (find next (left_at n g (without n t)).requests) ≡ true
-next_again n r Judging t next is was order h after = absurd cc
-next_again n r (Writing u) t next is was order h after = absurd cc
-next_again n r (Claiming u) t next is was order h after = ap (λ o. promises.is_at is_again (find next (hand_to u.key o (without n t)).requests)) after ∙ handed_again n r u.key t is (λ key. ap (has_claim key) was) (λ key. ap (stands_behind key) was) order h next after
-next_again n r (Behind u) t next is was order h after = absurd cc
-next_again n r (Again u) t next is was order h after = ap (λ o. promises.is_at is_again (find next (hand_to u.key o (without n t)).requests)) after ∙ handed_again n r u.key t is (λ key. ap (has_claim key) was) (λ key. ap (stands_behind key) was) order h next after
+next_again : (n : ℕ) (r : Request) (g : Stage) (t : Table) (next : ℕ) → find n t.requests ≡ Some r → r.stage ≡ g → InOrder t → Claims t → next_after g t ≡ Some next → promises.stage_is is_again (find next (left_at n g (without n t)).requests) ≡ true
+next_again n r (Claiming u) t next is was order h after = ap (λ o. promises.stage_is is_again (find next (hand_to u.key o (without n t)).requests)) after ∙ handed_again n r u.key t is (λ key. ap (has_claim key) was) (λ key. ap (stands_behind key) was) order h next after
+next_again n r (Again u) t next is was order h after = ap (λ o. promises.stage_is is_again (find next (hand_to u.key o (without n t)).requests)) after ∙ handed_again n r u.key t is (λ key. ap (has_claim key) was) (λ key. ap (stands_behind key) was) order h next after
+next_again n r g t next is was order h after = absurd cc
 
-next_heard : (needs : Needs) (refused : Bool) (now : ℕ) (e : Event) (t : Table) (o : Option (ℕ × Request)) (n : ℕ) (v : Verdict) (next : ℕ) → subject e t.requests ≡ o → InOrder t → Claims t → deed_by needs refused now e t o ≡ Answer n v (Some next) → promises.is_at is_again (find next (left_by needs refused now e t o).requests) ≡ true
-next_heard needs refused now e t None n v next is order h deed = absurd cc
-next_heard needs refused now e t (Some p) n v next is order h deed = by_plan (granted refused p.1 (plan needs (held_by e t) now e p.1)) deed
+-- an answer that names a next one is a plan's
+named_by : (n : ℕ) (r : Request) (p : Plan) (t : Table) (k : ℕ) (v : Verdict) (next : ℕ) → deed_of n r p t ≡ Answer k v (Some next) → (verdict : Verdict) × (p ≡ Part verdict) × (next_after r.stage t ≡ Some next)
+named_by n r Stay t k v next deed = absurd cc
+named_by n r (Go g) t k v next deed = absurd (no_stage g deed)
   where
-    no_stage : (g : Stage) → deed_at p.0 g ≡ Answer n v (Some next) → ⊥
+    no_stage : (g : Stage) → deed_at n g ≡ Answer k v (Some next) → ⊥
     no_stage Judging deed = cc
-    no_stage (Writing u) deed = cc
-    no_stage (Claiming u) deed = cc
-    no_stage (Behind u) deed = cc
-    no_stage (Again u) deed = cc
+    no_stage g deed = cc
+named_by n r (Part verdict) t k v next deed = (verdict, refl, cc)
 
-    by_plan : (pl : Plan) → deed_of p.0 p.1 pl t ≡ Answer n v (Some next) → promises.is_at is_again (find next (followed p.0 p.1 pl t).requests) ≡ true
-    by_plan Stay deed = absurd cc
-    by_plan (Go g) deed = absurd (no_stage g deed)
-    by_plan (Part verdict) deed = let after : next_after p.1.stage t ≡ Some next = cc in next_again p.0 p.1 p.1.stage t next (subject_is e t.requests p is).0 refl order h after
+next_heard : (needs : Needs) (refused : Bool) (now : ℕ) (e : Event) (t : Table) (o : Option (ℕ × Request)) (n : ℕ) (v : Verdict) (next : ℕ) → subject e t.requests ≡ o → InOrder t → Claims t → deed_by needs refused now e t o ≡ Answer n v (Some next) → promises.stage_is is_again (find next (left_by needs refused now e t o).requests) ≡ true
+next_heard needs refused now e t None n v next is order h deed = absurd cc
+next_heard needs refused now e t (Some p) n v next is order h deed =
+    let named = named_by p.0 p.1 (granted refused p.1 (plan needs (held_by e t) now e p.1)) t n v next deed in
+    ap (λ pl. promises.stage_is is_again (find next (followed p.0 p.1 pl t).requests)) named.1 ∙ next_again p.0 p.1 p.1.stage t next (subject_is e t.requests p is).0 refl order h named.2
+
+-- it is the first of a line
+first_after : (g : Stage) (t : Table) (next : ℕ) → next_after g t ≡ Some next → (k : List ℕ) × (first_of k t.lines ≡ Some next)
+first_after (Claiming u) t next is = (u.key, is)
+first_after (Again u) t next is = (u.key, is)
+first_after g t next is = absurd cc
+
+first_heard : (needs : Needs) (refused : Bool) (now : ℕ) (e : Event) (t : Table) (o : Option (ℕ × Request)) (n : ℕ) (v : Verdict) (next : ℕ) (key : List ℕ) (m : ℕ) → InOrder t → Claims t → deed_by needs refused now e t o ≡ Answer n v (Some next) → far (stands_behind key) next t ≡ true → far (stands_behind key) m t ≡ true → next ≤ m
+first_heard needs refused now e t None n v next key m order h deed here there = absurd cc
+first_heard needs refused now e t (Some p) n v next key m order h deed here there =
+    let first = first_after p.1.stage t next (named_by p.0 p.1 (granted refused p.1 (plan needs (held_by e t) now e p.1)) t n v next deed).2 in
+    let waiting = waits_at first.0 key (find next t.requests) (sym (h.lined first.0 next) ∙ first_stands first.0 next t.lines first.1) in
+    let same = alike_is key first.0 (sym waiting.stands ∙ here) in
+    first_in_line key next m t.lines order.lines (subst (λ k. first_of k t.lines ≡ Some next) (sym same) first.1) (h.lined key m ∙ there)
 
 pub next_is_judged_again : promises.NextIsJudgedAgain
 next_is_judged_again needs wait calls up e refused n v next deed =
     let w = history (fresh needs wait) calls in
     let s = at_moment w.state up in
     next_heard s.needs refused s.now e s.table (subject e s.table.requests) n v next refl (sound needs wait calls).order (claims needs wait calls) deed
+
+pub first_in_line_is_next : promises.FirstInLineIsNext
+first_in_line_is_next needs wait calls up e refused n v next key m deed =
+    let w = history (fresh needs wait) calls in
+    let s = at_moment w.state up in
+    first_heard s.needs refused s.now e s.table (subject e s.table.requests) n v next key m (sound needs wait calls).order (claims needs wait calls) deed

@@ -12,7 +12,7 @@ use Rattle.svid_replay.specs.declared.token_use.Use.{Use}
 use Rattle.svid_requests.specs.declared.needs.Needs.{Needs}
 use Rattle.svid_requests.specs.declared.needs.Needs.TheVariants.{Nothing, Write, Claim}
 use Rattle.svid_requests.specs.declared.judgment.Judgment.TheVariants.{Passes, Holds}
-use Rattle.svid_requests.specs.declared.verdict.Verdict.TheVariants.{Accept, Refuse, Late, NotKept, NoMemory, Left}
+use Rattle.svid_requests.specs.declared.verdict.Verdict.TheVariants.{Accept}
 use Rattle.svid_requests.specs.declared.request.Request.{Request}
 use Rattle.svid_requests.specs.declared.event.Event.{Event}
 use Rattle.svid_requests.specs.declared.event.Event.TheVariants.{Found}
@@ -46,11 +46,8 @@ writes p (Writing u) = one_if (p u)
 writes p _ = 0
 
 writes_turned : (p : Use → Bool) (g : Stage) → writes p (turned g) ≡ writes p g
-writes_turned p Judging = refl
-writes_turned p (Writing u) = refl
-writes_turned p (Claiming u) = refl
 writes_turned p (Behind u) = refl
-writes_turned p (Again u) = refl
+writes_turned p g = refl
 
 -- how many are on their way
 abbrev writing : (Use → Bool) → List (ℕ × Request) → ℕ
@@ -68,11 +65,9 @@ writing_handed p key None t = refl
 writing_handed p key (Some w) t = writing_turn p w (find w t.requests) t.requests refl
 
 writing_left : (p : Use → Bool) (n : ℕ) (g : Stage) (t : Table) → writing p (left_at n g t).requests ≡ writing p t.requests
-writing_left p n Judging t = refl
-writing_left p n (Writing u) t = refl
 writing_left p n (Claiming u) t = writing_handed p u.key (first_of u.key t.lines) t
-writing_left p n (Behind u) t = refl
 writing_left p n (Again u) t = writing_handed p u.key (first_of u.key t.lines) t
+writing_left p n g t = refl
 
 -- whether the use of a request is on its way after a plan
 abbrev writes_after : (Use → Bool) → Stage → Plan → ℕ
@@ -98,18 +93,9 @@ covered_accept p needs calls e n was u free h (inr (inr (inl why))) = let writte
 covered_accept p needs calls e n was u free h (inr (inr (inr why))) = absurd (free (subst (Rests needs calls n) why.1 h).0)
 
 covered : (p : Use → Bool) (needs : Needs) (held : Bool) (now : ℕ) (calls : List Call) (e : Event) (n d : ℕ) (was : Stage) (pl : Plan) → (needs ≡ Claim → ⊥) → Rests needs calls n was → Why needs held now e n d was pl → gain p pl + writes_after p was pl ≤ writes p was + one_if (is_judged p e)
-covered p needs held now calls e n d was Stay free h why = omega arith
-covered p needs held now calls e n d was (Go Judging) free h why = omega arith
 covered p needs held now calls e n d was (Go (Writing u)) free h why = let told = ap (λ (f : Event). one_if (is_judged p f)) why.2 in omega arith
-covered p needs held now calls e n d was (Go (Claiming u)) free h why = omega arith
-covered p needs held now calls e n d was (Go (Behind u)) free h why = omega arith
-covered p needs held now calls e n d was (Go (Again u)) free h why = omega arith
 covered p needs held now calls e n d was (Part (Accept u)) free h why = let all = covered_accept p needs calls e n was u free h why.1 in omega arith
-covered p needs held now calls e n d was (Part (Refuse reason)) free h why = omega arith
-covered p needs held now calls e n d was (Part Late) free h why = omega arith
-covered p needs held now calls e n d was (Part NotKept) free h why = omega arith
-covered p needs held now calls e n d was (Part NoMemory) free h why = omega arith
-covered p needs held now calls e n d was (Part Left) free h why = omega arith
+covered p needs held now calls e n d was pl free h why = omega arith
 
 -- Where one is.
 
@@ -124,14 +110,8 @@ found_accept p needs calls e n was u is h (inr (inr (inr why))) = either why.2
     either (inr holds) = let told = ap (λ (f : Event). one_if (is_found p f)) holds in omega arith
 
 gained : (p : Use → Bool) (needs : Needs) (held : Bool) (now : ℕ) (calls : List Call) (e : Event) (n d : ℕ) (was : Stage) (pl : Plan) → needs ≡ Claim → Rests needs calls n was → Why needs held now e n d was pl → gain p pl ≤ one_if (is_found p e)
-gained p needs held now calls e n d was Stay is h why = omega arith
-gained p needs held now calls e n d was (Go g) is h why = omega arith
 gained p needs held now calls e n d was (Part (Accept u)) is h why = found_accept p needs calls e n was u is h why.1
-gained p needs held now calls e n d was (Part (Refuse reason)) is h why = omega arith
-gained p needs held now calls e n d was (Part Late) is h why = omega arith
-gained p needs held now calls e n d was (Part NotKept) is h why = omega arith
-gained p needs held now calls e n d was (Part NoMemory) is h why = omega arith
-gained p needs held now calls e n d was (Part Left) is h why = omega arith
+gained p needs held now calls e n d was pl is h why = omega arith
 
 -- Over a history.
 

@@ -187,6 +187,15 @@ module _ {K : Type 0} {R : K → K → Ordering} (o : IsTotalOrder R) where
       none_found k [] all = refl
       none_found k (y ∷ ks) all = rw all.0 (none_found k ks all.1)
 
+  -- whatever is found among those after a key is after it
+  pub found_after : (x k : K) (ks : List K) → AllByRecursion (λ y. R x y ≡ Less) ks → list_any (is_at (R k)) ks ≡ true → R x k ≡ Less
+  found_after x k [] all found = absurd (false≢true found)
+  found_after x k (y ∷ ks) all found = by_test (is_eq (R k y)) refl found (found_after x k ks all.1)
+    where
+      by_test : (b : Bool) → is_eq (R k y) ≡ b → (b || list_any (is_at (R k)) ks) ≡ true → (list_any (is_at (R k)) ks ≡ true → R x k ≡ Less) → R x k ≡ Less
+      by_test true same found later = alike_right o k y x (is_equal (R k y) same) ∙ all.0
+      by_test false apart found later = later found
+
   -- what holds of all that is found holds of each
   pub each_key : (P : K → Type 0) (ks : List K) → ((k : K) → list_any (is_at (R k)) ks ≡ true → P k) → AllByRecursion P ks
   each_key P [] f = tt

@@ -1,6 +1,6 @@
 -- The lines: who stands in them, and who is first.
-use Rattle.std.proofs.Common.{◌≡◌, ℕ, Bool, true, false, cond, ◌&&◌, ◌||◌, List, [], ◌∷◌, zero, suc, arith, refl, sym, ◌∙◌, subst, Some, None}
-use Rattle.std.specs.List.{filter, list_any}
+use Rattle.std.proofs.Common.{◌≡◌, ℕ, ◌≤◌, Bool, true, false, cond, ◌&&◌, ◌||◌, List, [], ◌∷◌, zero, suc, arith, refl, sym, ap, ◌∙◌, subst, Some, None}
+use Rattle.std.specs.List.{AllByRecursion, filter, list_any}
 use Rattle.std.specs.List.Sorted.{IsStrictlySortedBy}
 use Rattle.std.specs.BTreeMap.{is_at}
 use Rattle.std.specs.BTreeMap.Range.{range_contains}
@@ -8,14 +8,15 @@ use Rattle.std.specs.Ordering.{is_eq, is_le, nat_cmp, ordering_then}
 use Rattle.std.specs.declared.cmp.Ordering.{Ordering}
 use Rattle.std.specs.declared.cmp.Ordering.TheVariants.{Less, Equal, Greater}
 use Rattle.std.specs.declared.ops.Bound.TheVariants.{Included, Unbounded}
+use Rattle.std.proofs.lemmas.Cmp.{nat_list_cmp_total, ranked, tied_itself}
 use Rattle.std.proofs.lemmas.Bool.{false≢true, lt-ltb}
 use Rattle.std.proofs.lemmas.List.Kept.{IsStrictlySortedBy-filter}
 use Rattle.std.proofs.lemmas.Map.Lookups.{exact_bytes}
 use Rattle.std.proofs.lemmas.Map.Views.{any-filter_same}
 use Rattle.svid_requests.specs.declared.waiter.Waiter.{Waiter}
 use Rattle.svid_requests.specs.Lines.{first_of, key_cmp, number_at, waiter_cmp}
-use Rattle.svid_requests.proofs.EntriesLemmas.{is_equal, none_before}
-use Rattle.svid_requests.proofs.TablesLemmas.{one, one_itself, waiter_cmp_total}
+use Rattle.svid_requests.proofs.EntriesLemmas.{found_after, is_equal, none_before}
+use Rattle.svid_requests.proofs.TablesLemmas.{one, one_is, one_itself, waiter_cmp_total}
 
 -- one key or not
 abbrev pub alike : List ℕ → List ℕ → Bool
@@ -93,3 +94,29 @@ none_stands key n ws up is = stands_from key n ws ∙ at_head (filter (from_key 
     at_head : (vs : List Waiter) → filter (from_key key) ws ≡ vs → number_at key vs ≡ None → IsStrictlySortedBy waiter_cmp vs → stands key n vs ≡ false
     at_head [] from is up = refl
     at_head (v ∷ vs) from is up = at_key v vs (alike key v.key) refl is (filter_head (from_key key) ws v vs from) up
+
+-- the first one of a line has the least number of it
+pub first_in_line : (key : List ℕ) (w m : ℕ) (ws : List Waiter) → IsStrictlySortedBy waiter_cmp ws → first_of key ws ≡ Some w → stands key m ws ≡ true → w ≤ m
+unfolding IsStrictlySortedBy
+first_in_line key w m ws up is found = at_head (filter (from_key key) ws) is (IsStrictlySortedBy-filter waiter_cmp (from_key key) ws up) (sym (stands_from key m ws) ∙ found)
+  where
+    later : (v : Waiter) → key ≡ v.key → waiter_cmp v (record { key = key; number = m }) ≡ Less → v.number ≤ m
+    later v same less =
+        let tied : key_cmp v.key key ≡ Equal = ap (key_cmp v.key) same ∙ tied_itself nat_list_cmp_total v.key in
+        let below = ranked v.number m Less (sym (sym (ap (λ o. ordering_then o (nat_cmp v.number m)) tied) ∙ less)) in
+        omega arith
+
+    at_number : (v : Waiter) (vs : List Waiter) (c : Bool) → key ≡ v.key → one m v.number ≡ c → AllByRecursion (λ x. waiter_cmp v x ≡ Less) vs → (c || stands key m vs) ≡ true → v.number ≤ m
+    at_number v vs true same number after found = let equal = one_is m v.number number in omega arith
+    at_number v vs false same number after found = later v same (found_after waiter_cmp_total v (record { key = key; number = m }) vs after found)
+
+    at_key : (v : Waiter) (vs : List Waiter) (b : Bool) → alike key v.key ≡ b → cond b (Some v.number) None ≡ Some w → AllByRecursion (λ x. waiter_cmp v x ≡ Less) vs → (is_eq (waiter_cmp (record { key = key; number = m }) v) || stands key m vs) ≡ true → w ≤ m
+    at_key v vs false same is after found = absurd cc
+    at_key v vs true same is after found =
+        let number : v.number ≡ w = cc in
+        let test = waiters_alike (record { key = key; number = m }) v ∙ ap (λ b. cond b (one m v.number) false) same in
+        subst (λ x. x ≤ m) number (at_number v vs (one m v.number) (alike_is key v.key same) refl after (sym (ap (λ b. b || stands key m vs) test) ∙ found))
+
+    at_head : (vs : List Waiter) → number_at key vs ≡ Some w → IsStrictlySortedBy waiter_cmp vs → stands key m vs ≡ true → w ≤ m
+    at_head [] is up found = absurd cc
+    at_head (v ∷ vs) is up found = at_key v vs (alike key v.key) refl is up.0 found

@@ -72,27 +72,19 @@ again_why needs held now n deadline own (Fails why) time = inl refl
 judgment_why : (needs : Needs) (held : Bool) (now n : ℕ) (j : Judgment) (r : Request) (was : Stage) → Why needs held now (Judged n j) n r.deadline was (after_judgment needs held now j r was)
 judgment_why needs held now n j r Judging = timely (Why needs held now (Judged n j) n r.deadline Judging) now r.deadline (judged needs held j) (nat_le r.deadline now) refl tt (judged_why needs held now n r.deadline j)
 judgment_why needs held now n j r (Again own) = timely (Why needs held now (Judged n j) n r.deadline (Again own)) now r.deadline (judged_again own j) (nat_le r.deadline now) refl tt (again_why needs held now n r.deadline own j)
-judgment_why needs held now n j r (Writing u) = tt
-judgment_why needs held now n j r (Claiming u) = tt
-judgment_why needs held now n j r (Behind u) = tt
+judgment_why needs held now n j r was = tt
 
 written_why : (needs : Needs) (held : Bool) (now n deadline : ℕ) (ok : Bool) (u : Use) → now < deadline → Why needs held now (Wrote n ok) n deadline (Writing u) (written ok u)
 written_why needs held now n deadline true u time = (time, inr (inr (inl (refl, refl))))
 written_why needs held now n deadline false u time = tt
 
 write_why : (needs : Needs) (held : Bool) (now n : ℕ) (ok : Bool) (r : Request) (was : Stage) → Why needs held now (Wrote n ok) n r.deadline was (after_write now ok r was)
-write_why needs held now n ok r Judging = tt
 write_why needs held now n ok r (Writing u) = timely (Why needs held now (Wrote n ok) n r.deadline (Writing u)) now r.deadline (written ok u) (nat_le r.deadline now) refl tt (written_why needs held now n r.deadline ok u)
-write_why needs held now n ok r (Claiming u) = tt
-write_why needs held now n ok r (Behind u) = tt
-write_why needs held now n ok r (Again u) = tt
+write_why needs held now n ok r was = tt
 
 send_why : (needs : Needs) (held : Bool) (now n : ℕ) (r : Request) (was : Stage) → Why needs held now (Send n) n r.deadline was (after_send now r was)
-send_why needs held now n r Judging = tt
-send_why needs held now n r (Writing u) = tt
 send_why needs held now n r (Claiming u) = timely (Why needs held now (Send n) n r.deadline (Claiming u)) now r.deadline (Go (Claiming u)) (nat_le r.deadline now) refl tt (λ time. inr (inr refl))
-send_why needs held now n r (Behind u) = tt
-send_why needs held now n r (Again u) = tt
+send_why needs held now n r was = tt
 
 found_why : (needs : Needs) (held : Bool) (now n deadline : ℕ) (j : Judgment) (v : Use) → now < deadline → Why needs held now (Found n j) n deadline (Claiming v) (found j)
 found_why needs held now n deadline (Passes u) v time = (time, inr (inr (inr (v, refl, inl refl))))
@@ -100,18 +92,12 @@ found_why needs held now n deadline (Holds u) v time = (time, inr (inr (inr (v, 
 found_why needs held now n deadline (Fails why) v time = inr refl
 
 answer_why : (needs : Needs) (held : Bool) (now n : ℕ) (j : Judgment) (r : Request) (was : Stage) → Why needs held now (Found n j) n r.deadline was (after_answer now j r was)
-answer_why needs held now n j r Judging = tt
-answer_why needs held now n j r (Writing u) = tt
 answer_why needs held now n j r (Claiming u) = timely (Why needs held now (Found n j) n r.deadline (Claiming u)) now r.deadline (found j) (nat_le r.deadline now) refl tt (found_why needs held now n r.deadline j u)
-answer_why needs held now n j r (Behind u) = tt
-answer_why needs held now n j r (Again u) = tt
+answer_why needs held now n j r was = tt
 
 leave_why : (needs : Needs) (held : Bool) (now n deadline : ℕ) (was : Stage) → Why needs held now (Leave n) n deadline was (after_leave was)
-leave_why needs held now n deadline Judging = tt
 leave_why needs held now n deadline (Writing u) = tt
-leave_why needs held now n deadline (Claiming u) = tt
-leave_why needs held now n deadline (Behind u) = tt
-leave_why needs held now n deadline (Again u) = tt
+leave_why needs held now n deadline was = tt
 
 plan_why : (needs : Needs) (held : Bool) (now : ℕ) (e : Event) (n : ℕ) (r : Request) → IsAbout e n → Why needs held now e n r.deadline r.stage (plan needs held now e r)
 plan_why needs held now (Judged k j) n r same = subst (λ m. Why needs held now (Judged k j) m r.deadline r.stage (plan needs held now (Judged k j) r)) same (judgment_why needs held now k j r r.stage)

@@ -7,7 +7,7 @@ use Rattle.svid_requests.specs.declared.needs.Needs.{Needs}
 use Rattle.svid_requests.specs.declared.needs.Needs.TheVariants.{Nothing, Write, Claim}
 use Rattle.svid_requests.specs.declared.judgment.Judgment.TheVariants.{Passes, Holds}
 use Rattle.svid_requests.specs.declared.verdict.Verdict.{Verdict}
-use Rattle.svid_requests.specs.declared.verdict.Verdict.TheVariants.{Accept, Refuse, Late, NotKept, NoMemory, Left}
+use Rattle.svid_requests.specs.declared.verdict.Verdict.TheVariants.{Accept, Refuse}
 use Rattle.svid_requests.specs.declared.request.Request.{Request}
 use Rattle.svid_requests.specs.declared.event.Event.{Event}
 use Rattle.svid_requests.specs.declared.event.Event.TheVariants.{Judged, Found}
@@ -39,17 +39,11 @@ Rests needs calls n (Again u) = (needs ≡ Claim) × Told (Judged n (Passes u)) 
 
 rests_more : (calls more : List Call) → StaysTold calls more → (needs : Needs) (n : ℕ) (g : Stage) → Rests needs calls n g → Rests needs more n g
 rests_more calls more stays needs n Judging h = tt
-rests_more calls more stays needs n (Writing u) h = (h.0, stays (Judged n (Passes u)) h.1)
-rests_more calls more stays needs n (Claiming u) h = (h.0, stays (Judged n (Passes u)) h.1)
-rests_more calls more stays needs n (Behind u) h = (h.0, stays (Judged n (Passes u)) h.1)
-rests_more calls more stays needs n (Again u) h = (h.0, stays (Judged n (Passes u)) h.1)
+rests_more calls more stays needs n g h = (h.0, stays _ h.1)
 
 rests_turned : (needs : Needs) (calls : List Call) (n : ℕ) (g : Stage) → Rests needs calls n g → Rests needs calls n (turned g)
-rests_turned needs calls n Judging h = h
-rests_turned needs calls n (Writing u) h = h
-rests_turned needs calls n (Claiming u) h = h
 rests_turned needs calls n (Behind u) h = h
-rests_turned needs calls n (Again u) h = h
+rests_turned needs calls n g h = h
 
 rests_gone : (needs : Needs) (held : Bool) (up : ℕ) (e : Event) (refused : Bool) (calls : List Call) (n : ℕ) (was g : Stage)
     → Rests needs (Hear up e refused ∷ calls) n was → WhyGo needs held e n was g → Rests needs (Hear up e refused ∷ calls) n g
@@ -77,10 +71,7 @@ founded_more needs calls more stays n (Accept u) (inl h) = inl (stays (Judged n 
 founded_more needs calls more stays n (Accept u) (inr h) = inr (on_more needs calls more stays n u h)
 founded_more needs calls more stays n (Refuse why) (inl h) = inl (stays _ h)
 founded_more needs calls more stays n (Refuse why) (inr h) = inr (stays _ h)
-founded_more needs calls more stays n Late h = tt
-founded_more needs calls more stays n NotKept h = tt
-founded_more needs calls more stays n NoMemory h = tt
-founded_more needs calls more stays n Left h = tt
+founded_more needs calls more stays n v h = tt
 
 accepted_founded : (needs : Needs) (up : ℕ) (e : Event) (refused : Bool) (calls : List Call) (n : ℕ) (was : Stage) (u : Use)
     → Rests needs (Hear up e refused ∷ calls) n was → WhyAccept needs e n was u → IsFounded needs (Hear up e refused ∷ calls) n (Accept u)
@@ -103,11 +94,7 @@ IsGood needs calls ds a = IsInTime ds a a.verdict × IsFounded needs calls a.num
 
 in_time_more : (ds : List ℕ) (d : ℕ) (a : Answered) (v : Verdict) → IsInTime ds a v → IsInTime (ds ++ d ∷ []) a v
 in_time_more ds d a (Accept u) h = (h.0, get_push_old ds d h.0 a.number h.1, h.2)
-in_time_more ds d a (Refuse why) h = tt
-in_time_more ds d a Late h = tt
-in_time_more ds d a NotKept h = tt
-in_time_more ds d a NoMemory h = tt
-in_time_more ds d a Left h = tt
+in_time_more ds d a v h = tt
 
 -- what holds of each open request
 abbrev IsSound : Needs → List Call → List ℕ → ℕ → Request → Type 0
@@ -118,18 +105,12 @@ good_part : (needs : Needs) (held : Bool) (now up : ℕ) (e : Event) (refused : 
 good_part needs held now up e refused calls ds n r (Accept u) h why = ((r.deadline, h.0, why.0), accepted_founded needs up e refused calls n r.stage u h.1 why.1)
 good_part needs held now up e refused calls ds n r (Refuse reason) h (inl is) = (tt, inl (inl is))
 good_part needs held now up e refused calls ds n r (Refuse reason) h (inr is) = (tt, inr (inl is))
-good_part needs held now up e refused calls ds n r Late h why = (tt, tt)
-good_part needs held now up e refused calls ds n r NotKept h why = (tt, tt)
-good_part needs held now up e refused calls ds n r NoMemory h why = (tt, tt)
-good_part needs held now up e refused calls ds n r Left h why = (tt, tt)
+good_part needs held now up e refused calls ds n r v h why = (tt, tt)
 
 -- a stage is no answer
 pub no_answer : (now n : ℕ) (g : Stage) (answers : List Answered) → answered now (deed_at n g) answers ≡ answers
 no_answer now n Judging answers = refl
-no_answer now n (Writing u) answers = refl
-no_answer now n (Claiming u) answers = refl
-no_answer now n (Behind u) answers = refl
-no_answer now n (Again u) answers = refl
+no_answer now n g answers = refl
 
 all_answered : (P : Answered → Type 0) (now n : ℕ) (r : Request) (p : Plan) (t : Table) (answers : List Answered) → AllByRecursion P answers → ((v : Verdict) → p ≡ Part v → P (record { number = n; verdict = v; at = now })) → AllByRecursion P (answered now (deed_of n r p t) answers)
 all_answered P now n r Stay t answers all parts = all

@@ -1,5 +1,5 @@
--- A request that comes or goes on is told of.
-use Rattle.std.proofs.Common.{◌≡◌, ◌⊎◌, inl, inr, ℕ, Bool, true, false, cond, List, [], ◌∷◌, refl, sym, ap, ◌∙◌, subst, Option, Some, None}
+-- A request that comes or goes on is told of, and deeds fit what their calls leave.
+use Rattle.std.proofs.Common.{◌≡◌, ◌⊎◌, inl, inr, ℕ, Bool, true, false, cond, refl, sym, ap, ◌∙◌, Option, Some, None}
 use Rattle.std.specs.Prelude.{◌&&◌, not}
 use Rattle.std.specs.Option.{option_map}
 use Rattle.std.proofs.lemmas.Bool.{eq-eqb}
@@ -8,17 +8,19 @@ use Rattle.svid_requests.specs.declared.verdict.Verdict.{Verdict}
 use Rattle.svid_requests.specs.declared.request.Request.{Request}
 use Rattle.svid_requests.specs.declared.event.Event.{Event}
 use Rattle.svid_requests.specs.declared.stage.Stage.{Stage}
-use Rattle.svid_requests.specs.declared.stage.Stage.TheVariants.{Judging}
+use Rattle.svid_requests.specs.declared.stage.Stage.TheVariants.{Judging, Writing, Claiming, Behind, Again}
 use Rattle.svid_requests.specs.declared.plan.Plan.{Plan}
 use Rattle.svid_requests.specs.declared.plan.Plan.TheVariants.{Stay, Go, Part}
 use Rattle.svid_requests.specs.declared.deed.Deed.{Deed}
-use Rattle.svid_requests.specs.declared.deed.Deed.TheVariants.{Answer}
+use Rattle.svid_requests.specs.declared.deed.Deed.TheVariants.{Answer, Judge}
+use Rattle.svid_requests.specs.declared.deed.Deed.TheVariants.{Nothing as NothingToDo}
 use Rattle.svid_requests.specs.Plans.{plan}
-use Rattle.svid_requests.specs.Tables.{State, Table, at_moment, at_stage, come_deed, deadline, deed_at, deed_by, deed_of, find, followed, granted, has_number, held_by, left_by, next_after, subject, turned}
-use Rattle.svid_requests.specs.History.{World, at_state, fresh, history, let_in}
-use Rattle.svid_requests.specs.Promises.{StagesAreTold, brings}
-use Rattle.svid_requests.proofs.SoundLemmas.{Sound, sound}
-use Rattle.svid_requests.proofs.TablesLemmas.{NumbersRise, find_gone, find_let_in, find_parted, one, one_is, subject_is, turned_at}
+use Rattle.svid_requests.specs.Tables.{State, Table, at_moment, at_stage, come_deed, deadline, deed_at, deed_by, deed_of, find, followed, granted, has_number, held_by, is_judging, left_by, next_after, subject, turned}
+use Rattle.svid_requests.specs.History.{World, at_state, fresh, happens, history, let_in}
+use Rattle.svid_requests.specs.History.Call.{Hear}
+use Rattle.svid_requests.specs.Promises.{DeedsFit, FitsDeed, StagesAreTold, brings, open_at, stage_is}
+use Rattle.svid_requests.proofs.SoundLemmas.{sound}
+use Rattle.svid_requests.proofs.TablesLemmas.{NumbersRise, find_gone, find_let_in, find_parted, one, one_is, one_itself, subject_is, turned_at}
 
 -- what a deed tells of a request
 abbrev IsTold : ℕ → Request → Option Request → Deed → Type 0
@@ -68,3 +70,35 @@ stages_are_told needs wait calls up e refused n r =
     let w = history (fresh needs wait) calls in
     let s = at_moment w.state up in
     (told_come s w n r refused (has_number s) refl, told_heard s.needs refused s.now e s.table (subject e s.table.requests) n r refl (sound needs wait calls).order.numbers)
+
+-- A deed fits what its call leaves.
+
+fits_stage : (n : ℕ) (r : Request) (g : Stage) (w : World) → open_at n w ≡ Some (at_stage g r) → FitsDeed w (deed_at n g)
+fits_stage n r Judging w is = ap (stage_is is_judging) is
+fits_stage n r (Writing u) w is = (r.deadline, is)
+fits_stage n r (Claiming u) w is = (r.deadline, is)
+fits_stage n r (Behind u) w is = tt
+fits_stage n r (Again u) w is = ap (stage_is is_judging) is
+
+none_turned : (next : Option ℕ) (q : ℕ) → turned_at next q None ≡ None
+none_turned None q = refl
+none_turned (Some w) q = elim (one w q) as (λ b. cond b (option_map (λ r. at_stage (turned r.stage) r) None) None ≡ None) [ true ↦ refl | false ↦ refl ]
+
+fits_followed : (n : ℕ) (r : Request) (p : Plan) (t : Table) (w : World) → NumbersRise t → find n t.requests ≡ Some r → w.state.table ≡ followed n r p t → FitsDeed w (deed_of n r p t)
+fits_followed n r Stay t w up is left = tt
+fits_followed n r (Go g) t w up is left = fits_stage n r g w (ap (λ (x : Table). find n x.requests) left ∙ find_gone n r g t n is ∙ ap (λ b. cond b (Some (at_stage g r)) (find n t.requests)) (one_itself n))
+fits_followed n r (Part v) t w up is left = ap (λ (x : Table). find n x.requests) left ∙ find_parted n r t n up ∙ ap (λ b. turned_at (next_after r.stage t) n (cond b None (find n t.requests))) (one_itself n) ∙ none_turned (next_after r.stage t) n
+
+fits_heard : (needs : Needs) (refused : Bool) (now : ℕ) (e : Event) (t : Table) (o : Option (ℕ × Request)) (w : World) → subject e t.requests ≡ o → NumbersRise t → w.state.table ≡ left_by needs refused now e t o → FitsDeed w (deed_by needs refused now e t o)
+fits_heard needs refused now e t None w is up left = tt
+fits_heard needs refused now e t (Some p) w is up left = fits_followed p.0 p.1 (granted refused p.1 (plan needs (held_by e t) now e p.1)) t w up (subject_is e t.requests p is).0 left
+
+fits_come : (s : State) (w : World) (b : Bool) → FitsDeed (cond {A = World} (b && true) (let_in s w) (at_state s w)) (cond b (Judge s.next) NothingToDo)
+fits_come s w false = tt
+fits_come s w true = ap (stage_is is_judging) (find_let_in s.next (deadline s) s.table s.next ∙ ap (λ b. cond b (Some (record { deadline = deadline s; stage = Judging })) (find s.next s.table.requests)) (one_itself s.next))
+
+pub deeds_fit : DeedsFit
+deeds_fit needs wait calls up e refused =
+    let w = history (fresh needs wait) calls in
+    let s = at_moment w.state up in
+    (fits_come s w (has_number s), fits_heard s.needs refused s.now e s.table (subject e s.table.requests) (happens w (Hear up e refused)) refl (sound needs wait calls).order.numbers refl)

@@ -17,7 +17,7 @@ use Rattle.svid_requests.specs.declared.request.Request.{Request}
 use Rattle.svid_requests.specs.declared.event.Event.{Event}
 use Rattle.svid_requests.specs.declared.event.Event.TheVariants.{Judged, Wrote, Send, Found, Leave, Overdue}
 use Rattle.svid_requests.specs.declared.stage.Stage.{Stage}
-use Rattle.svid_requests.specs.declared.stage.Stage.TheVariants.{Judging, Writing, Claiming, Behind, Again}
+use Rattle.svid_requests.specs.declared.stage.Stage.TheVariants.{Judging, Claiming, Behind, Again}
 use Rattle.svid_requests.specs.declared.plan.Plan.{Plan}
 use Rattle.svid_requests.specs.declared.plan.Plan.TheVariants.{Stay, Go, Part}
 use Rattle.svid_requests.specs.declared.waiter.Waiter.{Waiter}
@@ -88,11 +88,9 @@ find_handed key None t q = refl
 find_handed key (Some w) t q = find_turn w q t.requests
 
 find_left : (n : ℕ) (g : Stage) (t : Table) (q : ℕ) → find q (left_at n g (without n t)).requests ≡ turned_at (next_after g t) q (find q (without n t).requests)
-find_left n Judging t q = refl
-find_left n (Writing u) t q = refl
 find_left n (Claiming u) t q = find_handed u.key (first_of u.key t.lines) (without n t) q
-find_left n (Behind u) t q = refl
 find_left n (Again u) t q = find_handed u.key (first_of u.key t.lines) (without n t) q
+find_left n g t q = refl
 
 -- the numbers of the requests stand in order
 abbrev pub NumbersRise : Table → Type 0
@@ -106,17 +104,11 @@ find_parted n r t q up = find_left n r.stage t q ∙ ap (turned_at (next_after r
 
 joins_keeps : (n : ℕ) (g : Stage) (t : Table) → (joins n g t).requests ≡ t.requests
 joins_keeps n Judging t = refl
-joins_keeps n (Writing u) t = refl
-joins_keeps n (Claiming u) t = refl
-joins_keeps n (Behind u) t = refl
-joins_keeps n (Again u) t = refl
+joins_keeps n g t = refl
 
 pub joined_keeps : (n : ℕ) (was g : Stage) (t : Table) → (joined n was g t).requests ≡ t.requests
 joined_keeps n Judging g t = joins_keeps n g t
-joined_keeps n (Writing u) g t = refl
-joined_keeps n (Claiming u) g t = refl
-joined_keeps n (Behind u) g t = refl
-joined_keeps n (Again u) g t = refl
+joined_keeps n was g t = refl
 
 pub find_gone : (n : ℕ) (r : Request) (g : Stage) (t : Table) (q : ℕ) → find n t.requests ≡ Some r → find q (gone n r g t).requests ≡ cond (one n q) (Some (at_stage g r)) (find q t.requests)
 find_gone n r g t q is = ap (λ es. find q (restaged n r g es)) (joined_keeps n r.stage g t) ∙ find_restaged n q r g t.requests is
@@ -218,28 +210,22 @@ handed_in_order key (Some w) t up = record {
 }
 
 left_in_order : (n : ℕ) (g : Stage) (t : Table) → InOrder t → InOrder (left_at n g t)
-left_in_order n Judging t up = up
-left_in_order n (Writing u) t up = up
 left_in_order n (Claiming u) t up = handed_in_order u.key (first_of u.key t.lines) t up
 left_in_order n (Behind u) t up = record { numbers = up.numbers; holders = up.holders; lines = sorted_removed waiter_cmp (is_at (waiter_cmp (record { key = u.key; number = n }))) t.lines up.lines }
 left_in_order n (Again u) t up = handed_in_order u.key (first_of u.key t.lines) t up
+left_in_order n g t up = up
 
 pub without_in_order : (n : ℕ) (t : Table) → InOrder t → InOrder (without n t)
 without_in_order n t up = record { numbers = sorted_entries_removed nat_cmp (is_at (nat_cmp n)) t.requests up.numbers; holders = up.holders; lines = up.lines }
 
 joins_in_order : (n : ℕ) (g : Stage) (t : Table) → InOrder t → InOrder (joins n g t)
-joins_in_order n Judging t up = up
-joins_in_order n (Writing u) t up = up
 joins_in_order n (Claiming u) t up = record { numbers = up.numbers; holders = sorted_entries_inserted key_cmp_total t.holders u.key n up.holders; lines = up.lines }
 joins_in_order n (Behind u) t up = record { numbers = up.numbers; holders = up.holders; lines = sorted_inserted waiter_cmp_total t.lines (record { key = u.key; number = n }) up.lines }
-joins_in_order n (Again u) t up = up
+joins_in_order n g t up = up
 
 joined_in_order : (n : ℕ) (was g : Stage) (t : Table) → InOrder t → InOrder (joined n was g t)
 joined_in_order n Judging g t up = joins_in_order n g t up
-joined_in_order n (Writing u) g t up = up
-joined_in_order n (Claiming u) g t up = up
-joined_in_order n (Behind u) g t up = up
-joined_in_order n (Again u) g t up = up
+joined_in_order n was g t up = up
 
 pub followed_in_order : (n : ℕ) (r : Request) (p : Plan) (t : Table) → InOrder t → InOrder (followed n r p t)
 followed_in_order n r Stay t up = up

@@ -13,13 +13,13 @@ use Rattle.svid_requests.specs.declared.request.Request.{Request}
 use Rattle.svid_requests.specs.declared.event.Event.{Event}
 use Rattle.svid_requests.specs.declared.event.Event.TheVariants.{Judged, Wrote, Found, Overdue}
 use Rattle.svid_requests.specs.declared.stage.Stage.{Stage}
-use Rattle.svid_requests.specs.declared.stage.Stage.TheVariants.{Claiming, Behind, Again}
+use Rattle.svid_requests.specs.declared.stage.Stage.TheVariants.{Writing, Claiming, Behind, Again}
 use Rattle.svid_requests.specs.declared.deed.Deed.{Deed}
-use Rattle.svid_requests.specs.declared.deed.Deed.TheVariants.{Answer}
-use Rattle.svid_requests.specs.declared.deed.Deed.TheVariants.{Nothing as NothingToDo}
+use Rattle.svid_requests.specs.declared.deed.Deed.TheVariants.{Judge, Append, Answer}
+use Rattle.svid_requests.specs.declared.deed.Deed.TheVariants.{Nothing as NothingToDo, Claim as PutClaim}
 use Rattle.svid_requests.specs.declared.waiter.Waiter.{Waiter}
 use Rattle.svid_requests.specs.Lines.{key_cmp}
-use Rattle.svid_requests.specs.Tables.{at_moment, came, come_deed, deed_at, find, first, heard, heard_deed, holder}
+use Rattle.svid_requests.specs.Tables.{at_moment, came, come_deed, deed_at, find, first, heard, heard_deed, holder, is_judging}
 use Rattle.svid_requests.specs.History.{Answered, Call, World, answered, fresh, happens, history}
 use Rattle.svid_requests.specs.History.Call.{Come, Hear}
 
@@ -142,61 +142,68 @@ in_call p (Hear up e refused) = p e
 abbrev pub told : (Event → Bool) → List Call → ℕ
 told p calls = count (in_call p) calls
 
--- Where an acceptance needs no claim, as many tokens with such uses are accepted at most as a validator accepted.
+-- Where an acceptance needs no claim, no more tokens with such uses are accepted than a validator accepted.
 abbrev pub AcceptedAsJudged : Type 0
 AcceptedAsJudged = (wait : ℕ) (calls : List Call) (p : Use → Bool)
     → (accepted p (history (fresh Nothing wait) calls) ≤ told (is_judged p) calls) × (accepted p (history (fresh Write wait) calls) ≤ told (is_judged p) calls)
 
--- Where it needs a claim, as many as were found so, or are known to be their callers'.
+-- Where it needs a claim, no more are accepted than a validator accepted by the answer of the store, or knew to be their callers'.
 abbrev pub AcceptedAsFound : Type 0
 AcceptedAsFound = (wait : ℕ) (calls : List Call) (p : Use → Bool) → accepted p (history (fresh Claim wait) calls) ≤ told (is_found p) calls
 
 -- Claims.
 
--- a request of this stage has the claim of a key, or stands in the line behind it
+-- a request at this stage has the claim of a key: it is on its way, or about to be
 abbrev pub has_claim : List ℕ → Stage → Bool
 has_claim key (Claiming u) = is_eq (key_cmp key u.key)
 has_claim key (Again u) = is_eq (key_cmp key u.key)
 has_claim key _ = false
 
+-- it stands in the line behind that claim
 abbrev pub stands_behind : List ℕ → Stage → Bool
 stands_behind key (Behind u) = is_eq (key_cmp key u.key)
 stands_behind key _ = false
 
--- the open request of a number is so far
-abbrev pub is_at : (Stage → Bool) → Option Request → Bool
-is_at test None = false
-is_at test (Some r) = test r.stage
+-- the stage of a request passes a test, if there is one
+abbrev pub stage_is : (Stage → Bool) → Option Request → Bool
+stage_is test None = false
+stage_is test (Some r) = test r.stage
 
--- Of one key one open request has the claim at the most: the one that the table names.
+-- At most one open request has the claim of a key: the one that the table names.
 abbrev pub OneHasAClaim : Type 0
 OneHasAClaim = (needs : Needs) (wait : ℕ) (calls : List Call) (key : List ℕ) (n : ℕ)
     → let w = history (fresh needs wait) calls in
-    is_at (has_claim key) (open_at n w) ≡ true → holder key w.state.table.holders ≡ Some n
+    stage_is (has_claim key) (open_at n w) ≡ true → holder key w.state.table.holders ≡ Some n
 
--- A request waits in line only while another one has the claim that it waits for.
+-- A request stands in line only while another one has the claim that it waits for.
 abbrev pub NoneWaitsInVain : Type 0
 NoneWaitsInVain = (needs : Needs) (wait : ℕ) (calls : List Call) (key : List ℕ) (n : ℕ)
     → let w = history (fresh needs wait) calls in
-    is_at (stands_behind key) (open_at n w) ≡ true → (m : ℕ) × (is_at (has_claim key) (open_at m w) ≡ true)
+    stage_is (stands_behind key) (open_at n w) ≡ true → (m : ℕ) × (stage_is (has_claim key) (open_at m w) ≡ true)
 
--- Whatever the table keeps beside the requests is of one that is open: it holds a claim, or it stands in line.
+-- Each holder of a claim and each one in line that the table keeps is an open request, which is so far. So the table does not grow.
 abbrev pub NothingIsLeftOver : Type 0
 NothingIsLeftOver = (needs : Needs) (wait : ℕ) (calls : List Call)
     → let w = history (fresh needs wait) calls in
-    AllByRecursion (λ (e : List ℕ × ℕ). is_at (has_claim e.0) (open_at e.1 w) ≡ true) w.state.table.holders
-    × AllByRecursion (λ (v : Waiter). is_at (stands_behind v.key) (open_at v.number w) ≡ true) w.state.table.lines
+    AllByRecursion (λ (e : List ℕ × ℕ). stage_is (has_claim e.0) (open_at e.1 w) ≡ true) w.state.table.holders
+    × AllByRecursion (λ (v : Waiter). stage_is (stands_behind v.key) (open_at v.number w) ≡ true) w.state.table.lines
 
 abbrev pub is_again : Stage → Bool
 is_again (Again u) = true
 is_again _ = false
 
--- An answer that names a next request has brought the turn of that one: it is to be judged again.
+-- The next request that an answer names is open, and its turn has come: it is to be judged again.
 abbrev pub NextIsJudgedAgain : Type 0
 NextIsJudgedAgain = (needs : Needs) (wait : ℕ) (calls : List Call) (up : ℕ) (e : Event) (refused : Bool) (n : ℕ) (v : Verdict) (next : ℕ)
     → let w = history (fresh needs wait) calls in
     let s = at_moment w.state up in
-    heard_deed refused s e ≡ Answer n v (Some next) → is_at is_again (open_at next (history (fresh needs wait) (Hear up e refused ∷ calls))) ≡ true
+    heard_deed refused s e ≡ Answer n v (Some next) → stage_is is_again (open_at next (history (fresh needs wait) (Hear up e refused ∷ calls))) ≡ true
+
+-- It came first of those that stood in its line.
+abbrev pub FirstInLineIsNext : Type 0
+FirstInLineIsNext = (needs : Needs) (wait : ℕ) (calls : List Call) (up : ℕ) (e : Event) (refused : Bool) (n : ℕ) (v : Verdict) (next : ℕ) (key : List ℕ) (m : ℕ)
+    → let w = history (fresh needs wait) calls in
+    heard_deed refused (at_moment w.state up) e ≡ Answer n v (Some next) → stage_is (stands_behind key) (open_at next w) ≡ true → stage_is (stands_behind key) (open_at m w) ≡ true → next ≤ m
 
 -- Deeds.
 
@@ -213,3 +220,18 @@ StagesAreTold = (needs : Needs) (wait : ℕ) (calls : List Call) (up : ℕ) (e :
     let s = at_moment w.state up in
     (open_at n (happens w (Come up refused)) ≡ Some r → (open_at n w ≡ Some r) ⊎ (come_deed s ≡ deed_at n r.stage))
     × (open_at n (happens w (Hear up e refused)) ≡ Some r → (open_at n w ≡ Some r) ⊎ ((heard_deed refused s e ≡ deed_at n r.stage) ⊎ (brings n (heard_deed refused s e) ≡ true)))
+
+-- what a deed asks for is what that request waits for, and one that is answered is open no more
+abbrev pub FitsDeed : World → Deed → Type 0
+FitsDeed w (Judge n) = stage_is is_judging (open_at n w) ≡ true
+FitsDeed w (Append n u) = (deadline : ℕ) × (open_at n w ≡ Some (record { deadline = deadline; stage = Writing u }))
+FitsDeed w (PutClaim n u) = (deadline : ℕ) × (open_at n w ≡ Some (record { deadline = deadline; stage = Claiming u }))
+FitsDeed w (Answer n v next) = open_at n w ≡ None
+FitsDeed w _ = Unit {0}
+
+-- Each deed fits what its call leaves.
+abbrev pub DeedsFit : Type 0
+DeedsFit = (needs : Needs) (wait : ℕ) (calls : List Call) (up : ℕ) (e : Event) (refused : Bool)
+    → let w = history (fresh needs wait) calls in
+    let s = at_moment w.state up in
+    FitsDeed (happens w (Come up false)) (come_deed s) × FitsDeed (happens w (Hear up e refused)) (heard_deed refused s e)

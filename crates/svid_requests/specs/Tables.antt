@@ -205,17 +205,19 @@ entered s = record { needs = s.needs; wait = s.wait; now = s.now; next = s.next 
 abbrev pub has_number : State → Bool
 has_number s = nat_lt s.next (2 ^ 64 - 1)
 
--- what a coming leaves, and what is to be done then
+-- what a coming leaves
 abbrev pub came : State → State
 came s = if has_number s then entered s else s
 
+-- what is to be done then
 abbrev pub come_deed : State → Deed
 come_deed s = if has_number s then Judge s.next else Nothing
 
--- an event is heard: what it leaves, and what is to be done then
+-- what an event leaves that is heard
 abbrev pub heard : Bool → State → Event → State
 heard refused s e = record { needs = s.needs; wait = s.wait; now = s.now; next = s.next; table = left_by s.needs refused s.now e s.table (subject e s.table.requests) }
 
+-- what is to be done then
 abbrev pub heard_deed : Bool → State → Event → Deed
 heard_deed refused s e = deed_by s.needs refused s.now e s.table (subject e s.table.requests)
 

@@ -1,7 +1,7 @@
 //! What holds of the requests of a member over every history of calls, as contracts of functions without a body. Memory may be refused at
 //! any call.
 
-ghost use Rattle.svid_requests.specs.Promises.{AcceptedAsFound, AcceptedAsJudged, AcceptedInTime, AnswersAreFounded, CallsAreHistory, EachOnce, FirstIsDueFirst, NextIsJudgedAgain, NoneWaitsInVain, NothingIsLeftOver, OneHasAClaim, OverdueAreAnswered, StagesAreTold};
+ghost use Rattle.svid_requests.specs.Promises.{AcceptedAsFound, AcceptedAsJudged, AcceptedInTime, AnswersAreFounded, CallsAreHistory, DeedsFit, EachOnce, FirstInLineIsNext, FirstIsDueFirst, NextIsJudgedAgain, NoneWaitsInVain, NothingIsLeftOver, OneHasAClaim, OverdueAreAnswered, StagesAreTold};
 
 /// Histories are made of what the contracts of `come` and `hear` say. Each deed `Answer` is an answer.
 pub fn calls_are_history()
@@ -9,9 +9,10 @@ pub fn calls_are_history()
 {}
 
 /// A request that comes or goes on is told of by the deed of that call, so none is forgotten. One that begins to stand in line is told of
-/// when its turn comes.
+/// when its turn comes. What a deed asks for is what that request waits for.
 pub fn stages_are_told()
-    ensures { StagesAreTold }
+    ensures told { StagesAreTold }
+    ensures fits { DeedsFit }
 {}
 
 /// Each request that comes is answered once, and by its deadline where the member is told that it is over. A token is accepted before the
@@ -20,7 +21,7 @@ pub fn each_is_answered_once()
     ensures once { EachOnce }
     ensures overdue { OverdueAreAnswered }
     ensures first { FirstIsDueFirst }
-    ensures in_time { AcceptedInTime }
+    ensures timely { AcceptedInTime }
 {}
 
 /// Each acceptance and each refusal rests on what was told of that request. No more tokens are accepted than a validator accepted, or found
@@ -38,4 +39,5 @@ pub fn one_claims_a_token()
     ensures waits { NoneWaitsInVain }
     ensures kept { NothingIsLeftOver }
     ensures next { NextIsJudgedAgain }
+    ensures first { FirstInLineIsNext }
 {}

@@ -1,5 +1,5 @@
-use Rattle.svid_requests.proofs.StagesLemmas.{stages_are_told}
+use Rattle.svid_requests.proofs.StagesLemmas.{deeds_fit, stages_are_told}
 use Rattle.svid_requests.proofs.laws.stages_are_told.Goals as goal
 
 pub returns : goal.returns
-returns c = stages_are_told
+returns c = record { told = stages_are_told; fits = deeds_fit }
