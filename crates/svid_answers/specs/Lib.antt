@@ -1,3 +1,5 @@
+pub mod Calls
+pub mod Examples
 pub mod Group
 pub mod Promises
-pub mod Examples
+pub mod Records

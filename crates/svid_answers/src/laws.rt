@@ -1,5 +1,6 @@
 //! What is proved of members that answer requests.
 
+ghost use Rattle.svid_answers.specs.Calls.{BeginsAreEvents, ComesAreEvents, FindsAreEvents, FoundIsALook, HearsAreEvents, JoinsAreEvents, JudgesAreEvents};
 ghost use Rattle.svid_answers.specs.Examples.{BoundAnswers, StrictAnswers};
 ghost use Rattle.svid_answers.specs.Promises.{AnsweredIsFound, TokensAreAnsweredOnce, TokensAreAnsweredToOneCaller, TokensAreAnsweredToOneOwner};
 
@@ -18,6 +19,23 @@ pub fn tokens_are_answered_to_one_owner()
 /// Before a request is answered 200, its member accepted the token by a store's answer.
 pub fn answered_tokens_were_found()
     ensures { AnsweredIsFound }
+{}
+
+/// What a member's request is told of a store's answer is what a look at it may tell: that the token passes, only where the group accepts it by that
+/// answer. V is the member's verifier.
+pub fn found_is_a_look<V>()
+    ensures { FoundIsALook V }
+{}
+
+/// Each call of a member in mode `Strict` or `Bound`, and each change of its record, is done by events of the group, and they are allowed: so the
+/// laws are about what the calls answer. V is the member's verifier.
+pub fn calls_are_events<V>()
+    ensures finds { FindsAreEvents V }
+    ensures judges { JudgesAreEvents }
+    ensures hears { HearsAreEvents }
+    ensures comes { ComesAreEvents }
+    ensures joins { JoinsAreEvents }
+    ensures begins { BeginsAreEvents }
 {}
 
 /// Histories in which requests are answered 200, so that these laws speak of something.
