@@ -1,3 +1,4 @@
+pub mod AloneLemmas
 pub mod CallsLemmas
 pub mod ExamplesLemmas
 pub mod FitsLemmas
@@ -5,3 +6,4 @@ pub mod GrantsLemmas
 pub mod GroupLemmas
 pub mod LooksLemmas
 pub mod RecordsLemmas
+pub mod WritesLemmas

@@ -1,7 +1,8 @@
 //! What is proved of members that answer requests.
 
+ghost use Rattle.svid_answers.specs.Alone.{TokensAreAnsweredOnceHere};
 ghost use Rattle.svid_answers.specs.Calls.{BeginsAreEvents, ComesAreEvents, FindsAreEvents, FoundIsALook, HearsAreEvents, JoinsAreEvents, JudgesAreEvents};
-ghost use Rattle.svid_answers.specs.Examples.{BoundAnswers, StrictAnswers};
+ghost use Rattle.svid_answers.specs.Examples.{BoundAnswers, OnceAnswers, StrictAnswers};
 ghost use Rattle.svid_answers.specs.Promises.{AnsweredIsFound, TokensAreAnsweredOnce, TokensAreAnsweredToOneCaller, TokensAreAnsweredToOneOwner};
 
 /// A group that claims tokens in stores, where each token may be used once, answers at most one request for a token with 200: in all of its members, over their restarts, and
@@ -14,6 +15,11 @@ pub fn tokens_are_answered_once()
 pub fn tokens_are_answered_to_one_owner()
     ensures owner { TokensAreAnsweredToOneOwner }
     ensures caller { TokensAreAnsweredToOneCaller }
+{}
+
+/// A member in mode `Once` answers at most one request for a token with 200, over all of its restarts, if each start reads a record that knows what was answered 200.
+pub fn tokens_are_answered_once_here()
+    ensures { TokensAreAnsweredOnceHere }
 {}
 
 /// Before a request is answered 200, its member accepted the token by a store's answer.
@@ -42,4 +48,5 @@ pub fn calls_are_events<V>()
 pub fn histories_happen()
     ensures strict { StrictAnswers }
     ensures bound { BoundAnswers }
+    ensures once { OnceAnswers }
 {}
