@@ -31,10 +31,10 @@ use Rattle.svid_answers.proofs.RecordsLemmas.{knows_join}
 use Rattle.svid_answers.proofs.WritesLemmas.{IsCovered, approves, came_writes, followed_writes, gain, one_if, plan_covered, writing}
 
 -- Its requests are those of mode once.
-abbrev IsOnce : State → Type 0
+abbrev pub IsOnce : State → Type 0
 IsOnce s = (kept : Bool) × AreFit (needs_of Once kept) s
 
-once_requests : (events : List Event) → IsOnce (history events).requests
+pub once_requests : (events : List Event) → IsOnce (history events).requests
 once_requests [] = (true, fit_begun (needs_of Once true) 0)
 once_requests (Join b ∷ events) = once_requests events
 once_requests (Come up refused ∷ events) =

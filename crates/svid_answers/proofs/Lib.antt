@@ -1,4 +1,5 @@
 pub mod AloneLemmas
+pub mod CallsAloneLemmas
 pub mod CallsLemmas
 pub mod ExamplesLemmas
 pub mod FitsLemmas

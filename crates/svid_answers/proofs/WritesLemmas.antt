@@ -132,7 +132,7 @@ module _ (p : Use → Bool) where
   stay_covered was more = omega arith
 
   -- where no claim is needed, nothing waits for one
-  no_claim : (kept : Bool) (u : Use) → Fits (needs_of Once kept) (Claiming u) → ⊥
+  pub no_claim : (kept : Bool) (u : Use) → Fits (needs_of Once kept) (Claiming u) → ⊥
   no_claim true u h = h
   no_claim false u h = h
 

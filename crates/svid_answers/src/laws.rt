@@ -2,6 +2,7 @@
 
 ghost use Rattle.svid_answers.specs.Alone.{TokensAreAnsweredOnceHere};
 ghost use Rattle.svid_answers.specs.Calls.{BeginsAreEvents, ComesAreEvents, FindsAreEvents, FoundIsALook, HearsAreEvents, JoinsAreEvents, JudgesAreEvents};
+ghost use Rattle.svid_answers.specs.CallsAlone as alone;
 ghost use Rattle.svid_answers.specs.Examples.{BoundAnswers, OnceAnswers, StrictAnswers};
 ghost use Rattle.svid_answers.specs.Promises.{AnsweredIsFound, TokensAreAnsweredOnce, TokensAreAnsweredToOneCaller, TokensAreAnsweredToOneOwner};
 
@@ -42,6 +43,16 @@ pub fn calls_are_events<V>()
     ensures comes { ComesAreEvents }
     ensures joins { JoinsAreEvents }
     ensures begins { BeginsAreEvents }
+{}
+
+/// So is each call of a member in mode `Once`, and each change of its record, in the history of that member.
+pub fn calls_are_events_alone()
+    ensures judges { alone.JudgesAreEvents }
+    ensures hears { alone.HearsAreEvents }
+    ensures comes { alone.ComesAreEvents }
+    ensures joins { alone.JoinsAreEvents }
+    ensures begins { alone.BeginsAreEvents }
+    ensures none_claimed { alone.NoneIsClaimed }
 {}
 
 /// Histories in which requests are answered 200, so that these laws speak of something.
