@@ -33,7 +33,7 @@ use Rattle.svid_requests.specs.declared.judgment.Judgment.{Judgment}
 use Rattle.svid_requests.specs.declared.judgment.Judgment.TheVariants.{Passes, Fails}
 use Rattle.svid_requests.specs.declared.event.Event.TheVariants.{Found}
 use Rattle.svid_requests.specs.declared.deed.Deed.{Deed}
-use Rattle.svid_requests.specs.Tables.{State, at_moment, claimed, heard}
+use Rattle.svid_requests.specs.Tables.{State, at_moment, claimed, heard, heard_deed}
 use Rattle.svid_member.specs.declared.claimed.Claimed.{Claimed}
 use Rattle.svid_member.specs.Claiming.{FindsBy, awaited, claim_for, is_of, look_at, of_token, reason_for}
 use Rattle.svid_member.specs.Judging.{judged_by, judgment_of}
@@ -41,10 +41,10 @@ use Rattle.svid_member.specs.Members.{Hears, MemberData}
 use Rattle.svid_member.specs.Modes.{adds_at_claim}
 use Rattle.svid_member.specs.Reasons.{reason_of}
 use Rattle.svid_answers.specs.Calls.{AreEvents, FindsAreEvents, FoundIsALook, IsClaimed, Mirrors}
-use Rattle.svid_answers.specs.Group.{AreAllowed, Event, FindsUse, World, history, in_claims, owner_in, passing}
+use Rattle.svid_answers.specs.Group.{AreAllowed, Event, FindsUse, World, given_by, history, in_claims, owner_in, passing}
 use Rattle.svid_answers.specs.Group.Event.{Looks}
 use Rattle.svid_answers.specs.Records.{Knows, KnowsOf}
-use Rattle.svid_answers.proofs.CallsLemmas.{deed_is, hears_events, joins_hear, member_at, mirrors_on, put_at, strict_adds}
+use Rattle.svid_answers.proofs.CallsLemmas.{deed_is, hears_events, joins_hear, member_at, member_other, mirrors_on, mirrors_other, tells_more, put_at, strict_adds}
 use Rattle.svid_answers.proofs.GroupLemmas.{claims_is}
 use Rattle.svid_answers.proofs.RecordsLemmas.{accepts_says, all_know_join, all_know_judged, known_is_used, moment_judged}
 
@@ -179,6 +179,10 @@ look_events t events v now index up n a accepted x m m_new deed allowed h is key
       more = it ∷ [];
       owner = owner_in (slice_get w.claims.answers index);
       allowed = (allowed, λ u some. subst (FindsUse t w.claims v now index) (same_Some accepted.used u some) (record { answer = a; accepts = is; key_is = key; exp_is = exp }));
+      puts = λ told all. tells_more told (in_claims events) (Accept v now index) tt all;
+      others = λ n y d other k. mirrors_other t v n w (claims.happens t w.claims (Accept v now index)) (heard hears.0 (at_moment (w.requests v) up) e)
+          (given_by v (owner_in (slice_get w.claims.answers index)) (heard_deed hears.0 (at_moment (w.requests v) up) e) w.given) y d other
+          (ap (λ (o : Option Answer). (look t w.claims v now o).members n) is.given ∙ member_other w.claims v n (with_look t v (w.claims.members v) now a) other) k;
       mirrors = mirrors_on t v w (history t (it ∷ events)) x (judged_by adds raised (Ok accepted)) m m_new (heard hears.0 (at_moment m.requests up) e) (with_look t v y now a) h hears.2
           (put_at w.requests v (heard hears.0 (at_moment (w.requests v) up) e) ∙ ap (λ (r : State). heard hears.0 (at_moment r up) e) (sym h.requests))
           (looked_at t w.claims v now index a is) (moment_judged adds raised (Ok accepted) ∙ raised_moment x now y.moment h.moment)

@@ -1,5 +1,5 @@
 -- What the calls of a member are in its group.
-use Rattle.std.specs.Prelude.{◌≡◌, ℕ, ◌<◌, ◌^◌, Bool, true, List, ◌++◌, slice_get, Option, Some, None, if◌then◌else◌, Result}
+use Rattle.std.specs.Prelude.{◌≡◌, ◌≢◌, ℕ, ◌<◌, ◌^◌, Bool, true, List, ◌∷◌, ◌++◌, slice_get, Option, Some, None, if◌then◌else◌, Result}
 use Rattle.std.specs.List.{AllByRecursion}
 use Rattle.svid_token.specs.declared.refusal.Refusal.{Refusal}
 use Rattle.svid_replay.specs.declared.token_use.Use.{Use}
@@ -7,7 +7,8 @@ use Rattle.svid_replay.specs.Buckets.{raised_to}
 use Rattle.svid_replay.specs.Records as records
 use Rattle.svid_claims.specs.Calls.{entry_of, found_by}
 use Rattle.svid_claims.specs.Expiries.{PutsTelling, TellsExpiry}
-use Rattle.svid_claims.specs.Groups.{Answer, Terms}
+use Rattle.svid_claims.specs.Groups.{Answer, End, Put, Remove, Terms}
+use Rattle.svid_claims.specs.Groups as claims
 use Rattle.svid_check.specs.Said.{Said}
 use Rattle.svid_check.specs.Setting.{Held, Setting}
 use Rattle.svid_check.specs.declared.accepted.Accepted.{Accepted}
@@ -27,6 +28,7 @@ use Rattle.svid_member.specs.Judging.{IsTold, judged_by}
 use Rattle.svid_member.specs.Members.{Hears, MemberData, member_of, with_requests}
 use Rattle.svid_member.specs.Modes.{adds_at_judgment}
 use Rattle.svid_answers.specs.Group.{AreAllowed, Event, FindsUse, World, comes, given_by, granted, history, in_claims, passing}
+use Rattle.svid_answers.specs.Group.Event.{Group}
 use Rattle.svid_answers.specs.Records.{KnowsOf}
 
 -- the mode of a group's members
@@ -58,12 +60,15 @@ FoundIsALook V = (t : Terms) (events : List Event) (told : List ℕ → ℕ) (v 
     → awaited m up n said ≡ Some own → Finds s now up n own caller (found_by a) said h h_new m m_new c
     → (j : Judgment) × Hears up (Found n j) m c.deed m_new × ((u : Use) → passing j ≡ Some u → FindsUse t w.claims v now index u)
 
--- What a call did is done by events of the group, and they are allowed: what it leaves is member v after them, and what its deed answers was given by them.
+-- What a call did is done by events of the group, and they are allowed: they leave member v as it is then, and the others as they were, and what its
+-- deed answers was given by them. They put nothing into a store.
 pub record AreEvents (t : Terms) (events : List Event) (v : ℕ) (x : records.State) (m : MemberData) (deed : Deed) : Type 0 where
   pub more : List Event
   pub owner : Option (List ℕ)
   pub allowed : AreAllowed t (more ++ events)
+  pub puts : (told : List ℕ → ℕ) → AllByRecursion (PutsTelling told) (in_claims events) → AllByRecursion (PutsTelling told) (in_claims (more ++ events))
   pub mirrors : Mirrors t v (history t (more ++ events)) x m
+  pub others : (n : ℕ) (y : records.State) (d : MemberData) → n ≢ v → Mirrors t n (history t events) y d → Mirrors t n (history t (more ++ events)) y d
   pub given : (history t (more ++ events)).given ≡ given_by v owner deed (history t events).given
 
 -- So it is of the answer of a store.
@@ -98,3 +103,14 @@ JoinsAreEvents = (t : Terms) (events : List Event) (v : ℕ) (x b : records.Stat
 abbrev pub BeginsAreEvents : Type 0
 BeginsAreEvents = (t : Terms) (events : List Event) (v wait : ℕ) (life : List ℕ) (x : records.State)
     → AreAllowed t events → AreEvents t events v x (member_of (mode_of t) life (t.ahead v) t.lasts (begun Claim wait)) Nothing
+
+-- What happens in the stores leaves each member as it was.
+abbrev pub IsOfStores : claims.Event → Type 0
+IsOfStores (Put key owner exp time) = Unit {0}
+IsOfStores (Remove key now) = Unit {0}
+IsOfStores (End s entries deaf) = Unit {0}
+IsOfStores _ = ⊥
+
+abbrev pub StoresKeepMembers : Type 0
+StoresKeepMembers = (t : Terms) (events : List Event) (e : claims.Event) (v : ℕ) (x : records.State) (m : MemberData)
+    → IsOfStores e → Mirrors t v (history t events) x m → Mirrors t v (history t (Group e ∷ events)) x m

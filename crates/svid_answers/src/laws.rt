@@ -1,7 +1,7 @@
 //! What is proved of members that answer requests.
 
 ghost use Rattle.svid_answers.specs.Alone.{TokensAreAnsweredOnceHere};
-ghost use Rattle.svid_answers.specs.Calls.{BeginsAreEvents, ComesAreEvents, FindsAreEvents, FoundIsALook, HearsAreEvents, JoinsAreEvents, JudgesAreEvents};
+ghost use Rattle.svid_answers.specs.Calls.{BeginsAreEvents, ComesAreEvents, FindsAreEvents, FoundIsALook, HearsAreEvents, JoinsAreEvents, JudgesAreEvents, StoresKeepMembers};
 ghost use Rattle.svid_answers.specs.CallsAlone as alone;
 ghost use Rattle.svid_answers.specs.Examples.{BoundAnswers, OnceAnswers, StrictAnswers};
 ghost use Rattle.svid_answers.specs.Promises.{AnsweredIsFound, TokensAreAnsweredOnce, TokensAreAnsweredToOneCaller, TokensAreAnsweredToOneOwner};
@@ -34,8 +34,8 @@ pub fn found_is_a_look<V>()
     ensures { FoundIsALook V }
 {}
 
-/// Each call of a member in mode `Strict` or `Bound`, and each change of its record, is done by events of the group, and they are allowed: so the
-/// laws are about what the calls answer. V is the member's verifier.
+/// Each call of a member in mode `Strict` or `Bound`, and each change of its record, is done by events of the group, and they are allowed. What happens in
+/// the stores changes no member. So the laws are about what the calls answer, one after the other. V is the member's verifier.
 pub fn calls_are_events<V>()
     ensures finds { FindsAreEvents V }
     ensures judges { JudgesAreEvents }
@@ -43,6 +43,7 @@ pub fn calls_are_events<V>()
     ensures comes { ComesAreEvents }
     ensures joins { JoinsAreEvents }
     ensures begins { BeginsAreEvents }
+    ensures stores { StoresKeepMembers }
 {}
 
 /// So is each call of a member in mode `Once`, and each change of its record, in the history of that member.
