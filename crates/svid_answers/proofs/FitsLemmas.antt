@@ -120,7 +120,7 @@ Fits needs (Claiming u) = IsClaim needs
 Fits needs (Behind u) = IsClaim needs
 Fits needs (Again u) = IsClaim needs
 
-fits_turned : (needs : Needs) (g : Stage) → Fits needs g → Fits needs (turned g)
+pub fits_turned : (needs : Needs) (g : Stage) → Fits needs g → Fits needs (turned g)
 fits_turned needs Judging h = h
 fits_turned needs (Writing u) h = h
 fits_turned needs (Claiming u) h = h

@@ -21,7 +21,7 @@ use Rattle.svid_requests.specs.declared.event.Event.TheVariants.{Found}
 use Rattle.svid_requests.specs.declared.deed.Deed.{Deed}
 use Rattle.svid_requests.specs.declared.deed.Deed.TheVariants as deed
 use Rattle.svid_requests.specs.Tables.{State, at_moment, begun, came, heard, heard_deed}
-use Rattle.svid_answers.specs.Group.{AreAllowed, Event, FindsUse, Given, comes, given_by, granted, history, owner_in, passing, put}
+use Rattle.svid_answers.specs.Group.{AreAllowed, Event, FindsUse, Given, comes, given_by, granted, history, in_claims, owner_in, passing, put}
 use Rattle.svid_answers.specs.Group.Event.{Group, Come, Hear, Looks, Begin}
 use Rattle.svid_answers.specs.Promises.{AnsweredIsFound, IsFounded, TokensAreAnsweredOnce, TokensAreAnsweredToOneCaller, TokensAreAnsweredToOneOwner, WasFound, accepts, answered, is_token}
 use Rattle.svid_answers.proofs.FitsLemmas.{AreFit, fit_begun, fit_came, fit_heard, fit_moment}
@@ -60,24 +60,16 @@ module _ (t : Terms) where
   happen_push w [] e = refl
   happen_push w (x ∷ xs) e = happen_push (claims.happens t w x) xs e
 
-  abbrev below : List Event → List claims.Event
-  below [] = []
-  below (Group e ∷ events) = below events ++ e ∷ []
-  below (Come v up refused ∷ events) = below events
-  below (Hear v up refused e ∷ events) = below events
-  below (Looks v now index up n refused j ∷ events) = below events ++ Accept v now index ∷ []
-  below (Begin v wait moment uses ∷ events) = below events ++ Restart v moment uses ∷ []
+  claims_more : (w : claims.World) (xs : List claims.Event) (e : claims.Event) → w ≡ happen t claims.start xs → claims.happens t w e ≡ happen t claims.start (xs ++ e ∷ [])
+  claims_more w xs e is = ap (λ (x : claims.World). claims.happens t x e) is ∙ sym (happen_push claims.start xs e)
 
-  below_more : (w : claims.World) (xs : List claims.Event) (e : claims.Event) → w ≡ happen t claims.start xs → claims.happens t w e ≡ happen t claims.start (xs ++ e ∷ [])
-  below_more w xs e is = ap (λ (x : claims.World). claims.happens t x e) is ∙ sym (happen_push claims.start xs e)
-
-  claims_is : (events : List Event) → (history t events).claims ≡ happen t claims.start (below events)
+  pub claims_is : (events : List Event) → (history t events).claims ≡ happen t claims.start (in_claims events)
   claims_is [] = refl
-  claims_is (Group e ∷ events) = below_more (history t events).claims (below events) e (claims_is events)
+  claims_is (Group e ∷ events) = claims_more (history t events).claims (in_claims events) e (claims_is events)
   claims_is (Come v up refused ∷ events) = claims_is events
   claims_is (Hear v up refused e ∷ events) = claims_is events
-  claims_is (Looks v now index up n refused j ∷ events) = below_more (history t events).claims (below events) (Accept v now index) (claims_is events)
-  claims_is (Begin v wait moment uses ∷ events) = below_more (history t events).claims (below events) (Restart v moment uses) (claims_is events)
+  claims_is (Looks v now index up n refused j ∷ events) = claims_more (history t events).claims (in_claims events) (Accept v now index) (claims_is events)
+  claims_is (Begin v wait moment uses ∷ events) = claims_more (history t events).claims (in_claims events) (Restart v moment uses) (claims_is events)
 
   found_moves : (w : claims.World) (v : ℕ) (owner : Option (List ℕ)) (u : Use) (e : claims.Event) → WasFound t w v owner u → WasFound t (claims.happens t w e) v owner u
   found_moves w v owner u e h = record {
@@ -100,7 +92,7 @@ module _ (t : Terms) where
   -- a look that finds a use now
   found_now : (events : List Event) (v now index : ℕ) (u : Use) → let w = (history t events).claims in FindsUse t w v now index u → WasFound t (claims.happens t w (Accept v now index)) v (owner_in (slice_get w.answers index)) u
   found_now events v now index u f = record {
-    before = below events;
+    before = in_claims events;
     between = [];
     now = now;
     index = index;

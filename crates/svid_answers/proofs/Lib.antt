@@ -1,4 +1,10 @@
+pub mod AloneLemmas
+pub mod CallsAloneLemmas
+pub mod CallsLemmas
 pub mod ExamplesLemmas
 pub mod FitsLemmas
 pub mod GrantsLemmas
 pub mod GroupLemmas
+pub mod LooksLemmas
+pub mod RecordsLemmas
+pub mod WritesLemmas

@@ -1,11 +1,13 @@
 -- Histories in which requests are answered 200, so that the laws speak of something.
 use Rattle.std.specs.Prelude.{◌≡◌, ℕ, false, true, List, [], ◌∷◌, length}
 use Rattle.svid_replay.specs.declared.token_use.Use.{Use}
+use Rattle.svid_replay.specs.Records as records
 use Rattle.svid_claims.specs.Groups.{Put}
 use Rattle.svid_claims.specs.Histories.{group_of, one_key, own}
 use Rattle.svid_claims.specs.Once.{HasMargin, HaveOwners}
 use Rattle.svid_requests.specs.declared.judgment.Judgment.TheVariants.{Passes, Fails}
-use Rattle.svid_requests.specs.declared.event.Event.TheVariants.{Judged, Send}
+use Rattle.svid_requests.specs.declared.event.Event.TheVariants.{Judged, Send, Wrote}
+use Rattle.svid_answers.specs.Alone as alone
 use Rattle.svid_answers.specs.Group.{AreAllowed, Event, history}
 use Rattle.svid_answers.specs.Group.Event.{Group, Come, Hear, Looks, Begin}
 use Rattle.svid_answers.specs.Promises.{answered}
@@ -37,3 +39,17 @@ pub record BoundAnswers : Type 0 where
   pub margin : HasMargin (group_of false 3 3 own)
   pub allowed : AreAllowed (group_of false 3 3 own) bound_events
   pub twice : answered one_key 8 (history (group_of false 3 3 own) bound_events).given ≡ 2
+
+-- In mode once: a request comes, its token is accepted, and its use is written.
+abbrev pub once_events : List alone.Event
+once_events = alone.Hear 0 false (Wrote 0 true) ∷ alone.Judges 1 0 0 false used ∷ alone.Come 0 false ∷ alone.Start (records.state_of 0 []) true 7 ∷ []
+
+-- Without a state folder it is answered as it is accepted.
+abbrev pub unkept_events : List alone.Event
+unkept_events = alone.Judges 1 0 0 false used ∷ alone.Come 0 false ∷ alone.Start (records.state_of 0 []) false 7 ∷ []
+
+pub record OnceAnswers : Type 0 where
+  pub allowed : alone.AreAllowed once_events
+  pub once : alone.answered one_key 8 (alone.history once_events).given ≡ 1
+  pub unkept_allowed : alone.AreAllowed unkept_events
+  pub unkept : alone.answered one_key 8 (alone.history unkept_events).given ≡ 1

@@ -1,5 +1,5 @@
 -- A group whose members claim tokens in stores and answer requests: what may happen in it, and what was answered.
-use Rattle.std.specs.Prelude.{◌≡◌, ℕ, Bool, ◌==◌, List, [], ◌∷◌, slice_get, Option, Some, None, option_map, if◌then◌else◌}
+use Rattle.std.specs.Prelude.{◌≡◌, ℕ, Bool, ◌==◌, List, [], ◌∷◌, ◌++◌, slice_get, Option, Some, None, option_map, if◌then◌else◌}
 use Rattle.svid_replay.specs.declared.token_use.Use.{Use}
 use Rattle.svid_claims.specs.Groups.{Accept, Accepts, Answer, KnownUse, Restart, Terms}
 use Rattle.svid_claims.specs.Groups as claims
@@ -79,6 +79,15 @@ granted (Wrote n ok) = None
 granted (Send n) = None
 granted (Leave n) = None
 granted Overdue = None
+
+-- what happened in the members and the stores, the first event first
+abbrev pub in_claims : List Event → List claims.Event
+in_claims [] = []
+in_claims (Group e ∷ events) = in_claims events ++ e ∷ []
+in_claims (Come v up refused ∷ events) = in_claims events
+in_claims (Hear v up refused e ∷ events) = in_claims events
+in_claims (Looks v now index up n refused j ∷ events) = in_claims events ++ Accept v now index ∷ []
+in_claims (Begin v wait moment uses ∷ events) = in_claims events ++ Restart v moment uses ∷ []
 
 module _ (t : Terms) where
   abbrev pub happens : World → Event → World

@@ -1,3 +1,7 @@
+pub mod Alone
+pub mod Calls
+pub mod CallsAlone
+pub mod Examples
 pub mod Group
 pub mod Promises
-pub mod Examples
+pub mod Records
