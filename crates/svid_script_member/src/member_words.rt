@@ -84,12 +84,9 @@ pub(crate) fn known(word: &str) -> Result<Readiness, Stop> {
     Ok(known)
 }
 
-/// `passes USE`, `holds USE` or `fails N`, from the word at an index on
-fn judgment(words: &[&str], at: usize) -> Result<Judgment, Stop>
-    requires { at < 100 }
-{
-    let judged = word(words, at + 1);
-    match word(words, at) {
+// `passes USE`, `holds USE` or `fails N`
+fn judgment(word: &str, judged: &str) -> Result<Judgment, Stop> {
+    match word {
         "passes" => Ok(Judgment::Passes(one_use(judged)?)),
         "holds" => Ok(Judgment::Holds(one_use(judged)?)),
         "fails" => Ok(Judgment::Fails(reason(judged)?)),
@@ -108,10 +105,10 @@ pub(crate) fn event(words: &[&str]) -> Result<Event, Stop> {
     }
     let about = number(word(words, 4))?;
     match word(words, 3) {
-        "judged" => Ok(Event::Judged(about, judgment(words, 5)?)),
+        "judged" => Ok(Event::Judged(about, judgment(word(words, 5), word(words, 6))?)),
         "wrote" => Ok(Event::Wrote(about, is_yes(word(words, 5))?)),
         "send" => Ok(Event::Send(about)),
-        "found" => Ok(Event::Found(about, judgment(words, 5)?)),
+        "found" => Ok(Event::Found(about, judgment(word(words, 5), word(words, 6))?)),
         "leave" => Ok(Event::Leave(about)),
         _ => Err(Stop::Script("no such event")),
     }
