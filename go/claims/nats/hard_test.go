@@ -546,6 +546,55 @@ func TestAStreamIsMadeAnewWhileNobodyRuns(t *testing.T) {
 	}
 }
 
+// A new store notes when its streams were made once it answers. A stream that is another one before that loses nothing.
+func TestAStreamIsMadeAnewInANewStore(t *testing.T) {
+	t.Parallel()
+	m := newMachine(t)
+	proxy := logtest.NewProxy(t, m.Address())
+	o := claimstest.Options{Name: "new", Terms: claimstest.Usual, Address: proxy.Address}
+	a := m.Store(t, o).(*Store)
+	t.Cleanup(func() { a.Close() })
+	opened := make(chan error, 1)
+	go func() {
+		_, err := a.Open(patient(t))
+		opened <- err
+	}()
+	js := admin(t, m.URL)
+	natstest.Await(t, "the first record", func() bool {
+		info, err := js.StreamInfo(a.stream(ofEpochs))
+		return err == nil && info.State.Msgs == 1
+	})
+	proxy.Shut(true) // So it waits however long this takes.
+	for _, k := range []kind{ofClaims, ofWithdrawals} {
+		if err := js.DeleteStream(a.stream(k)); err != nil {
+			t.Fatal(err)
+		}
+	}
+	o.Address = ""
+	maker := m.Store(t, o).(*Store)
+	t.Cleanup(func() { maker.Close() })
+	if err := maker.connect(patient(t)); err != nil {
+		t.Fatal(err)
+	}
+	for _, k := range []kind{ofClaims, ofWithdrawals} {
+		if err := maker.make(patient(t), k); err != nil {
+			t.Fatal(err)
+		}
+	}
+	proxy.Shut(false)
+	if err := <-opened; err != nil {
+		t.Fatal(err)
+	}
+	c := one(1)
+	wantOwner(t, claimstest.Put(t, a, c)[0], c.Owner)
+	before := claimstest.State(t, a)
+	for _, s := range []*Store{a, open(t, m, o)} {
+		if is := claimstest.State(t, s); is.Epoch != before.Epoch || is.Deaf != 0 || s.known.Load().Claims == 0 {
+			t.Errorf("%+v, and before %+v", is, before)
+		}
+	}
+}
+
 // A token that lives for longer than the terms say has no answer, and nothing is stored of it: an entry that was put too early would leave
 // too early.
 func TestATokenThatLivesTooLong(t *testing.T) {
@@ -666,6 +715,7 @@ func TestMembersThatMakeAStoreAtOnce(t *testing.T) {
 	m := newMachine(t)
 	ctx, cancel := context.WithTimeout(context.Background(), patience.Long)
 	defer cancel()
+	start := make(chan struct{})
 	var all sync.WaitGroup
 	for i := 0; i < 4*20; i++ {
 		store, err := New(Options{Servers: []string{m.URL}, Name: fmt.Sprint("group", i/4), Terms: claimstest.Usual})
@@ -673,13 +723,18 @@ func TestMembersThatMakeAStoreAtOnce(t *testing.T) {
 			t.Fatal(err)
 		}
 		t.Cleanup(func() { store.Close() })
+		if err := store.connect(ctx); err != nil {
+			t.Fatal(err)
+		}
 		all.Add(1)
 		go func() {
 			defer all.Done()
+			<-start
 			if _, err := store.Open(ctx); err != nil {
 				t.Error(err)
 			}
 		}()
 	}
+	close(start)
 	all.Wait()
 }
