@@ -595,6 +595,27 @@ func TestAStreamIsMadeAnewInANewStore(t *testing.T) {
 	}
 }
 
+// A member that ends the epoch where another stream stands by now does not wait for its record there: a new store answers soon.
+func TestARecordInAnotherStream(t *testing.T) {
+	t.Parallel()
+	m := newMachine(t)
+	a := open(t, m, claimstest.Options{Name: "other", Terms: claimstest.Usual})
+	is := *a.known.Load()
+	if err := admin(t, m.URL).DeleteStream(a.stream(ofEpochs)); err != nil {
+		t.Fatal(err)
+	}
+	if err := a.make(patient(t), ofEpochs); err != nil {
+		t.Fatal(err)
+	}
+	all, err := a.infos(patient(t))
+	if err != nil {
+		t.Fatal(err)
+	}
+	if err := a.write(patient(t), exam{all: all, is: &is, now: is.Began}, is.record, is.Run, true); err == nil || errors.Is(err, errLate) {
+		t.Errorf("%v", err)
+	}
+}
+
 // A token that lives for longer than the terms say has no answer, and nothing is stored of it: an entry that was put too early would leave
 // too early.
 func TestATokenThatLivesTooLong(t *testing.T) {
