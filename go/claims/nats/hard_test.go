@@ -635,6 +635,68 @@ func TestATokenThatLivesTooLong(t *testing.T) {
 	wantOwner(t, claimstest.Put(t, b, c)[0], c.Owner)
 }
 
+// A claim and the question for its time go to a server that is alone in one flight, before it answers.
+func TestAClaimIsOneFlight(t *testing.T) {
+	t.Parallel()
+	m := newMachine(t)
+	a := open(t, m, claimstest.Options{Name: "flight", Terms: claimstest.Usual})
+	for _, n := range []int{1, 3} {
+		for try := 1; ; try++ {
+			var these []claims.Claim
+			for i := 0; i < n; i++ {
+				these = append(these, one(i))
+			}
+			wantOwner(t, claimstest.Put(t, a, one(1))[0], claimstest.Own(1))
+			before, unsteady := a.conn.Stats().OutMsgs, a.unsteady.Load()
+			sent := func() uint64 { return a.conn.Stats().OutMsgs - before }
+			m.Pause(t)
+			found := make(chan []claims.Found, 1)
+			go func() { found <- claimstest.Try(a, patience.Long, these...) }()
+			natstest.Await(t, "all that is sent before an answer", func() bool { return sent() > uint64(n) })
+			isFirst := a.unsteady.Load() == unsteady // (later it is what is asked again)
+			m.Resume(t)
+			for i, f := range <-found {
+				wantOwner(t, f, these[i].Owner)
+			}
+			if isFirst && a.unsteady.Load() == unsteady && sent() != uint64(n)+1 {
+				t.Errorf("%d messages for %d claims", sent(), n)
+			}
+			if isFirst {
+				break
+			}
+			if try == 5 {
+				t.Fatal("the question for the time waits for the answer to the claim")
+			}
+		}
+	}
+}
+
+// The stamp of a claim that the same flight did not read is asked for. A claim that is not there is a loss.
+func TestTheTimeOfAClaim(t *testing.T) {
+	t.Parallel()
+	m := newMachine(t)
+	a := open(t, m, claimstest.Options{Name: "stamp", Terms: claimstest.Usual})
+	wantOwner(t, claimstest.Put(t, a, one(1))[0], claimstest.Own(1))
+	c := one(2)
+	f := claimstest.Put(t, a, c)[0]
+	wantOwner(t, f, c.Owner)
+	is, err := a.get(patient(t), ofClaims, bySubject(a.subjectOf(&c)), true)
+	if err != nil {
+		t.Fatal(err)
+	}
+	if f.Time != uint64(is.Time.Unix()) {
+		t.Errorf("%+v of a claim that was stored at %v", f, is.Time)
+	}
+	k := a.known.Load()
+	if now, _, err := a.decided(patient(t), k, stored{Position: is.Position}); err != nil || now != is.Time.UnixNano() {
+		t.Errorf("%d, and it was stored at %v: %v", now, is.Time, err)
+	}
+	doubts := a.doubts.Load()
+	if _, _, err := a.decided(patient(t), k, stored{Position: is.Position + 1}); err == nil || a.doubts.Load() == doubts {
+		t.Errorf("%v", err)
+	}
+}
+
 // What the server says of a message counts, and not what the message says.
 func TestWhatAMessageSaysOfItself(t *testing.T) {
 	t.Parallel()
