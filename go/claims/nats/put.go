@@ -247,7 +247,8 @@ func (s *Store) decided(ctx context.Context, ready *known, last stored) (now int
 		return s.look(ctx)
 	}
 	if last.Time.IsZero() {
-		s.each(ctx, 1, func(int) question { return s.getting(s.stream(ofClaims), bySequence(last.Position), true) }, func(_ int, m *client.Msg, fault error) bool {
+		q := s.getting(s.stream(ofClaims), bySequence(last.Position), true)
+		s.each(ctx, 1, func(int) question { return q }, func(_ int, m *client.Msg, fault error) bool {
 			if err = fault; err == nil {
 				last, err = got(m)
 			}
