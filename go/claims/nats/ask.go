@@ -208,10 +208,15 @@ func (s *Store) eachWithin(ctx context.Context, wait time.Duration, n int, ask f
 
 // one asks one question, until take can use its answer, for at most oneWait.
 func (s *Store) one(ctx context.Context, q question, take func(m *client.Msg) error) (err error) {
+	return s.oneOf(ctx, func() question { return q }, take)
+}
+
+// oneOf is one with a question of its own for each attempt.
+func (s *Store) oneOf(ctx context.Context, ask func() question, take func(m *client.Msg) error) (err error) {
 	ctx, cancel := context.WithTimeout(ctx, oneWait)
 	defer cancel()
 	begun := time.Now()
-	s.eachWithin(ctx, attemptWait/4, 1, func(int) question { return q }, func(_ int, m *client.Msg, fault error) bool {
+	s.eachWithin(ctx, attemptWait/4, 1, func(int) question { return ask() }, func(_ int, m *client.Msg, fault error) bool {
 		if err = fault; err == nil {
 			err = take(m)
 		}

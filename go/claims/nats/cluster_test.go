@@ -171,6 +171,52 @@ func TestEachServerIsKilledInTurn(t *testing.T) {
 	}
 }
 
+// Members that make a store together all ask for its streams, and some servers then note another time at which a stream was made than others
+// do. Each server is restarted in turn, so each of them leads the streams: the epoch stays.
+func TestEachServerIsRestartedInTurn(t *testing.T) {
+	t.Parallel()
+	servers := natstest.Cluster(t, 3)
+	o := Options{Servers: broker.URLs(servers), Name: "restart", Replicas: 3, Terms: claimstest.Usual}
+	members := make([]*Store, 12)
+	var opening sync.WaitGroup
+	for i := range members {
+		members[i] = newStore(t, o)
+		t.Cleanup(func(store *Store) func() { return func() { store.Close() } }(members[i]))
+		opening.Add(1)
+		go func(store *Store) {
+			defer opening.Done()
+			if _, err := store.Open(patient(t)); err != nil {
+				t.Error(err)
+			}
+		}(members[i])
+	}
+	opening.Wait()
+	before := claimstest.State(t, members[0])
+	first := one(0)
+	wantOwner(t, claimstest.Put(t, members[0], first)[0], first.Owner)
+	for i, server := range servers {
+		server.Stop()
+		for n, store := range members {
+			c := one(n)
+			wantOwner(t, claimstest.Put(t, store, c)[0], c.Owner)
+		}
+		if err := server.Start(); err != nil {
+			t.Fatal(err)
+		}
+		natstest.Await(t, "the server to have all again", func() bool { return areCurrent(t, servers[(i+1)%3].URL, o.Name) })
+	}
+	late := newStore(t, o)
+	t.Cleanup(func() { late.Close() })
+	claimstest.Open(t, late)
+	for _, store := range append(members, late) {
+		if is := claimstest.State(t, store); is.Epoch != before.Epoch || is.Deaf != 0 {
+			t.Fatalf("%+v, and before %+v", is, before)
+		}
+	}
+	first.Owner = claimstest.Own(99)
+	wantOwner(t, claimstest.Put(t, late, first)[0], claimstest.Own(0))
+}
+
 // areCurrent says whether all servers have all of a group's streams.
 func areCurrent(t *testing.T, url, name string) bool {
 	js, done, err := adminAt(url)

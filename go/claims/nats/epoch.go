@@ -26,7 +26,7 @@ type record struct {
 	Margin      uint64 `json:"margin"`
 	Back        uint64 `json:"back"`
 	Run         string `json:"run"`         // the server's process, or the streams' leader: another one may have lost something
-	Claims      int64  `json:"claims"`      // when their stream was made, in nanoseconds since 1970
+	Claims      int64  `json:"claims"`      // when their stream was made, in nanoseconds since 1970; 0 while the store is new, and answers nobody
 	Withdrawals int64  `json:"withdrawals"` // the same
 	Deleted     uint64 `json:"deleted"`     // messages between the first claim and the last one that are gone
 	Gone        uint64 `json:"gone"`        // the same of withdrawals
@@ -66,7 +66,8 @@ func (k *known) deafAt(at int64) uint64 {
 }
 
 // follow reads the next message of the epochs' stream, and says whether it is the record that follows the known one. What a member has
-// written that lies may end the epoch; it neither makes a store less deaf than before nor changes its margin.
+// written that lies may end the epoch; it neither makes a store less deaf than before nor changes its margin, nor lets it forget when its
+// streams were made.
 func (k *known) follow(base string, m stored) bool {
 	k.read = m.Position
 	link := k.Link
@@ -88,6 +89,9 @@ func (k *known) follow(base string, m stored) bool {
 			r.Lasts = k.Lasts
 		}
 		r.Margin, r.Back = k.Margin, k.Back
+		if r.Claims == 0 {
+			r.Claims, r.Withdrawals = k.Claims, k.Withdrawals
+		}
 	}
 	if m.Time.UnixNano() > r.Began {
 		r.Began = m.Time.UnixNano()

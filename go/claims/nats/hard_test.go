@@ -546,6 +546,76 @@ func TestAStreamIsMadeAnewWhileNobodyRuns(t *testing.T) {
 	}
 }
 
+// A new store notes when its streams were made once it answers. A stream that is another one before that loses nothing.
+func TestAStreamIsMadeAnewInANewStore(t *testing.T) {
+	t.Parallel()
+	m := newMachine(t)
+	proxy := logtest.NewProxy(t, m.Address())
+	o := claimstest.Options{Name: "new", Terms: claimstest.Usual, Address: proxy.Address}
+	a := m.Store(t, o).(*Store)
+	t.Cleanup(func() { a.Close() })
+	opened := make(chan error, 1)
+	go func() {
+		_, err := a.Open(patient(t))
+		opened <- err
+	}()
+	js := admin(t, m.URL)
+	natstest.Await(t, "the first record", func() bool {
+		info, err := js.StreamInfo(a.stream(ofEpochs))
+		return err == nil && info.State.Msgs == 1
+	})
+	proxy.Shut(true) // So it waits however long this takes.
+	for _, k := range []kind{ofClaims, ofWithdrawals} {
+		if err := js.DeleteStream(a.stream(k)); err != nil {
+			t.Fatal(err)
+		}
+	}
+	o.Address = ""
+	maker := m.Store(t, o).(*Store)
+	t.Cleanup(func() { maker.Close() })
+	if err := maker.connect(patient(t)); err != nil {
+		t.Fatal(err)
+	}
+	for _, k := range []kind{ofClaims, ofWithdrawals} {
+		if err := maker.make(patient(t), k); err != nil {
+			t.Fatal(err)
+		}
+	}
+	proxy.Shut(false)
+	if err := <-opened; err != nil {
+		t.Fatal(err)
+	}
+	c := one(1)
+	wantOwner(t, claimstest.Put(t, a, c)[0], c.Owner)
+	before := claimstest.State(t, a)
+	for _, s := range []*Store{a, open(t, m, o)} {
+		if is := claimstest.State(t, s); is.Epoch != before.Epoch || is.Deaf != 0 || s.known.Load().Claims == 0 {
+			t.Errorf("%+v, and before %+v", is, before)
+		}
+	}
+}
+
+// A member that ends the epoch where another stream stands by now does not wait for its record there: a new store answers soon.
+func TestARecordInAnotherStream(t *testing.T) {
+	t.Parallel()
+	m := newMachine(t)
+	a := open(t, m, claimstest.Options{Name: "other", Terms: claimstest.Usual})
+	is := *a.known.Load()
+	if err := admin(t, m.URL).DeleteStream(a.stream(ofEpochs)); err != nil {
+		t.Fatal(err)
+	}
+	if err := a.make(patient(t), ofEpochs); err != nil {
+		t.Fatal(err)
+	}
+	all, err := a.infos(patient(t))
+	if err != nil {
+		t.Fatal(err)
+	}
+	if err := a.write(patient(t), exam{all: all, is: &is, now: is.Began}, is.record, is.Run, true); err == nil || errors.Is(err, errLate) {
+		t.Errorf("%v", err)
+	}
+}
+
 // A token that lives for longer than the terms say has no answer, and nothing is stored of it: an entry that was put too early would leave
 // too early.
 func TestATokenThatLivesTooLong(t *testing.T) {
@@ -563,6 +633,68 @@ func TestATokenThatLivesTooLong(t *testing.T) {
 	wantOwner(t, found[1], fine.Owner)
 	c.Owner, c.Expires = claimstest.Own(2), claimstest.Now()+300
 	wantOwner(t, claimstest.Put(t, b, c)[0], c.Owner)
+}
+
+// A claim and the question for its time go to a server that is alone in one flight, before it answers.
+func TestAClaimIsOneFlight(t *testing.T) {
+	t.Parallel()
+	m := newMachine(t)
+	a := open(t, m, claimstest.Options{Name: "flight", Terms: claimstest.Usual})
+	for _, n := range []int{1, 3} {
+		for try := 1; ; try++ {
+			var these []claims.Claim
+			for i := 0; i < n; i++ {
+				these = append(these, one(i))
+			}
+			wantOwner(t, claimstest.Put(t, a, one(1))[0], claimstest.Own(1))
+			before, unsteady := a.conn.Stats().OutMsgs, a.unsteady.Load()
+			sent := func() uint64 { return a.conn.Stats().OutMsgs - before }
+			m.Pause(t)
+			found := make(chan []claims.Found, 1)
+			go func() { found <- claimstest.Try(a, patience.Long, these...) }()
+			natstest.Await(t, "all that is sent before an answer", func() bool { return sent() > uint64(n) })
+			isFirst := a.unsteady.Load() == unsteady // (later it is what is asked again)
+			m.Resume(t)
+			for i, f := range <-found {
+				wantOwner(t, f, these[i].Owner)
+			}
+			if isFirst && a.unsteady.Load() == unsteady && sent() != uint64(n)+1 {
+				t.Errorf("%d messages for %d claims", sent(), n)
+			}
+			if isFirst {
+				break
+			}
+			if try == 5 {
+				t.Fatal("the question for the time waits for the answer to the claim")
+			}
+		}
+	}
+}
+
+// The stamp of a claim that the same flight did not read is asked for. A claim that is not there is a loss.
+func TestTheTimeOfAClaim(t *testing.T) {
+	t.Parallel()
+	m := newMachine(t)
+	a := open(t, m, claimstest.Options{Name: "stamp", Terms: claimstest.Usual})
+	wantOwner(t, claimstest.Put(t, a, one(1))[0], claimstest.Own(1))
+	c := one(2)
+	f := claimstest.Put(t, a, c)[0]
+	wantOwner(t, f, c.Owner)
+	is, err := a.get(patient(t), ofClaims, bySubject(a.subjectOf(&c)), true)
+	if err != nil {
+		t.Fatal(err)
+	}
+	if f.Time != uint64(is.Time.Unix()) {
+		t.Errorf("%+v of a claim that was stored at %v", f, is.Time)
+	}
+	k := a.known.Load()
+	if now, _, err := a.decided(patient(t), k, stored{Position: is.Position}); err != nil || now != is.Time.UnixNano() {
+		t.Errorf("%d, and it was stored at %v: %v", now, is.Time, err)
+	}
+	doubts := a.doubts.Load()
+	if _, _, err := a.decided(patient(t), k, stored{Position: is.Position + 1}); err == nil || a.doubts.Load() == doubts {
+		t.Errorf("%v", err)
+	}
 }
 
 // What the server says of a message counts, and not what the message says.
@@ -666,6 +798,7 @@ func TestMembersThatMakeAStoreAtOnce(t *testing.T) {
 	m := newMachine(t)
 	ctx, cancel := context.WithTimeout(context.Background(), patience.Long)
 	defer cancel()
+	start := make(chan struct{})
 	var all sync.WaitGroup
 	for i := 0; i < 4*20; i++ {
 		store, err := New(Options{Servers: []string{m.URL}, Name: fmt.Sprint("group", i/4), Terms: claimstest.Usual})
@@ -673,13 +806,18 @@ func TestMembersThatMakeAStoreAtOnce(t *testing.T) {
 			t.Fatal(err)
 		}
 		t.Cleanup(func() { store.Close() })
+		if err := store.connect(ctx); err != nil {
+			t.Fatal(err)
+		}
 		all.Add(1)
 		go func() {
 			defer all.Done()
+			<-start
 			if _, err := store.Open(ctx); err != nil {
 				t.Error(err)
 			}
 		}()
 	}
+	close(start)
 	all.Wait()
 }

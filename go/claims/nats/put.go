@@ -240,27 +240,29 @@ func (s *Store) settleThese(ctx context.Context, these []claims.Claim, outcomes 
 	}
 }
 
-// decided reads the store's time and its epoch after all was decided. last is the position of the put that was sent last, if it was taken
-// just now: a server that has the streams alone decides one after the other, so the stamp of that one is after all others.
-func (s *Store) decided(ctx context.Context, ready *known, last uint64) (now int64, k *known, err error) {
-	if last == 0 || !ready.isAlone {
+// decided reads the store's time and its epoch after all was decided. last is the claim that was sent last, as it stands, if it was taken just
+// now: a server that has the streams alone decides one after the other, so the stamp of that one is after all others.
+func (s *Store) decided(ctx context.Context, ready *known, last stored) (now int64, k *known, err error) {
+	if last.Position == 0 || !ready.isAlone {
 		return s.look(ctx)
 	}
-	var is stored
-	s.each(ctx, 1, func(int) question { return s.getting(s.stream(ofClaims), bySequence(last), true) }, func(_ int, m *client.Msg, fault error) bool {
-		if err = fault; err == nil {
-			is, err = got(m)
+	if last.Time.IsZero() {
+		q := s.getting(s.stream(ofClaims), bySequence(last.Position), true)
+		s.each(ctx, 1, func(int) question { return q }, func(_ int, m *client.Msg, fault error) bool {
+			if err = fault; err == nil {
+				last, err = got(m)
+			}
+			return false
+		})
+		if err != nil {
+			s.doubt() // (that it is not there any more is a loss)
+			return 0, nil, failed("read the store's time", err)
 		}
-		return false
-	})
-	if err != nil {
-		s.doubt() // (that it is not there any more is a loss)
-		return 0, nil, failed("read the store's time", err)
 	}
 	if k, err = s.current(ctx, false); err != nil {
 		return 0, nil, err
 	}
-	now = is.Time.UnixNano()
+	now = last.Time.UnixNano()
 	return now, k, s.passes(now, k)
 }
 
@@ -290,19 +292,36 @@ func tooLong(expires uint64, now int64, lasts uint64) error {
 
 func (s *Store) subjectOf(c *claims.Claim) string { return s.base + "c." + keyText(c.Key) }
 
-// put puts the open ones, and reads what stands where one was refused. It says whether all have an outcome, and at which position the last
-// one stands, if it was taken.
-func (s *Store) put(ctx context.Context, k *known, these []claims.Claim, outcomes []outcome, open []int) (last uint64, all bool) {
+// put puts the open ones, and reads what stands where one was refused. It says whether all have an outcome, and how the last one stands, if it
+// was taken.
+//
+// A server that has the streams alone does what comes by one connection in its order. So the same flight asks for the last claim as it stands,
+// with its stamp, and this costs no time. If the answer is of another position, the claim was decided later: whoever needs its stamp asks again.
+func (s *Store) put(ctx context.Context, k *known, these []claims.Claim, outcomes []outcome, open []int) (last stored, all bool) {
 	s.ownMu.Lock()
 	base := s.last
 	s.ownMu.Unlock()
 	var refused []int
+	var standing stored
 	stream, latest := s.stream(ofClaims), own{}
+	questions := len(open)
+	if k.isAlone && questions > 0 {
+		questions++
+	}
 	all = true
-	s.each(ctx, len(open), func(n int) question {
+	s.each(ctx, questions, func(n int) question {
+		if n == len(open) {
+			return s.getting(stream, bySubject(s.subjectOf(&these[open[n-1]])), true)
+		}
 		c := &these[open[n]]
 		return question{s.subjectOf(c), c.Owner[:], nil}
 	}, func(n int, m *client.Msg, err error) bool {
+		if n == len(open) {
+			if err == nil {
+				standing, _ = got(m)
+			}
+			return false
+		}
 		i := open[n]
 		var position uint64
 		if err == nil {
@@ -318,7 +337,7 @@ func (s *Store) put(ctx context.Context, k *known, these []claims.Claim, outcome
 				latest = own{position: position, claim: these[i]}
 			}
 			if n == len(open)-1 {
-				last = position
+				last.Position = position
 			}
 		case errors.Is(err, errStands):
 			refused = append(refused, i)
@@ -330,11 +349,26 @@ func (s *Store) put(ctx context.Context, k *known, these []claims.Claim, outcome
 		}
 		return false
 	})
-	if len(refused) > 0 {
-		last = 0 // What stands there is read after that one was decided.
+	if n := len(refused) - 1; n >= 0 && refused[n] == open[len(open)-1] && standing.Position != 0 {
+		outcomes[refused[n]] = s.found(k, &these[refused[n]], standing)
+		refused = refused[:n]
 	}
+	switch {
+	case len(refused) > 0 || last.Position < latest.position:
+		last = stored{} // What stands there is read after that one was decided.
+	case last.Position != 0 && standing.Position == last.Position:
+		last = standing
+	}
+	all = s.read(ctx, k, these, outcomes, refused) && all
+	s.owns(latest)
+	return last, all
+}
+
+// read reads what stands where a claim was refused. It says whether all have an outcome.
+func (s *Store) read(ctx context.Context, k *known, these []claims.Claim, outcomes []outcome, refused []int) (all bool) {
+	all = true
 	s.each(ctx, len(refused), func(n int) question {
-		return s.getting(stream, bySubject(s.subjectOf(&these[refused[n]])), k.isAlone)
+		return s.getting(s.stream(ofClaims), bySubject(s.subjectOf(&these[refused[n]])), k.isAlone)
 	}, func(n int, m *client.Msg, err error) bool {
 		i := refused[n]
 		if err == nil {
@@ -348,18 +382,23 @@ func (s *Store) put(ctx context.Context, k *known, these []claims.Claim, outcome
 		all, outcomes[i].err = false, err
 		return false
 	})
-	if latest.position != 0 {
-		latest.time = s.time.Load()
-		s.ownMu.Lock()
-		if s.own.position < latest.position {
-			s.own = latest
-		}
-		if s.last < latest.position {
-			s.last = latest.position
-		}
-		s.ownMu.Unlock()
+	return all
+}
+
+// owns notes the last claim that was acknowledged to this member.
+func (s *Store) owns(latest own) {
+	if latest.position == 0 {
+		return
 	}
-	return last, all
+	latest.time = s.time.Load()
+	s.ownMu.Lock()
+	defer s.ownMu.Unlock()
+	if s.own.position < latest.position {
+		s.own = latest
+	}
+	if s.last < latest.position {
+		s.last = latest.position
+	}
 }
 
 // mayDoubt doubts the server where it did not answer: another one may have the streams now.

@@ -203,7 +203,7 @@ func (s *Store) begin(ctx context.Context, x exam) error {
 	if x.unfit != nil {
 		return x.unfit
 	}
-	r := record{Lasts: s.o.Terms.Lasts, Margin: s.o.Terms.Margin, Back: s.o.Terms.Back}
+	r := record{Lasts: s.o.Terms.Lasts, Margin: s.o.Terms.Margin, Back: s.o.Terms.Back} // (quarantine notes when the streams were made)
 	if x.all[ofClaims].State.Last > 0 || x.all[ofWithdrawals].State.Last > 0 {
 		r.Deaf = (&known{record: r}).deafAt(x.now)
 		s.log("a store without its epoch: its tokens are refused until they have expired", "deaf", r.Deaf)
@@ -216,13 +216,7 @@ func (s *Store) begin(ctx context.Context, x exam) error {
 func (s *Store) barrier(ctx context.Context) error {
 	for _, subject := range []string{"c.-", "w.-.-", "e.-"} {
 		q := question{s.base + subject, nil, client.Header{"Nats-Expected-Last-Sequence": {"999999999999"}}}
-		err := s.one(ctx, q, func(m *client.Msg) error {
-			if err := reply(m); err != nil {
-				return err
-			}
-			return fault(m.Data)
-		})
-		if !is(err, wrongLast) {
+		if err := s.one(ctx, q, refusal); !is(err, wrongLast) {
 			return failed("wait for a server that was just elected", err)
 		}
 	}
@@ -284,12 +278,12 @@ func (s *Store) raise(ctx context.Context, x exam) error {
 				time.Duration(x.all[k].Config.number("max_age")), want.Lasts, age(terms), age(terms), s.stream(k), err)
 		}
 	}
-	r := is.record
-	r.Lasts = want.Lasts
 	for try := 0; is.Lasts < want.Lasts; try++ {
 		if try == mostTries {
 			return failed("raise lasts", errors.New("other members write records too"))
 		}
+		r := is.record
+		r.Lasts = want.Lasts
 		if err := s.write(ctx, x, r, is.Run, false); err != nil {
 			return err
 		}
@@ -299,6 +293,9 @@ func (s *Store) raise(ctx context.Context, x exam) error {
 
 // quarantine waits for members that may have lost something, where the store is a new one or another process has it. They look at once, and
 // end the epoch.
+//
+// After it, a new store's record notes when the streams were made. A server that has just made one may say another time a moment later, as
+// make has it. Nobody is answered before that.
 func (s *Store) quarantine(ctx context.Context, x exam, k *known, unsteady bool) error {
 	is, now, until := x.is, x.now, int64(0)
 	if k == nil && is.Before == "" {
@@ -307,6 +304,7 @@ func (s *Store) quarantine(ctx context.Context, x exam, k *known, unsteady bool)
 	if wait := now + int64(waitRun); (is.Run != x.run || unsteady && !is.isAlone && k != nil) && until < wait {
 		until = wait
 	}
+	isNew := k == nil && now < until
 	for now < until {
 		if !pause(ctx, quarantineLook) {
 			return ctx.Err()
@@ -319,15 +317,37 @@ func (s *Store) quarantine(ctx context.Context, x exam, k *known, unsteady bool)
 			return err
 		}
 	}
-	for try := 0; is.Run != x.run; try++ {
+	if isNew {
+		var err error
+		if x.all, err = s.infos(ctx); err != nil {
+			return err
+		}
+		for i := range x.all {
+			if x.all[i] == nil {
+				return failed("open the store", errors.New("someone removed the stream "+s.stream(kind(i))))
+			}
+		}
+		is.made = x.all[ofEpochs].Created
+	}
+	for try := 0; is.Run != x.run || is.Claims == 0; try++ {
 		if try == mostTries {
 			return failed("note the server's run", errors.New("other members write records too"))
 		}
-		if err := s.write(ctx, x, is.record, x.run, false); err != nil {
+		r := is.record
+		if r.Claims == 0 {
+			r = x.noted(r)
+		}
+		if err := s.write(ctx, x, r, x.run, false); err != nil {
 			return err
 		}
 	}
 	return nil
+}
+
+// noted is a record that notes when the streams were made.
+func (x *exam) noted(r record) record {
+	r.Claims, r.Withdrawals = x.all[ofClaims].Created.UnixNano(), x.all[ofWithdrawals].Created.UnixNano()
+	return r
 }
 
 func (i *info) isAlone() bool {
@@ -429,7 +449,6 @@ func (s *Store) write(ctx context.Context, x exam, r record, run string, isEnd b
 		}
 	}
 	r.Began, r.Run = x.now, run
-	r.Claims, r.Withdrawals = all[ofClaims].Created.UnixNano(), all[ofWithdrawals].Created.UnixNano()
 	r.Deleted, r.Gone = all[ofClaims].State.Deleted, all[ofWithdrawals].State.Deleted
 	data, err := json.Marshal(r)
 	if err != nil {
@@ -439,12 +458,16 @@ func (s *Store) write(ctx context.Context, x exam, r record, run string, isEnd b
 	if link == "" {
 		link = first
 	}
-	err = s.one(ctx, question{s.base + "e." + link, data, nil}, func(m *client.Msg) error {
-		_, err := acknowledged(m, s.stream(ofEpochs))
+	var position uint64
+	err = s.one(ctx, question{s.base + "e." + link, data, nil}, func(m *client.Msg) (err error) {
+		position, err = acknowledged(m, s.stream(ofEpochs))
 		return err
 	})
 	if err != nil && !errors.Is(err, errStands) {
 		return failed("write the epoch's record", err)
+	}
+	if err == nil && position <= is.read {
+		return failed("write the epoch's record", errors.New("another stream stands in the place of the one before"))
 	}
 	for before, from := is.position, time.Now(); ; {
 		if err := s.readOn(ctx, is); err != nil || is.position != before {
@@ -476,6 +499,7 @@ func (s *Store) finish(ctx context.Context, x exam, k *known) error {
 		latest = x.now
 	}
 	r.Deaf = (&known{record: r}).deafAt(latest)
+	r = x.noted(r)
 	for try := 0; try < mostTries; try++ {
 		before := is.Epoch
 		if err := s.write(ctx, x, r, x.run, true); err != nil {
@@ -493,9 +517,9 @@ func (s *Store) finish(ctx context.Context, x exam, k *known) error {
 func (s *Store) missed(ctx context.Context, x exam) (loss, error) {
 	is, now, own, c, w := x.is, x.now, x.own, x.all[ofClaims], x.all[ofWithdrawals]
 	switch {
-	case c.Created.UnixNano() != is.Claims:
+	case is.Claims != 0 && c.Created.UnixNano() != is.Claims:
 		return "the claims' stream was made anew", nil
-	case w.Created.UnixNano() != is.Withdrawals:
+	case is.Claims != 0 && w.Created.UnixNano() != is.Withdrawals:
 		return "the withdrawals' stream was made anew", nil
 	case c.State.Last < x.last || w.State.Last < x.lastWithdrawal:
 		return "the streams end before what they acknowledged", nil

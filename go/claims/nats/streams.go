@@ -170,10 +170,7 @@ func (s *Store) api(ctx context.Context, what string, in, out any) error {
 		}
 	}
 	return s.one(ctx, question{"$JS.API." + what, request, nil}, func(m *client.Msg) error {
-		if err := reply(m); err != nil {
-			return err
-		}
-		if err := fault(m.Data); err != nil {
+		if err := refusal(m); err != nil {
 			return err
 		}
 		if out == nil {
@@ -184,6 +181,14 @@ func (s *Store) api(ctx context.Context, what string, in, out any) error {
 		}
 		return nil
 	})
+}
+
+// refusal is the error that the server answers, nil for none.
+func refusal(m *client.Msg) error {
+	if err := reply(m); err != nil {
+		return err
+	}
+	return fault(m.Data)
 }
 
 func is(err error, code client.ErrorCode) bool {
@@ -206,11 +211,27 @@ func (s *Store) infos(ctx context.Context) (all [kinds]*info, err error) {
 	return all, nil
 }
 
-// make makes a stream. That two members do so at once is no error: both ask for the same one. While the server makes it, it says to the other
-// that their subjects overlap.
+// make makes a stream. That two members do so at once is no error. While a server that is alone makes it for one, it says to the other that
+// their subjects overlap.
+//
+// Each request has a description of its own. A cluster takes a second request before it has done the first one. If both are equal, the servers
+// that run keep the time of the first one as that at which the stream was made, and a server that starts later takes that of the second one.
+// If they differ, all servers take the second one's.
 func (s *Store) make(ctx context.Context, k kind) error {
+	link, err := newLink()
+	if err != nil {
+		return err
+	}
+	requests := 0
+	request := func() question {
+		requests++
+		due := s.due(k)
+		due["description"] = fmt.Sprintf("claims of svid's group %s, request %s-%d", s.o.Name, link, requests)
+		data, _ := json.Marshal(due) // (of texts, numbers and booleans alone)
+		return question{"$JS.API.STREAM.CREATE." + s.stream(k), data, nil}
+	}
 	for begun := time.Now(); ; {
-		err := s.api(ctx, "STREAM.CREATE."+s.stream(k), s.due(k), nil)
+		err := s.oneOf(ctx, request, refusal)
 		if err == nil || is(err, nameInUse) {
 			return nil
 		}
