@@ -70,7 +70,7 @@ comes_are_events events up refused x m allowed h = record {
 }
 
 pub begins_are_events : BeginsAreEvents
-begins_are_events events kept wait ahead lasts life x allowed knows =
+begins_are_events events kept wait ahead lasts life known x allowed knows =
     record { more = Start x kept wait ∷ []; allowed = (allowed, knows); leaves = record { mode = refl; held = refl; requests = refl }; given = refl }
 
 judged_events : (events : List Event) (now up n : ℕ) (s : Setting) (said : Said) (answer : Result Accepted Refusal) (x : records.State) (m m_new : MemberData) (deed : Deed) → AreAllowed events → IsLife (history events) x m

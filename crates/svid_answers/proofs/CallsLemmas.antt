@@ -167,7 +167,7 @@ comes_are_events t events v up refused x m allowed h =
     }
 
 pub begins_are_events : BeginsAreEvents
-begins_are_events t events v wait life x allowed =
+begins_are_events t events v wait life knows x allowed =
     let w = history t events in
     let z = claims.next_life (w.claims.members v) x.moment [] in record {
       more = Begin v wait x.moment [] ∷ [];

@@ -25,11 +25,12 @@ use Rattle.svid_member.specs.declared.mode.Mode.{Mode}
 use Rattle.svid_member.specs.declared.mode.Mode.TheVariants.{Strict, Bound}
 use Rattle.svid_member.specs.Claiming.{Finds, awaited, claim_for, owner_for}
 use Rattle.svid_member.specs.Judging.{IsTold, judged_by}
-use Rattle.svid_member.specs.Members.{Hears, MemberData, member_of, with_requests}
+use Rattle.svid_member.specs.declared.readiness.Readiness.{Readiness}
+use Rattle.svid_member.specs.Members.{Hears, MemberData, with_requests}
 use Rattle.svid_member.specs.Modes.{adds_at_judgment}
 use Rattle.svid_answers.specs.Group.{AreAllowed, Event, FindsUse, World, comes, given_by, granted, history, in_claims, passing}
 use Rattle.svid_answers.specs.Group.Event.{Group}
-use Rattle.svid_answers.specs.Records.{KnowsOf}
+use Rattle.svid_answers.specs.Records.{KnowsOf, member_of}
 
 -- the mode of a group's members
 abbrev pub mode_of : Terms → Mode
@@ -101,8 +102,8 @@ JoinsAreEvents = (t : Terms) (events : List Event) (v : ℕ) (x b : records.Stat
 
 -- and of a start with any record
 abbrev pub BeginsAreEvents : Type 0
-BeginsAreEvents = (t : Terms) (events : List Event) (v wait : ℕ) (life : List ℕ) (x : records.State)
-    → AreAllowed t events → AreEvents t events v x (member_of (mode_of t) life (t.ahead v) t.lasts (begun Claim wait)) Nothing
+BeginsAreEvents = (t : Terms) (events : List Event) (v wait : ℕ) (life : List ℕ) (knows : Readiness) (x : records.State)
+    → AreAllowed t events → AreEvents t events v x (member_of (mode_of t) life (t.ahead v) t.lasts knows (begun Claim wait)) Nothing
 
 -- What happens in the stores leaves each member as it was.
 abbrev pub IsOfStores : claims.Event → Type 0

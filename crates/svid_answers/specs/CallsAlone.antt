@@ -17,11 +17,12 @@ use Rattle.svid_member.specs.declared.asked.Asked.{Asked}
 use Rattle.svid_member.specs.declared.mode.Mode.TheVariants.{Once}
 use Rattle.svid_member.specs.Claiming.{awaited}
 use Rattle.svid_member.specs.Judging.{IsTold, judged_by}
-use Rattle.svid_member.specs.Members.{Hears, MemberData, member_of, with_requests}
+use Rattle.svid_member.specs.declared.readiness.Readiness.{Readiness}
+use Rattle.svid_member.specs.Members.{Hears, MemberData, with_requests}
 use Rattle.svid_member.specs.Modes.{adds_at_judgment, needs_of}
 use Rattle.svid_answers.specs.Alone.{AreAllowed, Event, Life, WasGiven, approved, given_by, history}
 use Rattle.svid_answers.specs.Group.{comes}
-use Rattle.svid_answers.specs.Records.{Knows}
+use Rattle.svid_answers.specs.Records.{Knows, member_of}
 
 -- a member with its record is the one that a history leaves
 pub record IsLife (w : Life) (x : records.State) (m : MemberData) : Type 0 where
@@ -59,8 +60,8 @@ JoinsAreEvents = (events : List Event) (x b : records.State) (m : MemberData) �
 
 -- and of a start, if the record that it reads knows what was answered 200
 abbrev pub BeginsAreEvents : Type 0
-BeginsAreEvents = (events : List Event) (kept : Bool) (wait ahead lasts : ℕ) (life : List ℕ) (x : records.State)
-    → AreAllowed events → ((u : Use) → WasGiven (history events).given u → Knows x u) → AreEvents events x (member_of Once life ahead lasts (begun (needs_of Once kept) wait)) Nothing
+BeginsAreEvents = (events : List Event) (kept : Bool) (wait ahead lasts : ℕ) (life : List ℕ) (known : Readiness) (x : records.State)
+    → AreAllowed events → ((u : Use) → WasGiven (history events).given u → Knows x u) → AreEvents events x (member_of Once life ahead lasts known (begun (needs_of Once kept) wait)) Nothing
 
 -- None of its requests waits for a claim: so the answer of a store does nothing.
 abbrev pub NoneIsClaimed : Type 0

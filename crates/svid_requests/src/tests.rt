@@ -28,7 +28,7 @@ fn one_claim_for_three_requests(rt: HostRuntime) -> Result<(), AllocError> {
     assert_eq!(rt; requests.hear(12, &Event::Send(0)), Deed::Claim(0, used(5)));
     assert_eq!(rt; requests.awaits(12, 1), false);
     let found = Event::Found(0, Judgment::Passes(used(5)));
-    assert_eq!(rt; requests.expects(13, 0), true);
+    assert_eq!(rt; requests.claimed(13, 0), Some(used(5)));
     assert_eq!(rt;
         requests.hear(13, &found),
         Deed::Answer(0, Verdict::Accept(used(5)), Some(1))
