@@ -30,7 +30,6 @@ func withdraw(args []string, std stdio) int {
 		f.StringVar(&key, "key", "", "")
 		f.Var(&exp, "exp", "")
 	})
-	f.SetOutput(std.err)
 	if err := parse(f, &options{}, args); err != nil {
 		return fail(std, err)
 	}
@@ -82,7 +81,6 @@ func report(args []string, std stdio) int {
 		f.StringVar(&socket, "admin", "", "")
 		f.BoolVar(&asJSON, "json", false, "")
 	})
-	f.SetOutput(std.err)
 	if err := parse(f, &options{}, args); err != nil {
 		return fail(std, err)
 	}
@@ -111,7 +109,6 @@ func report(args []string, std stdio) int {
 func ready(args []string, std stdio) int {
 	var at string
 	f := flagsOf("ready", func(f *flag.FlagSet) { f.StringVar(&at, "listen", "", "") })
-	f.SetOutput(std.err)
 	if err := parse(f, &options{}, args); err != nil {
 		return fail(std, err)
 	}

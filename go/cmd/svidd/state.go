@@ -14,7 +14,6 @@ import (
 func checkState(args []string, std stdio) int {
 	var asMessages bool
 	f := flagsOf("check-state", func(f *flag.FlagSet) { f.BoolVar(&asMessages, "messages", false, "") })
-	f.SetOutput(std.err)
 	if err := parse(f, &options{}, args); err != nil {
 		return fail(std, err)
 	}
