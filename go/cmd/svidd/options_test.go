@@ -336,7 +336,7 @@ func TestModesOfTheSockets(t *testing.T) {
 			p.launch()
 		}()
 		p.await("an answer", func() bool {
-			_, err := ask(admin, http.MethodGet, "/healthz", nil)
+			_, err := adminOf(admin).ask(http.MethodGet, "/healthz", nil)
 			return err == nil
 		})
 		for name, want := range map[string]os.FileMode{listen: 0o666, admin: 0o600} {
@@ -387,14 +387,14 @@ func TestDrainingIsSaidOnTheAdminSocket(t *testing.T) {
 		t.Fatal(err)
 	}
 	// Connections are accepted in their order: once a later one is answered, this one is svidd's too, and not the kernel's alone.
-	if _, err := askAt("tcp", p.address, http.MethodGet, "/healthz", nil); err != nil {
+	if _, err := (peer{network: "tcp", address: p.address}).ask(http.MethodGet, "/healthz", nil); err != nil {
 		t.Fatal(err)
 	}
 	if err := p.signal(syscall.SIGTERM); err != nil {
 		t.Fatal(err)
 	}
 	p.await("draining", func() bool {
-		_, err := ask(admin, http.MethodGet, "/readyz", nil)
+		_, err := adminOf(admin).ask(http.MethodGet, "/readyz", nil)
 		return err != nil && strings.HasSuffix(err.Error(), "503: draining")
 	})
 	p.await("the listener's end", func() bool {
