@@ -13,7 +13,7 @@ _svidd() {
     before=${COMP_WORDS[COMP_CWORD - 2]}
   fi
   case $COMP_CWORD,${COMP_WORDS[1]} in
-    1,*) COMPREPLY=($(compgen -W "$commands" -- "$current")) ;;
+    1,* | 2,help) COMPREPLY=($(compgen -W "$commands" -- "$current")) ;;
     *,serve) options='--audience --workload-api --allow --bundle --bundle-id --bundle-ca --bundles --longest --rsa-bits --ahead --replay --listen --envoy --metrics --drain --admin --state --log --store --group-log --nats --group --replicas --nats-ca --nats-cert --nats-key --nats-creds --wait --summaries --config --check-config -h --help' ;;
     *,verify) options='--audience --workload-api --bundle --bundle-id --bundle-ca --bundles --longest --rsa-bits --config -h --help' ;;
     *,withdraw) options='--admin --key --exp -h --help' ;;

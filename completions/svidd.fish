@@ -23,7 +23,7 @@ complete -c svidd -n __svidd_begins -a ready -d 'ask whether the sidecar is read
 complete -c svidd -n __svidd_begins -a check-state -d 'say what a state folder holds, and where it is damaged'
 complete -c svidd -n __svidd_begins -a schema -d 'print the SQL that makes a group\'s store in PostgreSQL'
 complete -c svidd -n __svidd_begins -a version -d 'print the version'
-complete -c svidd -n __svidd_begins -a help -d 'print the synopsis'
+complete -c svidd -n __svidd_begins -a help -d 'print the synopsis, or the help of a command'
 complete -c svidd -n '__svidd_is serve' -l audience -x -d 'NAME by which tokens may call the service; may be repeated'
 complete -c svidd -n '__svidd_is serve' -l workload-api -x -d 'ADDRESS of the SPIFFE Workload API that gives the trust bundles, as unix:///run/spire/agent.sock; SPIFFE_ENDPOINT_SOCKET counts where no bundles are given'
 complete -c svidd -n '__svidd_is serve' -l allow -x -d 'PATTERN of callers: an ID, spiffe://DOMAIN/PATH/* for all below a path, or spiffe://DOMAIN; may be repeated'
@@ -76,4 +76,5 @@ complete -c svidd -n '__svidd_is schema' -l longest -x -d 'the most TIME that a 
 complete -c svidd -n '__svidd_is schema' -l ahead -x -d 'the most TIME that clocks of the group may differ'
 complete -c svidd -n '__svidd_is schema' -l group -x -d 'NAME of the group\'s store'
 complete -c svidd -n '__svidd_is schema' -l role -x -d 'ROLE that is to have the rights of a member'
+complete -c svidd -n '__svidd_is help' -a "$commands"
 # lists:end

@@ -194,13 +194,14 @@ func acl(t testing.TB, do func(words ...string) error, line []string) {
 	}
 }
 
-// The rights that the documents name are enough, and each is needed.
+// The rights that the documents name are enough, and each is needed. (The address names a database: without one, +select is not needed.)
 func TestRights(t *testing.T) {
 	t.Parallel()
 	s := start(t)
 	do := func(words ...string) error { _, err := s.Do(words...); return err }
 	acl(t, do, rights(t, "member"))
-	url := strings.Replace(s.URL, "redis://", "redis://member:secret@", 1)
+	bare := strings.Replace(s.URL, "redis://", "redis://member:secret@", 1)
+	url := bare + "/2"
 	use := func(url string) error {
 		store, err := New(Options{URLs: []string{url}, Name: "svid", Terms: claimstest.Usual, Wait: 20 * time.Millisecond})
 		if err != nil {
@@ -265,6 +266,9 @@ func TestRights(t *testing.T) {
 		acl(t, do, less)
 		if err := use(url); err == nil {
 			t.Errorf("the right %s is not needed", word)
+		}
+		if err := use(bare); (err == nil) != (word == "+select") {
+			t.Errorf("without the right %s, and with an address without a database: %v", word, err)
 		}
 	}
 	s.do(t, "ACL", "DELUSER", "member")

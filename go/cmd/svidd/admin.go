@@ -10,8 +10,11 @@ import (
 	"io"
 	"net"
 	"net/http"
+	"net/url"
+	"os"
 	"strconv"
 	"strings"
+	"syscall"
 	"time"
 
 	"svid.example/go/v2/internal/server"
@@ -30,7 +33,6 @@ func withdraw(args []string, std stdio) int {
 		f.StringVar(&key, "key", "", "")
 		f.Var(&exp, "exp", "")
 	})
-	f.SetOutput(std.err)
 	if err := parse(f, &options{}, args); err != nil {
 		return fail(std, err)
 	}
@@ -51,7 +53,7 @@ func withdraw(args []string, std stdio) int {
 	if err != nil {
 		return fail(std, err)
 	}
-	answer, err := ask(socket, http.MethodPost, "/withdraw", body)
+	answer, err := adminOf(socket).ask(http.MethodPost, "/withdraw", body)
 	if err != nil {
 		return fail(std, err)
 	}
@@ -82,14 +84,16 @@ func report(args []string, std stdio) int {
 		f.StringVar(&socket, "admin", "", "")
 		f.BoolVar(&asJSON, "json", false, "")
 	})
-	f.SetOutput(std.err)
 	if err := parse(f, &options{}, args); err != nil {
 		return fail(std, err)
 	}
-	if socket == "" || f.NArg() > 0 {
-		return fail(std, errors.New("report wants --admin, and no argument"))
+	if f.NArg() > 0 {
+		return fail(std, fmt.Errorf("report takes no argument, and got %.20q: give --admin, the path that serve has as --admin", f.Arg(0)))
 	}
-	messages, err := ask(socket, http.MethodGet, "/messages", nil)
+	if socket == "" {
+		return fail(std, errors.New("report wants --admin, the path that serve has as --admin"))
+	}
+	messages, err := adminOf(socket).ask(http.MethodGet, "/messages", nil)
 	if err != nil {
 		return fail(std, err)
 	}
@@ -111,18 +115,21 @@ func report(args []string, std stdio) int {
 func ready(args []string, std stdio) int {
 	var at string
 	f := flagsOf("ready", func(f *flag.FlagSet) { f.StringVar(&at, "listen", "", "") })
-	f.SetOutput(std.err)
 	if err := parse(f, &options{}, args); err != nil {
 		return fail(std, err)
 	}
 	if f.NArg() > 0 {
-		return fail(std, errors.New("ready wants no argument"))
+		return fail(std, fmt.Errorf("ready takes no argument, and got %.20q: give the address as --listen", f.Arg(0)))
 	}
-	network := "tcp"
-	if strings.HasPrefix(at, "unix:") {
-		network, at = "unix", strings.TrimPrefix(at, "unix:")
+	var all problems
+	if addressProblems(&all, "listen", at, optionOf("ready", "listen").initial); len(all) > 0 {
+		return all.tell(std)
 	}
-	text, err := askAt(network, at, http.MethodGet, "/readyz", nil)
+	asked := peer{"tcp", at, "the address that serve has as --metrics, or as --listen where it has none"}
+	if path := strings.TrimPrefix(at, "unix:"); path != at {
+		asked.network, asked.address = "unix", path
+	}
+	text, err := asked.ask(http.MethodGet, "/readyz", nil)
 	if err != nil {
 		return fail(std, err)
 	}
@@ -130,15 +137,23 @@ func ready(args []string, std stdio) int {
 	return exitYes
 }
 
-// ask makes a request on an admin socket, and returns the body of a good answer.
-func ask(socket, method, path string, body []byte) ([]byte, error) {
-	return askAt("unix", socket, method, path, body)
+// A peer is a sidecar that a command asks.
+type peer struct {
+	network, address string
+	give             string // what to give as its address, for errors
 }
 
-func askAt(network, address, method, path string, body []byte) ([]byte, error) {
+// adminOf is the sidecar of an admin socket.
+func adminOf(socket string) peer { return peer{"unix", socket, "the path that serve has as --admin"} }
+
+// ask makes a request, and returns the body of a good answer. Its errors say what was asked, and what to do.
+func (p peer) ask(method, path string, body []byte) ([]byte, error) {
+	if p.network == "unix" && len(p.address) > mostSocket {
+		return nil, fmt.Errorf("%s is too long: the path of a unix socket has at most %d bytes. Give %s", p.address, mostSocket, p.give)
+	}
 	client := http.Client{Timeout: adminWait, Transport: &http.Transport{
 		DialContext: func(ctx context.Context, _, _ string) (net.Conn, error) {
-			return new(net.Dialer).DialContext(ctx, network, address)
+			return new(net.Dialer).DialContext(ctx, p.network, p.address)
 		},
 	}}
 	request, err := http.NewRequest(method, "http://svidd"+path, bytes.NewReader(body))
@@ -147,17 +162,43 @@ func askAt(network, address, method, path string, body []byte) ([]byte, error) {
 	}
 	answer, err := client.Do(request)
 	if err != nil {
-		return nil, err
+		return nil, p.silent(err)
 	}
 	defer answer.Body.Close()
 	text, err := io.ReadAll(answer.Body)
 	if err != nil {
-		return nil, err
+		return nil, p.silent(err)
+	}
+	if answer.StatusCode == http.StatusNotFound {
+		return nil, fmt.Errorf("%s answers, and not to %s: give %s", p.address, path, p.give)
 	}
 	if answer.StatusCode != http.StatusOK {
 		return nil, fmt.Errorf("the sidecar answers %d: %s", answer.StatusCode, strings.TrimSpace(string(text)))
 	}
 	return text, nil
+}
+
+// silent says why there is no answer, and what to do.
+func (p peer) silent(err error) error {
+	var asked *url.Error // (whose URL nobody gave)
+	if errors.As(err, &asked) {
+		err = asked.Err
+	}
+	info, _ := os.Stat(p.address)
+	late, isLate := err.(net.Error)
+	switch {
+	case p.network == "unix" && (errors.Is(err, os.ErrNotExist) || errors.Is(err, syscall.ENOTDIR)):
+		return fmt.Errorf("nothing is at %s: give %s, and see whether svidd runs", p.address, p.give)
+	case p.network == "unix" && info != nil && info.Mode()&os.ModeSocket == 0:
+		return fmt.Errorf("%s is no socket: give %s", p.address, p.give)
+	case errors.Is(err, syscall.ECONNREFUSED):
+		return fmt.Errorf("nobody listens on %s: give %s, and see whether svidd runs", p.address, p.give)
+	case errors.Is(err, os.ErrPermission):
+		return fmt.Errorf("%s: permission denied: run this as the user that svidd runs as", p.address)
+	case isLate && late.Timeout():
+		return fmt.Errorf("%s gave no answer within %v: see the log of svidd", p.address, adminWait)
+	}
+	return fmt.Errorf("%s does not answer as svidd does: %w. Give %s", p.address, err, p.give)
 }
 
 // reportInJSON is what a report says, as one JSON object.

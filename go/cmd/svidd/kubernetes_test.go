@@ -3,6 +3,7 @@ package main
 import (
 	"bytes"
 	"encoding/json"
+	"errors"
 	"fmt"
 	"os"
 	"os/exec"
@@ -13,6 +14,10 @@ import (
 	"strings"
 	"testing"
 	"time"
+
+	"github.com/nats-io/nats.go"
+
+	"svid.example/go/v2/internal/patience"
 )
 
 // A manifest is an object of Kubernetes, as far as the tests look into it.
@@ -310,21 +315,12 @@ func TestKubernetesManifests(t *testing.T) {
 		}
 	}
 	all := manifests(t, "nats")
-	config := filepath.Join(t.TempDir(), "nats.conf")
-	if err := os.WriteFile(config, []byte(find(t, all, "ConfigMap", "nats").Data["nats.conf"]), 0o600); err != nil {
-		t.Fatal(err)
-	}
-	c := exec.Command("nats-server", "-t", "-c", config)
-	c.Env = append(os.Environ(), "NAME=nats-0", "PASSWORD=a")
-	if said, err := c.CombinedOutput(); err != nil {
-		t.Errorf("nats-server: %v: %s", err, said)
-	}
-	nats := find(t, all, "StatefulSet", "nats")
-	if stop := nats.container(t, "nats").Lifecycle.PreStop.Exec.Command; len(stop) != 3 || !strings.HasPrefix(stop[2], "nats-server --signal ldm=/run/nats/nats.pid && sleep ") {
+	servers := find(t, all, "StatefulSet", "nats")
+	if stop := servers.container(t, "nats").Lifecycle.PreStop.Exec.Command; len(stop) != 3 || !strings.HasPrefix(stop[2], "nats-server --signal ldm=/run/nats/nats.pid && sleep ") {
 		t.Errorf("a NATS server that is to end: %q", stop)
 	}
-	if b := find(t, all, "PodDisruptionBudget", "nats"); fmt.Sprint(b.Spec.MaxUnavailable) != "1" || nats.Spec.Replicas != 3 {
-		t.Errorf("the budget of the NATS servers: %v of %d", b.Spec.MaxUnavailable, nats.Spec.Replicas)
+	if b := find(t, all, "PodDisruptionBudget", "nats"); fmt.Sprint(b.Spec.MaxUnavailable) != "1" || servers.Spec.Replicas != 3 {
+		t.Errorf("the budget of the NATS servers: %v of %d", b.Spec.MaxUnavailable, servers.Spec.Replicas)
 	}
 }
 
@@ -356,5 +352,57 @@ func times(t *testing.T, ledger *manifest, nginx string) {
 	}
 	if all := drain + drainWait + endWait; time.Duration(ledger.Spec.Template.Spec.Grace)*time.Second <= all {
 		t.Errorf("the kubelet waits for %d s, and the sidecar takes %v", ledger.Spec.Template.Spec.Grace, all)
+	}
+}
+
+// The NATS server of the manifests starts with any password that can be written into an address, and a member that shows it may connect:
+// also with one that nats-server would read as a number, a time or a variable if it stood without quotes.
+func TestPasswordsOfKubernetesOverNATS(t *testing.T) {
+	t.Parallel()
+	all := manifests(t, "nats")
+	set := find(t, all, "StatefulSet", "nats")
+	for _, password := range []string{"secret", numeric, "12345678901234567890123456789012", "12k", "true", "2024-01-01T00:00:00Z", "$NAME", `a"b\u0041 c`} {
+		folder, client := t.TempDir(), freeAddress(t)
+		config := strings.NewReplacer("0.0.0.0:4222", client, "0.0.0.0:8222", freeAddress(t), "0.0.0.0:6222", freeAddress(t), "/run/nats", folder, "/data", folder).
+			Replace(find(t, all, "ConfigMap", "nats").Data["nats.conf"])
+		file := filepath.Join(folder, "nats.conf")
+		if err := os.WriteFile(file, []byte(config), 0o600); err != nil {
+			t.Fatal(err)
+		}
+		p := &kubePod{cluster: &cluster{t: t, all: all, secrets: map[string]string{"svidd-group/password": password}}, name: "nats-0", of: set}
+		server := exec.Command("nats-server", "-c", file, "-l", filepath.Join(folder, "log"))
+		server.Env = append(os.Environ(), p.environment(set.container(t, "nats"))...)
+		var said bytes.Buffer
+		server.Stderr = &said
+		if err := server.Start(); err != nil {
+			t.Fatal(err)
+		}
+		ended := make(chan struct{})
+		go func() { _ = server.Wait(); close(ended) }()
+		connect := func(password string) error {
+			c, err := nats.Connect("nats://"+client, nats.UserInfo("svidd", password), nats.Timeout(patience.Long))
+			if err == nil {
+				c.Close()
+			}
+			return err
+		}
+		var err error
+		for look, late := patience.Looks(), time.Now().Add(patience.Long); ; look() {
+			if err = connect(password); err == nil || !errors.Is(err, nats.ErrNoServers) || time.Now().After(late) {
+				break
+			}
+			select {
+			case <-ended:
+				late = time.Now()
+			default:
+			}
+		}
+		if err != nil {
+			t.Errorf("%q: %v: %s", password, err, &said)
+		} else if err := connect(password + "x"); !errors.Is(err, nats.ErrAuthorization) {
+			t.Errorf("another password than %q: %v", password, err)
+		}
+		_ = server.Process.Kill()
+		<-ended
 	}
 }

@@ -3,6 +3,7 @@ package main
 import (
 	"flag"
 	"fmt"
+	"io"
 	"strings"
 )
 
@@ -92,6 +93,8 @@ func optionOf(command, name string) option {
 // flagsOf are the options of a command that add makes, each with what the list says of it, and its default.
 func flagsOf(command string, add func(f *flag.FlagSet)) *flag.FlagSet {
 	f := flag.NewFlagSet("svidd "+command, flag.ContinueOnError)
+	f.SetOutput(io.Discard) // (what it would print, parseWords says)
+	f.Usage = func() {}
 	add(f)
 	f.VisitAll(func(made *flag.Flag) {
 		it := optionOf(command, made.Name)

@@ -52,11 +52,13 @@ func run(args []string, std stdio) int {
 		return exitFailed
 	}
 	switch args[0] {
-	case "help", "--help", "-h":
-		fmt.Fprint(std.out, usage)
-		return exitYes
-	case "--version":
-		args[0] = "version"
+	case "help", "--help", "-help", "-h":
+		if len(args) == 1 {
+			return show(std, usage)
+		}
+		args = []string{args[1], "--help"}
+	case "--version", "-version":
+		args = append([]string{"version"}, args[1:]...)
 	}
 	command := commands[args[0]]
 	if command == nil {
@@ -75,15 +77,30 @@ func run(args []string, std stdio) int {
 }
 
 func printVersion(args []string, std stdio) int {
+	f := flagsOf("version", func(*flag.FlagSet) {})
+	if err := parseWords(f, args); err != nil {
+		return fail(std, err)
+	}
+	if f.NArg() > 0 {
+		return fail(std, fmt.Errorf("version takes no argument, and got %.20q", f.Arg(0)))
+	}
 	v := svid.Version()
-	fmt.Fprintf(std.out, "svidd %s (libsvid %d.%d.%d, %s)\n", version.Number, v/10000, v/100%100, v%100, runtime.Version())
+	return show(std, fmt.Sprintf("svidd %s (libsvid %d.%d.%d, %s)\n", version.Number, v/10000, v/100%100, v%100, runtime.Version()))
+}
+
+// show prints what was asked for.
+func show(std stdio, text string) int {
+	if _, err := io.WriteString(std.out, text); err != nil {
+		return fail(std, err)
+	}
 	return exitYes
 }
 
-// fail says on standard error what went wrong.
+// fail says on standard error what went wrong. Of a command line that asks for help it prints that.
 func fail(std stdio, err error) int {
-	if errors.Is(err, flag.ErrHelp) {
-		return exitYes
+	var help *helpAsked
+	if errors.As(err, &help) {
+		return show(std, help.text())
 	}
 	fmt.Fprintf(std.err, "svidd: %s\n", hideTokens(err.Error()))
 	return exitFailed

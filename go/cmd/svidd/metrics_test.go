@@ -79,7 +79,7 @@ func TestTheAddressOfMetrics(t *testing.T) {
 	socket := filepath.Join(t.TempDir(), "metrics.sock")
 	args := []string{bundleOption(bundleFile(t, example)), "--replay", "reuse", "--metrics", "unix:" + socket}
 	p := start(t, args...)
-	if text, err := ask(socket, http.MethodGet, "/readyz", nil); err != nil || string(text) != "ready\n" {
+	if text, err := adminOf(socket).ask(http.MethodGet, "/readyz", nil); err != nil || string(text) != "ready\n" {
 		t.Errorf("%q, %v", text, err)
 	}
 	if info, err := os.Stat(socket); err != nil || info.Mode().Perm() != 0o666 {

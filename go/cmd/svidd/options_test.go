@@ -2,6 +2,7 @@ package main
 
 import (
 	"bytes"
+	"errors"
 	"net"
 	"net/http"
 	"os"
@@ -16,6 +17,7 @@ import (
 	"time"
 
 	"svid.example/go/v2/internal/patience"
+	"svid.example/go/v2/internal/version"
 	"svid.example/go/v2/svid"
 	"svid.example/go/v2/workload"
 )
@@ -60,16 +62,13 @@ func TestOptionsAreThoseOfTheList(t *testing.T) {
 			t.Errorf("there is no command %s", command)
 		}
 	}
-	named := regexp.MustCompile(`(?m)^  -([a-z-]+)`)
+	named := regexp.MustCompile(`(?m)^  --([a-z-]+)`)
 	for command := range commands {
 		if !regexp.MustCompile(`(?m)^  svidd ` + command + `( |$)`).MatchString(usage) {
 			t.Errorf("the synopsis has no command %s", command)
 		}
-		if command == "version" { // which reads no options
-			continue
-		}
 		var has []string
-		_, _, said := here("", command, "--help")
+		_, said, _ := here("", command, "--help")
 		for _, it := range named.FindAllStringSubmatch(said, -1) {
 			has = append(has, it[1])
 		}
@@ -87,8 +86,8 @@ func TestDefaultsOfTheListAreTheLibrarys(t *testing.T) {
 	if got := optionOf("serve", "rsa-bits").initial; got != strconv.Itoa(svid.UsualRSABits) {
 		t.Errorf("--rsa-bits is %s by default, and %d in the library", got, svid.UsualRSABits)
 	}
-	for _, row := range []struct{ option, says string }{{"ahead", "(default 30s)"}, {"group", `(default "svid")`}} {
-		if _, _, serve := here("", "serve", "--help"); !strings.Contains(serve, row.says) {
+	for _, row := range []struct{ option, says string }{{"ahead", "(default 30s)"}, {"group", "(default svid)"}} {
+		if _, serve, _ := here("", "serve", "--help"); !strings.Contains(serve, row.says) {
 			t.Errorf("serve --help does not say %s", row.says)
 		}
 		if a, b := optionOf("serve", row.option).initial, optionOf("schema", row.option).initial; a != b {
@@ -337,7 +336,7 @@ func TestModesOfTheSockets(t *testing.T) {
 			p.launch()
 		}()
 		p.await("an answer", func() bool {
-			_, err := ask(admin, http.MethodGet, "/healthz", nil)
+			_, err := adminOf(admin).ask(http.MethodGet, "/healthz", nil)
 			return err == nil
 		})
 		for name, want := range map[string]os.FileMode{listen: 0o666, admin: 0o600} {
@@ -388,14 +387,14 @@ func TestDrainingIsSaidOnTheAdminSocket(t *testing.T) {
 		t.Fatal(err)
 	}
 	// Connections are accepted in their order: once a later one is answered, this one is svidd's too, and not the kernel's alone.
-	if _, err := askAt("tcp", p.address, http.MethodGet, "/healthz", nil); err != nil {
+	if _, err := (peer{network: "tcp", address: p.address}).ask(http.MethodGet, "/healthz", nil); err != nil {
 		t.Fatal(err)
 	}
 	if err := p.signal(syscall.SIGTERM); err != nil {
 		t.Fatal(err)
 	}
 	p.await("draining", func() bool {
-		_, err := ask(admin, http.MethodGet, "/readyz", nil)
+		_, err := adminOf(admin).ask(http.MethodGet, "/readyz", nil)
 		return err != nil && strings.HasSuffix(err.Error(), "503: draining")
 	})
 	p.await("the listener's end", func() bool {
@@ -416,3 +415,72 @@ func TestDrainingIsSaidOnTheAdminSocket(t *testing.T) {
 		t.Errorf("svidd: %v\n%s", err, p.log)
 	}
 }
+
+// Each command prints its help on standard output, with two dashes before each option, and that is a success: with two dashes and with one,
+// and behind what else stands there.
+func TestHelp(t *testing.T) {
+	t.Parallel()
+	for command := range commands {
+		var before string
+		for _, args := range [][]string{{command, "--help"}, {command, "-help"}, {command, "-h"}, {command, "argument", "--help"}, {"help", command}, {"--help", command}} {
+			status, out, said := here("", args...)
+			if status != 0 || said != "" || !strings.HasPrefix(out, "usage: svidd "+command) || before != "" && out != before {
+				t.Errorf("%q: %d %q %q", args, status, out, said)
+			}
+			if one := regexp.MustCompile(`(?m)^ *-[a-z].*`).FindString(out); one != "" {
+				t.Errorf("%q: an option has one dash: %s", args, one)
+			}
+			before = out
+		}
+		for _, it := range listed {
+			if strings.Contains(" "+it.commands+" ", " "+command+" ") && !strings.Contains(before, "\n  --"+it.name) {
+				t.Errorf("the help of %s has no --%s", command, it.name)
+			}
+		}
+		if synopsis, _, _ := strings.Cut(before, "\n"); strings.Contains(synopsis, " BUNDLES ") != strings.Contains(before, "\nBUNDLES: --workload-api") {
+			t.Errorf("the help of %s does not say what BUNDLES is: %s", command, before)
+		}
+	}
+	for _, word := range []string{"help", "--help", "-help", "-h"} {
+		if status, out, said := here("", word); status != 0 || out != usage || said != "" {
+			t.Errorf("%s: %d %q %q", word, status, out, said)
+		}
+	}
+	const due = `usage: svidd report --admin PATH [--json]
+
+  --admin PATH
+        unix socket PATH of the sidecar
+  --json
+        print one JSON object
+`
+	if status, out, said := svidd(t, "", "report", "--help"); status != 0 || out != due || said != "" {
+		t.Errorf("%d %q %q", status, out, said)
+	}
+	for _, row := range []struct {
+		args []string
+		want string
+	}{
+		{[]string{"help", "srve"}, `svidd: no command is named "srve": did you mean serve?` + "\n"},
+		{[]string{"version", "now"}, `svidd: version takes no argument, and got "now"` + "\n"},
+		{[]string{"version", "--now"}, "svidd: no option is named --now. 'svidd version --help' lists them\n"},
+	} {
+		if status, out, said := here("", row.args...); status != 2 || out != "" || said != row.want {
+			t.Errorf("%q: %d %q %q", row.args, status, out, said)
+		}
+	}
+	if status, out, _ := here("", "-version"); status != 0 || !strings.HasPrefix(out, "svidd "+version.Number) {
+		t.Errorf("-version: %d %q", status, out)
+	}
+	// Where nobody can read it, that is a fault.
+	for _, args := range [][]string{{"help"}, {"report", "--help"}, {"version"}} {
+		var said bytes.Buffer
+		if status := run(args, stdio{strings.NewReader(""), full{}, &said}); status != 2 || said.String() != "svidd: no room\n" {
+			t.Errorf("%q, and standard output is full: %d %q", args, status, &said)
+		}
+	}
+}
+
+// full takes nothing.
+type full struct{}
+
+func (full) Write([]byte) (int, error) { return 0, errors.New("no room") }

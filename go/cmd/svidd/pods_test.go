@@ -20,6 +20,9 @@ import (
 	"svid.example/go/v2/internal/patience"
 )
 
+// numeric is a password as `openssl rand -hex 16` prints some. Without quotes, nats-server reads it as a number.
+const numeric = "33e41d5f8a7c0b9164d2e83f57a1c6b0"
+
 // inPods, in the environment, says that the test runs in namespaces of its own.
 const inPods = "SVIDD_TEST_PODS"
 
@@ -176,11 +179,12 @@ func (p *kubePod) volume(name string, words *strings.Replacer) string {
 	return folder
 }
 
-// environment is that of a container, as the manifest has it.
+// environment is that of a container, as the manifest has it. Kubernetes puts a variable from above into a value that names it: $(NAME).
 func (p *kubePod) environment(c *container) (all []string) {
 	p.t.Helper()
+	var above []string
 	for _, e := range c.Env {
-		value := e.Value
+		value := strings.NewReplacer(above...).Replace(e.Value)
 		switch from := e.ValueFrom; {
 		case from.SecretKeyRef != nil:
 			value = p.secrets[from.SecretKeyRef.Name+"/"+from.SecretKeyRef.Key]
@@ -193,6 +197,7 @@ func (p *kubePod) environment(c *container) (all []string) {
 		if value == "" {
 			p.t.Fatalf("%s: nothing gives %s", c.Name, e.Name)
 		}
+		above = append(above, "$("+e.Name+")", value)
 		all = append(all, e.Name+"="+value)
 	}
 	return all
@@ -494,11 +499,11 @@ func TestPodsOfKubernetesOverNATS(t *testing.T) {
 	for n := 0; n < 3; n++ {
 		name := fmt.Sprintf("nats-%d.nats", n)
 		names[name] = fmt.Sprint("10.77.0.", 10+n)
-		urls = append(urls, "nats://svidd:secret@"+name+":4222")
+		urls = append(urls, "nats://svidd:"+numeric+"@"+name+":4222")
 	}
 	k := newCluster(t, "nats", names)
 	k.images()
-	k.secrets["svidd-group/password"], k.secrets["svidd-group/url"] = "secret", strings.Join(urls, ",")
+	k.secrets["svidd-group/password"], k.secrets["svidd-group/url"] = numeric, strings.Join(urls, ",")
 	servers := make([]*kubePod, 3)
 	var starts sync.WaitGroup
 	for n := range servers {

@@ -52,7 +52,6 @@ var errHangs = fmt.Errorf("the state folder did not take a last snapshot within 
 func serve(args []string, std stdio) int {
 	var o options
 	f := o.flags()
-	f.SetOutput(std.err)
 	if err := parse(f, &o, args); err != nil {
 		return fail(std, err)
 	}

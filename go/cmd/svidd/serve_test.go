@@ -332,7 +332,7 @@ func TestListenOnAUnixSocket(t *testing.T) {
 	t.Cleanup(p.kill)
 	p.launch()
 	p.await("an answer", func() bool {
-		text, err := ask(socket, http.MethodGet, "/readyz", nil)
+		text, err := adminOf(socket).ask(http.MethodGet, "/readyz", nil)
 		return err == nil && string(text) == "ready\n"
 	})
 	if status, out, err := svidd(t, "", "ready", "--listen", "unix:"+socket); status != 0 || out != "ready\n" {

@@ -4,17 +4,21 @@ import (
 	"errors"
 	"flag"
 	"fmt"
+	"os"
 	"path/filepath"
+	"syscall"
 
 	"svid.example/go/v2/journal"
 	"svid.example/go/v2/svid"
 )
 
+// giveState is what to do about a path that is no state folder.
+const giveState = "give the folder that serve has as --state"
+
 // checkState says what a state folder holds, and where it is damaged. It changes nothing.
 func checkState(args []string, std stdio) int {
 	var asMessages bool
 	f := flagsOf("check-state", func(f *flag.FlagSet) { f.BoolVar(&asMessages, "messages", false, "") })
-	f.SetOutput(std.err)
 	if err := parse(f, &options{}, args); err != nil {
 		return fail(std, err)
 	}
@@ -25,11 +29,14 @@ func checkState(args []string, std stdio) int {
 		}
 	}
 	if dir == "" || f.NArg() > 1 || f.NArg() == 1 && f.Arg(0) != dir {
-		return fail(std, errors.New("check-state wants one argument: the folder that serve has as --state"))
+		return fail(std, errors.New("check-state wants one argument: "+giveState))
 	}
-	found, err := journal.Check(dir)
+	found, err := readState(dir)
 	if err != nil {
 		return fail(std, err)
+	}
+	if !found.HasID && len(found.Files) == 0 {
+		fmt.Fprintf(std.err, "svidd: warning: no sidecar has ever started on %s: %s\n", hideTokens(dir), giveState)
 	}
 	write := writeState
 	if asMessages {
@@ -50,6 +57,36 @@ func checkState(args []string, std stdio) int {
 		return exitDamaged
 	}
 	return exitYes
+}
+
+// readState is what a state folder holds. Where a path is none, the error says what it is, and what to give.
+func readState(dir string) (*journal.Report, error) {
+	switch info, err := os.Stat(dir); {
+	case errors.Is(err, os.ErrNotExist), errors.Is(err, syscall.ENOTDIR):
+		return nil, fmt.Errorf("%s is not there: %s", dir, giveState)
+	case err == nil && !info.IsDir():
+		return nil, fmt.Errorf("%s is no folder: %s", dir, giveState)
+	}
+	found, err := journal.Check(dir)
+	switch {
+	case errors.Is(err, os.ErrPermission):
+		return nil, fmt.Errorf("%w: run this as the user that svidd runs as", err)
+	case err != nil || found.HasID || len(found.Files) > 0:
+		return found, err
+	}
+	// A sidecar has never started there. It may be a new folder, where a start makes what it needs.
+	entries, err := os.ReadDir(dir)
+	if err != nil {
+		return nil, err
+	}
+	for _, it := range entries {
+		switch it.Name() {
+		case "lock", "place.new", "lost+found": // of a start that did not come far, and of a new file system
+		default:
+			return nil, fmt.Errorf("%s is no state folder, since it has %.40q and no file place: %s", dir, it.Name(), giveState)
+		}
+	}
+	return found, nil
 }
 
 // writeState writes a line for the validator ID, one for the bucket if the folder says how far that was read, and one for each file. It tells whether one of them holds what is no message.

@@ -96,6 +96,36 @@ func TestCheckState(t *testing.T) {
 	}
 }
 
+// Of a path that is no state folder, check-state says what it is, and what to give. A folder on which no sidecar has started yet is no fault.
+func TestCheckStateOfAnotherPath(t *testing.T) {
+	t.Parallel()
+	room := t.TempDir()
+	file, other, fresh := filepath.Join(room, "file"), filepath.Join(room, "other"), filepath.Join(room, "fresh")
+	if err := os.WriteFile(file, nil, 0o600); err != nil {
+		t.Fatal(err)
+	}
+	for _, name := range []string{other, filepath.Join(other, "lost+found"), filepath.Join(other, "svidd.toml"), fresh, filepath.Join(fresh, "lost+found")} {
+		if err := os.Mkdir(name, 0o700); err != nil {
+			t.Fatal(err)
+		}
+	}
+	for _, row := range []struct {
+		path, out, err string
+		status         int
+	}{
+		{filepath.Join(room, "none"), "", "PATH is not there: GIVE\n", 2},
+		{filepath.Join(file, "none"), "", "PATH is not there: GIVE\n", 2},
+		{file, "", "PATH is no folder: GIVE\n", 2},
+		{other, "", "PATH is no state folder, since it has \"svidd.toml\" and no file place: GIVE\n", 2},
+		{fresh, "place is missing\n", "warning: no sidecar has ever started on PATH: GIVE\n", 0},
+	} {
+		due := "svidd: " + strings.NewReplacer("PATH", row.path, "GIVE", "give the folder that serve has as --state").Replace(row.err)
+		if status, out, err := here("", "check-state", row.path); status != row.status || out != row.out || err != due {
+			t.Errorf("%s: %d %q %q\nis due: %q", row.path, status, out, err, due)
+		}
+	}
+}
+
 // What a frame bears and is no message is damage to a start, and so to check-state.
 func TestCheckStateOfNoMessages(t *testing.T) {
 	t.Parallel()

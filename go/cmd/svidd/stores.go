@@ -95,7 +95,6 @@ func schema(args []string, std stdio) int {
 		f.Var(&o.ahead, "ahead", "")
 		f.StringVar(&role, "role", "", "")
 	})
-	f.SetOutput(std.err)
 	if err := parseWords(f, args); err != nil {
 		return fail(std, err)
 	}

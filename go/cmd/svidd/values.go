@@ -4,7 +4,6 @@ import (
 	"errors"
 	"flag"
 	"fmt"
-	"io"
 	"math"
 	"regexp"
 	"strconv"
@@ -91,22 +90,55 @@ func (m *moment) Set(text string) error {
 	return nil
 }
 
-// parseWords reads the options of a command line. What is wrong with them is one line, which names the nearest option. --help
-// prints them all.
+// parseWords reads the options of a command line. What is wrong with them is one line, which names the nearest option. A command line that
+// asks for help, also behind an argument, is the error *helpAsked.
 func parseWords(f *flag.FlagSet, args []string) error {
-	to := f.Output()
-	f.SetOutput(io.Discard)
-	f.Usage = func() {}
 	err := f.Parse(args)
-	f.SetOutput(to)
-	if errors.Is(err, flag.ErrHelp) {
-		fmt.Fprintf(to, "Usage of %s:\n", f.Name())
-		f.PrintDefaults()
+	asked := errors.Is(err, flag.ErrHelp)
+	for _, word := range f.Args() {
+		asked = asked || err == nil && isHelp(word)
 	}
-	if err == nil || errors.Is(err, flag.ErrHelp) {
-		return err
+	switch {
+	case asked:
+		return &helpAsked{f}
+	case err != nil:
+		return worded(f, err)
 	}
-	return worded(f, err)
+	return nil
+}
+
+// isHelp says whether a word asks for help.
+func isHelp(word string) bool { return word == "--help" || word == "-help" || word == "-h" }
+
+// helpAsked is no fault: fail prints the help of a command, and its status is that of a success.
+type helpAsked struct{ of *flag.FlagSet }
+
+func (h *helpAsked) Error() string { return flag.ErrHelp.Error() }
+
+// text is the help of a command: its synopsis, and its options with what lists/svidd.toml says of each.
+func (h *helpAsked) text() string {
+	var b strings.Builder
+	command := strings.TrimPrefix(h.of.Name(), "svidd ")
+	for _, line := range strings.Split(usage, "\n") {
+		words := strings.Fields(line)
+		if len(words) > 1 && words[0] == "svidd" && words[1] == command {
+			fmt.Fprintf(&b, "usage: %s\n", strings.Join(words, " "))
+		}
+		if strings.HasPrefix(line, "BUNDLES: ") && strings.Contains(b.String(), " BUNDLES ") {
+			fmt.Fprintf(&b, "\n%s\n", line)
+		}
+	}
+	before := "\n"
+	h.of.VisitAll(func(option *flag.Flag) {
+		value, says := flag.UnquoteUsage(option)
+		if initial := optionOf(command, option.Name).initial; initial != "" {
+			says += " (default " + initial + ")"
+		}
+		line := strings.TrimRight("  --"+option.Name+" "+value, " ")
+		fmt.Fprintf(&b, "%s%s\n        %s\n", before, line, strings.ReplaceAll(says, "\n", "\n        "))
+		before = ""
+	})
+	return b.String()
 }
 
 // faults of options are in these words, which package flag has.

@@ -100,7 +100,7 @@ func TestAMistypedOption(t *testing.T) {
 	if status, _, err := here("", "xyzzy"); status != 2 || !strings.Contains(err, "svidd serve") {
 		t.Errorf("%d %q", status, err)
 	}
-	if status, out, err := here("", "serve", "--help"); status != 0 || !strings.Contains(out+err, "-audience NAME") || !strings.Contains(out+err, "-drain TIME") {
+	if status, out, err := here("", "serve", "--help"); status != 0 || !strings.Contains(out, "--audience NAME") || !strings.Contains(out, "--drain TIME") || err != "" {
 		t.Errorf("--help: %d %q %q", status, out, err)
 	}
 }

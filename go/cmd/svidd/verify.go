@@ -23,7 +23,6 @@ const fetchWait = 20 * time.Second
 func verify(args []string, std stdio) int {
 	var o options
 	f := flagsOf("verify", o.addCommon)
-	f.SetOutput(std.err)
 	if err := parse(f, &o, args); err != nil {
 		return fail(std, err)
 	}

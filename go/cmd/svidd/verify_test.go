@@ -14,6 +14,7 @@ import (
 	"os"
 	"path/filepath"
 	"reflect"
+	"regexp"
 	"strings"
 	"testing"
 	"time"
@@ -203,6 +204,77 @@ func TestATokenOnTheCommandLineIsNotPrinted(t *testing.T) {
 		status, out, err := svidd(t, "", args...)
 		if status == 0 || strings.Contains(out+err, secret) {
 			t.Errorf("%.20q: %d %q %q", args, status, out, err)
+		}
+	}
+}
+
+// What docs/FORMATS.md says that this project refuses and the standards do not: each row of its table, and the clocks without leeway.
+// (TestAnRSAKeyHasABound has keys of more bits.)
+func TestDeviations(t *testing.T) {
+	t.Parallel()
+	text, err := os.ReadFile("../../../docs/FORMATS.md")
+	if err != nil {
+		t.Fatal(err)
+	}
+	_, section, _ := strings.Cut(string(text), "\n## Deviations\n")
+	rows := regexp.MustCompile("(?m)^\\| (payload|header|key) \\| `(\".*)` \\| (?:`([A-Za-z]+)`|accepted) \\|$").FindAllStringSubmatch(section, -1)
+	if len(rows) < 36 || len(rows) != strings.Count(section, "\n| ")-1 {
+		t.Fatalf("%d rows of %d are read", len(rows), strings.Count(section, "\n| ")-1)
+	}
+	now := time.Now().Unix()
+	for _, row := range []struct{ member, answer string }{
+		{fmt.Sprint(`"nbf":`, now), ""}, {fmt.Sprint(`"nbf":`, now+60), "NotYet"}, {fmt.Sprint(`"exp":`, now), "Expired"},
+	} {
+		rows = append(rows, []string{"", "payload", row.member, row.answer})
+	}
+	var keys struct{ Keys []map[string]json.RawMessage }
+	if err := json.Unmarshal(example.JWKSet(), &keys); err != nil {
+		t.Fatal(err)
+	}
+	for _, row := range rows {
+		members := map[string]map[string]json.RawMessage{}
+		for part, text := range map[string]string{
+			"header":  `{"alg":"ES256","kid":"` + issuer.KeyID("ES256") + `","typ":"JWT"}`,
+			"payload": `{"sub":"spiffe://example.org/web","aud":"ledger","exp":4102444800,"jti":"deviation"}`,
+			"changed": "{" + row[2] + "}",
+		} {
+			one := make(map[string]json.RawMessage)
+			if err := json.Unmarshal([]byte(text), &one); err != nil {
+				t.Fatalf("%s: %v", row[2], err)
+			}
+			members[part] = one
+		}
+		var set struct {
+			Keys []map[string]json.RawMessage `json:"keys"`
+		}
+		for _, key := range keys.Keys {
+			copied := make(map[string]json.RawMessage)
+			for name, value := range key {
+				copied[name] = value
+			}
+			if string(key["kid"]) == `"`+issuer.KeyID("ES256")+`"` {
+				members["key"] = copied
+			}
+			set.Keys = append(set.Keys, copied)
+		}
+		for name, value := range members["changed"] {
+			members[row[1]][name] = value
+		}
+		written := func(v any) string {
+			text, err := json.Marshal(v)
+			if err != nil {
+				t.Fatal(err)
+			}
+			return string(text)
+		}
+		file := filepath.Join(t.TempDir(), "bundle.json")
+		if err := os.WriteFile(file, []byte(written(set)), 0o600); err != nil {
+			t.Fatal(err)
+		}
+		signed := example.Sign("ES256", written(members["header"]), written(members["payload"]))
+		status, out, said := here(signed, "verify", "--audience", "ledger", "--bundle", "example.org="+file)
+		if row[3] == "" && (status != 0 || said != "") || row[3] != "" && (status != 1 || out != "" || !strings.HasPrefix(said, "refused "+row[3]+"\n")) {
+			t.Errorf("%s %s: %d %q %q, and %q is due", row[1], row[2], status, out, said, row[3])
 		}
 	}
 }
