@@ -253,12 +253,14 @@ func TestAClientThatLeavesItsClaim(t *testing.T) {
 	}
 	defer func() { _ = syscall.Kill(redis.Pid(), syscall.SIGCONT) }()
 	p.await("the store to stop", func() bool { return isStopped(redis.Pid()) })
-	const calls = 64 // that may be under way, each with a claim of its own where they come slowly
-	for i := 0; i <= calls; i++ {
-		go p.check(token(t, fmt.Sprint("first", i), lasting))
-	}
-	p.dial("tcp", p.address, "GET /check HTTP/1.1\r\nHost: a\r\nAuthorization: Bearer "+token(t, "left", lasting)+"\r\n\r\n").Close()
-	p.await("the end of its claim", func() bool { return p.metric(`svidd_claims_total{outcome="failed"}`) == "1" })
+	// (Once as many calls are under way as may be, a claim waits for its turn. Until then a request puts its own.)
+	n := 0
+	p.await("the end of a claim whose client has left", func() bool {
+		n++
+		go p.check(token(t, fmt.Sprint("first", n), lasting))
+		p.dial("tcp", p.address, "GET /check HTTP/1.1\r\nHost: a\r\nAuthorization: Bearer "+token(t, fmt.Sprint("left", n), lasting)+"\r\n\r\n").Close()
+		return p.metric(`svidd_claims_total{outcome="failed"}`) != "0"
+	})
 }
 
 // A client has left once it sends nothing more, or is not there. One that waits for its answer has not, whether it has sent more or not.
