@@ -45,7 +45,8 @@ pub record Mirrors (t : Terms) (v : ℕ) (w : World) (x : records.State) (m : Me
   pub moment : x.moment ≡ (w.claims.members v).moment
   pub knows : t.strict ≡ true → AllByRecursion (KnowsOf x) (w.claims.members v).uses
 
--- A member that claims a token for a use is told a store's answer to a put of its key. Its owner, which in a strict group is of its life, tells the expiry.
+-- Member v claims a token for a use, and is told a store's answer to a put of its key. The claim's owner tells the expiry. In a strict group it is of
+-- the member's life.
 pub record IsClaimed (t : Terms) (told : List ℕ → ℕ) (v index : ℕ) (w : World) (m : MemberData) (own : Use) (caller : List ℕ) (a : Answer) : Type 0 where
   pub given : slice_get w.claims.answers index ≡ Some a
   pub key_is : a.key ≡ own.key
@@ -61,8 +62,8 @@ FoundIsALook V = (t : Terms) (events : List Event) (told : List ℕ → ℕ) (v 
     → awaited m up n said ≡ Some own → Finds s now up n own caller (found_by a) said h h_new m m_new c
     → (j : Judgment) × Hears up (Found n j) m c.deed m_new × ((u : Use) → passing j ≡ Some u → FindsUse t w.claims v now index u)
 
--- What a call did is done by events of the group, and they are allowed: they leave member v as it is then, and the others as they were, and what its
--- deed answers was given by them, for a claim of this owner if for any. They put nothing into a store.
+-- What a call did is done by allowed events of the group. They leave member v as it is then, and the others as they were. What the call's deed answers
+-- was given by them, for a claim of this owner if for any. They put nothing into a store.
 pub record AreEvents (t : Terms) (events : List Event) (v : ℕ) (claimed : Option (List ℕ)) (x : records.State) (m : MemberData) (deed : Deed) : Type 0 where
   pub more : List Event
   pub owner : Option (List ℕ)
