@@ -2,6 +2,7 @@
 use Rattle.std.proofs.Common.{◌≡◌, ◌≢◌, ◌++◌, ℕ, max, Bool, true, false, cond, List, [], ◌∷◌, refl, sym, ap, ◌∙◌, subst, Option, None, Ok, Err, Result}
 use Rattle.std.specs.Prelude.{◌==◌}
 use Rattle.std.specs.List.{AllByRecursion}
+use Rattle.std.proofs.lemmas.Option.{none-some}
 use Rattle.std.proofs.lemmas.Bool.{cond-false, cond-true, eq-eqb, ne_eqb}
 use Rattle.svid_replay.specs.Records as records
 use Rattle.svid_replay.specs.Buckets.{raised_to}
@@ -104,10 +105,11 @@ module _ (t : Terms) (v : ℕ) where
       let s = at_moment (w.requests v) up in
       mirrors_other t v n w w.claims (heard refused s e) (given_by v None (heard_deed refused s e) w.given) x m other refl h
 
-  pub hears_events : (events : List Event) (up : ℕ) (e : requests.Event) (x : records.State) (m m_new : MemberData) (deed : Deed) → AreAllowed t events → Mirrors t v (history t events) x m → granted e ≡ None → Hears up e m deed m_new → AreEvents t events v x m_new deed
-  hears_events events up e x m m_new deed allowed h grants hears = record {
+  pub hears_events : (claimed : Option (List ℕ)) (events : List Event) (up : ℕ) (e : requests.Event) (x : records.State) (m m_new : MemberData) (deed : Deed) → AreAllowed t events → Mirrors t v (history t events) x m → granted e ≡ None → Hears up e m deed m_new → AreEvents t events v claimed x m_new deed
+  hears_events claimed events up e x m m_new deed allowed h grants hears = record {
     more = Hear v up hears.0 e ∷ [];
     owner = None;
+    owner_is = λ o is. absurd (none-some o is);
     allowed = (allowed, grants);
     puts = λ told all. all;
     mirrors = heard_mirrors events up e x m m_new deed h hears;
@@ -116,12 +118,13 @@ module _ (t : Terms) (v : ℕ) where
   }
 
   -- its record is joined, and then they hear of something
-  pub joins_hear : (events : List Event) (up : ℕ) (e : requests.Event) (x b : records.State) (m m_new : MemberData) (deed : Deed) → AreAllowed t events → Mirrors t v (history t events) x m → granted e ≡ None → Hears up e m deed m_new
-      → AreEvents t events v (records.join x b) m_new deed
-  joins_hear events up e x b m m_new deed allowed h grants hears =
+  pub joins_hear : (claimed : Option (List ℕ)) (events : List Event) (up : ℕ) (e : requests.Event) (x b : records.State) (m m_new : MemberData) (deed : Deed) → AreAllowed t events → Mirrors t v (history t events) x m → granted e ≡ None → Hears up e m deed m_new
+      → AreEvents t events v claimed (records.join x b) m_new deed
+  joins_hear claimed events up e x b m m_new deed allowed h grants hears =
       let joined = joined_mirrors events x b m h in record {
         more = Hear v up hears.0 e ∷ Group (Tick v b.moment) ∷ [];
         owner = None;
+        owner_is = λ o is. absurd (none-some o is);
         allowed = ((allowed, tt), grants);
         puts = λ told all. tells_more told (in_claims events) (Tick v b.moment) tt all;
         others = λ n y d other k. heard_others (history t (Group (Tick v b.moment) ∷ events)) up e hears.0 n y d other (joined_others events b n y d other k);
@@ -130,10 +133,19 @@ module _ (t : Terms) (v : ℕ) where
       }
 
 pub hears_are_events : HearsAreEvents
-hears_are_events t events v up e x m m_new deed allowed h grants hears = hears_events t v events up e x m m_new deed allowed h grants hears
+hears_are_events t events v up e x m m_new deed allowed h grants hears = hears_events t v None events up e x m m_new deed allowed h grants hears
 
 pub joins_are_events : JoinsAreEvents
-joins_are_events t events v x b m allowed h = record { puts = λ told all. tells_more told (in_claims events) (Tick v b.moment) tt all; others = λ n y d other k. joined_others t v events b n y d other k; more = Group (Tick v b.moment) ∷ []; owner = None; allowed = (allowed, tt); mirrors = joined_mirrors t v events x b m h; given = refl }
+joins_are_events t events v x b m allowed h = record {
+  puts = λ told all. tells_more told (in_claims events) (Tick v b.moment) tt all;
+  others = λ n y d other k. joined_others t v events b n y d other k;
+  more = Group (Tick v b.moment) ∷ [];
+  owner = None;
+  owner_is = λ o is. absurd (none-some o is);
+  allowed = (allowed, tt);
+  mirrors = joined_mirrors t v events x b m h;
+  given = refl;
+}
 
 -- The mode.
 
@@ -150,14 +162,15 @@ none_held n (Err refusal) = refl
 
 pub judges_are_events : JudgesAreEvents
 judges_are_events t events v now up n answer x m m_new asked allowed h told =
-    subst (λ (b : Bool). AreEvents t events v (judged_by b (raised_to x now) answer) m_new asked.deed) (sym (modes_once t.strict m.mode h.mode))
-    (joins_hear t v events up (Judged n (judgment_of answer)) x (records.state_of now []) m m_new asked.deed allowed h (none_held n answer) told.0)
+    subst (λ (b : Bool). AreEvents t events v None (judged_by b (raised_to x now) answer) m_new asked.deed) (sym (modes_once t.strict m.mode h.mode))
+    (joins_hear t v None events up (Judged n (judgment_of answer)) x (records.state_of now []) m m_new asked.deed allowed h (none_held n answer) told.0)
 
 pub comes_are_events : ComesAreEvents
 comes_are_events t events v up refused x m allowed h =
     let w = history t events in record {
       more = Come v up refused ∷ [];
       owner = None;
+      owner_is = λ o is. absurd (none-some o is);
       allowed = (allowed, tt);
       puts = λ told all. all;
       others = λ n y d other k. mirrors_other t v n w w.claims (comes refused (at_moment (w.requests v) up)) w.given y d other refl k;
@@ -172,6 +185,7 @@ begins_are_events t events v wait life knows x allowed =
     let z = claims.next_life (w.claims.members v) x.moment [] in record {
       more = Begin v wait x.moment [] ∷ [];
       owner = None;
+      owner_is = λ o is. absurd (none-some o is);
       allowed = (allowed, tt);
       puts = λ told all. tells_more told (in_claims events) (Restart v x.moment []) tt all;
       others = λ n y d other k. mirrors_other t v n w (claims.put_member w.claims v z) (begun Claim wait) w.given y d other (member_other w.claims v n z other) k;

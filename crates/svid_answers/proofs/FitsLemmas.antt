@@ -42,7 +42,7 @@ joined_same n (Behind u) g t = refl
 joined_same n (Again u) g t = refl
 
 -- The request that an event is about is in the table.
-numbered_find : (n : ℕ) (o : Option Request) (p : ℕ × Request) → numbered n o ≡ Some p → (n ≡ p.0) × (o ≡ Some p.1)
+pub numbered_find : (n : ℕ) (o : Option Request) (p : ℕ × Request) → numbered n o ≡ Some p → (n ≡ p.0) × (o ≡ Some p.1)
 numbered_find n None p is = absurd cc
 numbered_find n (Some r) p is = let one = same_Some {A = ℕ × Request} (n, r) p is in (ap (λ (q : ℕ × Request). q.0) one, ap (λ (q : ℕ × Request). Some q.1) one)
 

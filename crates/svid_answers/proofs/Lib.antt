@@ -8,3 +8,4 @@ pub mod GroupLemmas
 pub mod LooksLemmas
 pub mod RecordsLemmas
 pub mod WritesLemmas
+pub mod WrittenLemmas

@@ -35,7 +35,7 @@ use Rattle.svid_requests.specs.declared.event.Event.TheVariants.{Found}
 use Rattle.svid_requests.specs.declared.deed.Deed.{Deed}
 use Rattle.svid_requests.specs.Tables.{State, at_moment, claimed, heard, heard_deed}
 use Rattle.svid_member.specs.declared.claimed.Claimed.{Claimed}
-use Rattle.svid_member.specs.Claiming.{FindsBy, awaited, claim_for, is_of, look_at, of_token, reason_for}
+use Rattle.svid_member.specs.Claiming.{owner_for, FindsBy, awaited, claim_for, is_of, look_at, of_token, reason_for}
 use Rattle.svid_member.specs.Judging.{judged_by, judgment_of}
 use Rattle.svid_member.specs.Members.{Hears, MemberData}
 use Rattle.svid_member.specs.Modes.{adds_at_claim}
@@ -101,13 +101,13 @@ module _ (t : Terms) (events : List Event) (told : List ℕ → ℕ) (v now inde
 
   -- a claim that counts, of a token that the validator accepts
   finds_use : (accepted : Accepted) → Mirrors t v w x m → AllByRecursion (PutsTelling told) (in_claims events) → IsClaimed t told v index w m own caller a → (said.exp ≡ own.exp) × (key_of said ≡ own.key)
-      → outcome ≡ Mine → verdict_on s raised.moment raised.uses said ≡ Ok (Some accepted) → (Accepts t w.claims v now index a) × (a.key ≡ accepted.used.key) × (a.found.exp ≡ accepted.used.exp)
+      → outcome ≡ Mine → verdict_on s raised.moment raised.uses said ≡ Ok (Some accepted) → (Accepts t w.claims v now index a) × (a.key ≡ accepted.used.key) × (a.found.exp ≡ accepted.used.exp) × (a.found.owner ≡ owner_for m own caller)
   finds_use accepted h puts claim of mine is =
       let said_is = accepts_says s raised.moment raised.uses said accepted is in
       let key = claim.key_is ∙ sym (said_is.key_is ∙ of.1) in
       let both = mine_accepts t (in_claims events) told w.claims v now index a (claim_for m own caller) (claims_is t events) puts claim.tells claim.fits claim.given (sym (outcome_is h) ∙ mine)
       (λ strict. (claim.owner strict, fresh h strict (subst (λ (k : List ℕ). has_use_of raised.uses k ≡ false) (sym key) said_is.unused))) in
-      (both.0, key, ap (λ (e : claims.Entry). e.exp) both.1 ∙ sym (said_is.exp_is ∙ of.0))
+      (both.0, key, ap (λ (e : claims.Entry). e.exp) both.1 ∙ sym (said_is.exp_is ∙ of.0), ap (λ (e : claims.Entry). e.owner) both.1)
 
 -- what is told, by the outcome
 abbrev IsLook : (t : Terms) (w : World) (v now index up n : ℕ) → MemberData → MemberData → Deed → Type 0
@@ -127,7 +127,7 @@ module _ (V : Type 0) (t : Terms) (events : List Event) (told : List ℕ → ℕ
   Counts = outcome t events told v now index a own caller s said h.state m ≡ Mine
 
   module _ (mirrors : Mirrors t v (history t events) h.state m) (puts : AllByRecursion (PutsTelling told) (in_claims events)) (claim : IsClaimed t told v index (history t events) m own caller a) (waits : awaited m up n said ≡ Some own) where
-    finds_accepted : (accepted : Accepted) → Counts → Judges (Ok accepted) → (Accepts t (history t events).claims v now index a) × (a.key ≡ accepted.used.key) × (a.found.exp ≡ accepted.used.exp)
+    finds_accepted : (accepted : Accepted) → Counts → Judges (Ok accepted) → (Accepts t (history t events).claims v now index a) × (a.key ≡ accepted.used.key) × (a.found.exp ≡ accepted.used.exp) × (a.found.owner ≡ owner_for m own caller)
     finds_accepted accepted mine is =
         finds_use t events told v now index a own caller s said h.state m accepted mirrors puts claim (awaited_is said (claimed (at_moment m.requests up) n) own waits) mine is.0
 
@@ -168,7 +168,7 @@ raised_moment x now moment is = moment-join x (records.state_of now []) ∙ ap (
 
 look_events : (t : Terms) (events : List Event) (v now index up n : ℕ) (a : Answer) (accepted : Accepted) (x : records.State) (m m_new : MemberData) (deed : Deed) → AreAllowed t events → Mirrors t v (history t events) x m
     → Accepts t (history t events).claims v now index a → a.key ≡ accepted.used.key → a.found.exp ≡ accepted.used.exp → (raised_to x now).moment < accepted.used.exp → Hears up (Found n (Passes accepted.used)) m deed m_new
-    → AreEvents t events v (judged_by (adds_at_claim m.mode) (raised_to x now) (Ok accepted)) m_new deed
+    → AreEvents t events v (Some a.found.owner) (judged_by (adds_at_claim m.mode) (raised_to x now) (Ok accepted)) m_new deed
 look_events t events v now index up n a accepted x m m_new deed allowed h is key exp live hears =
     let w = history t events in
     let y = w.claims.members v in
@@ -178,6 +178,7 @@ look_events t events v now index up n a accepted x m m_new deed allowed h is key
     let it = Looks v now index up n hears.0 (Passes accepted.used) in record {
       more = it ∷ [];
       owner = owner_in (slice_get w.claims.answers index);
+      owner_is = λ o some. sym (ap owner_in is.given) ∙ some;
       allowed = (allowed, λ u some. subst (FindsUse t w.claims v now index) (same_Some accepted.used u some) (record { answer = a; accepts = is; key_is = key; exp_is = exp }));
       puts = λ told all. tells_more told (in_claims events) (Accept v now index) tt all;
       others = λ n y d other k. mirrors_other t v n w (claims.happens t w.claims (Accept v now index)) (heard hears.0 (at_moment (w.requests v) up) e)
@@ -199,13 +200,13 @@ refused_record false x refusal = refl
 module _ (V : Type 0) (t : Terms) (events : List Event) (told : List ℕ → ℕ) (v now index up n : ℕ) (a : Answer) (own : Use) (caller : List ℕ) (s : Setting) (said : Said) (h h_new : Held V) (m m_new : MemberData) (c : Claimed)
     (allowed : AreAllowed t events) (mirrors : Mirrors t v (history t events) h.state m) where
   abbrev Done : records.State → Type 0
-  Done x = AreEvents t events v x m_new c.deed
+  Done x = AreEvents t events v (Some (owner_for m own caller)) x m_new c.deed
 
   refused_events : (why : ℕ) → h_new ≡ h → Hears up (Found n (Fails why)) m c.deed m_new → Done h_new.state
-  refused_events why same hears = subst Done (ap (λ (x : Held V). x.state) (sym same)) (hears_events t v events up (Found n (Fails why)) h.state m m_new c.deed allowed mirrors refl hears)
+  refused_events why same hears = subst Done (ap (λ (x : Held V). x.state) (sym same)) (hears_events t v (Some (owner_for m own caller)) events up (Found n (Fails why)) h.state m m_new c.deed allowed mirrors refl hears)
 
   joined_events : (b : records.State) (why : ℕ) → h_new.state ≡ records.join h.state b → Hears up (Found n (Fails why)) m c.deed m_new → Done h_new.state
-  joined_events b why is hears = subst Done (sym is) (joins_hear t v events up (Found n (Fails why)) h.state b m m_new c.deed allowed mirrors refl hears)
+  joined_events b why is hears = subst Done (sym is) (joins_hear t v (Some (owner_for m own caller)) events up (Found n (Fails why)) h.state b m m_new c.deed allowed mirrors refl hears)
 
   withdrawn_events : (o : Option Use) (why : ℕ) → h_new.state ≡ gains (raised_to h.state now) o → Hears up (Found n (Fails why)) m c.deed m_new → Done h_new.state
   withdrawn_events None why is hears = joined_events (records.state_of now []) why is hears
@@ -219,7 +220,7 @@ module _ (V : Type 0) (t : Terms) (events : List Event) (told : List ℕ → ℕ
   judged_events (Ok accepted) puts claim waits mine is left =
       let f = finds_accepted V t events told v now index up n a own caller s said h h_new m m_new c mirrors puts claim waits accepted mine is in
       let live = (accepts_says s (raised_to h.state now).moment (raised_to h.state now).uses said accepted is.0).live in
-      subst Done (sym left) (look_events t events v now index up n a accepted h.state m m_new c.deed allowed mirrors f.0 f.1 f.2 live is.1)
+      subst Done (sym left) (subst (λ (o : List ℕ). AreEvents t events v (Some o) (judged_by (adds_at_claim m.mode) (raised_to h.state now) (Ok accepted)) m_new c.deed) f.3 (look_events t events v now index up n a accepted h.state m m_new c.deed allowed mirrors f.0 f.1 f.2 live is.1))
   judged_events (Err refusal) puts claim waits mine is left = joined_events (records.state_of now []) (reason_of refusal) (left ∙ refused_record (adds_at_claim m.mode) (raised_to h.state now) refusal) is.1
 
   finds_by : (o : Outcome) → outcome t events told v now index a own caller s said h.state m ≡ o → AllByRecursion (PutsTelling told) (in_claims events) → IsClaimed t told v index (history t events) m own caller a → awaited m up n said ≡ Some own

@@ -5,6 +5,7 @@ use Rattle.svid_replay.specs.Buckets.{raised_to}
 use Rattle.svid_replay.specs.Records as records
 use Rattle.svid_replay.specs.Uses.{has_use_of}
 use Rattle.svid_check.specs.Changes.{gains}
+use Rattle.svid_requests.specs.declared.needs.Needs.TheVariants.{Write}
 use Rattle.svid_requests.specs.declared.judgment.Judgment.TheVariants.{Passes}
 use Rattle.svid_requests.specs.declared.verdict.Verdict.{Verdict}
 use Rattle.svid_requests.specs.declared.verdict.Verdict.TheVariants.{Accept}
@@ -15,7 +16,7 @@ use Rattle.svid_requests.specs.declared.event.Event.TheVariants.{Judged, Wrote, 
 use Rattle.svid_requests.specs.Tables.{State, at_moment, begun, heard, heard_deed}
 use Rattle.svid_member.specs.declared.mode.Mode.TheVariants.{Once}
 use Rattle.svid_member.specs.Modes.{needs_of}
-use Rattle.svid_answers.specs.Group.{comes, passing}
+use Rattle.svid_answers.specs.Group.{comes, granted, passing}
 use Rattle.svid_answers.specs.Promises.{accepts, is_token}
 use Rattle.svid_answers.specs.Records.{Knows}
 
@@ -98,3 +99,9 @@ answered key exp given = count_by (accepts (is_token key exp)) given
 -- No token is answered 200 twice by a member, over its restarts.
 abbrev pub TokensAreAnsweredOnceHere : Type 0
 TokensAreAnsweredOnceHere = (events : List Event) (key : List ℕ) (exp : ℕ) → AreAllowed events → answered key exp (history events).given ≤ 1
+
+-- Where an acceptance needs a write, and the validator tells no other acceptance, a request is answered 200 as its use is on the disk, and at no other event.
+abbrev pub AnsweredIsWritten : Type 0
+AnsweredIsWritten = (events : List Event) (up n : ℕ) (refused : Bool) (e : requests.Event) (u : Use) (next : Option ℕ)
+    → let s = at_moment (history events).requests up in
+    s.needs ≡ Write → granted e ≡ None → heard_deed refused s e ≡ deed.Answer n (Accept u) next → e ≡ Wrote n true

@@ -60,12 +60,13 @@ comes refused s = if refused then s else came s
 abbrev pub hears : World → claims.World → ℕ → Option (List ℕ) → Bool → State → requests.Event → World
 hears w group v owner refused s e = record { claims = group; requests = put w.requests v (heard refused s e); given = given_by v owner (heard_deed refused s e) w.given }
 
--- A judgment tells a use by which a request may be answered 200: whatever the judgment is, or where a claim is needed yet.
+-- the use with which a judgment accepts a token
 abbrev pub passing : Judgment → Option Use
 passing (Passes u) = Some u
 passing (Holds u) = Some u
 passing (Fails why) = None
 
+-- the use with which a judgment accepts one that needs nothing more
 abbrev pub holding : Judgment → Option Use
 holding (Passes u) = None
 holding (Holds u) = Some u
