@@ -301,6 +301,7 @@ func TestAClusterIsPutBack(t *testing.T) {
 	start()
 	begin := func() *Store {
 		store := newStore(t, o)
+		store.forRun = 10 * time.Second // (a busy machine takes its time to let the other one look)
 		t.Cleanup(func() { store.Close() })
 		claimstest.Open(t, store)
 		return store

@@ -85,6 +85,7 @@ type Store struct {
 	settleMu sync.Mutex // of this
 	settling *settling
 	every    time.Duration // between two looks at the streams
+	forRun   time.Duration // for which this member waits at a new run of the server for others that miss claims
 	looked   atomic.Int64  // when all was found to be as it must be, by this machine's clock, in nanoseconds since 1970
 
 	unsteady atomic.Uint64 // how often the server was away, or did not answer
@@ -126,7 +127,7 @@ func New(o Options) (*Store, error) {
 	if o.Replicas == 0 {
 		o.Replicas = 1
 	}
-	s := &Store{o: o, base: "$KV." + o.Name + "-claims.", random: bufio.NewReaderSize(rand.Reader, 1<<10), waiting: map[string]slot{}, every: lookEvery}
+	s := &Store{o: o, base: "$KV." + o.Name + "-claims.", random: bufio.NewReaderSize(rand.Reader, 1<<10), waiting: map[string]slot{}, every: lookEvery, forRun: waitRun}
 	s.life, s.end = context.WithCancel(context.Background())
 	s.doubts.Store(1) // Nothing is known of the server yet.
 	return s, nil

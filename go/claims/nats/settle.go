@@ -301,7 +301,7 @@ func (s *Store) quarantine(ctx context.Context, x exam, k *known, unsteady bool)
 	if k == nil && is.Before == "" {
 		until = is.Began + int64(waitNew)
 	}
-	if wait := now + int64(waitRun); (is.Run != x.run || unsteady && !is.isAlone && k != nil) && until < wait {
+	if wait := now + int64(s.forRun); (is.Run != x.run || unsteady && !is.isAlone && k != nil) && until < wait {
 		until = wait
 	}
 	isNew := k == nil && now < until
@@ -542,7 +542,8 @@ func (s *Store) missed(ctx context.Context, x exam) (loss, error) {
 		if err != nil && !errors.Is(err, errNone) {
 			return "", failed("look for the last own claim", err)
 		}
-		if err != nil || m.Position != own.position {
+		// (Another member may have claimed the token since, at the same position.)
+		if err != nil || m.Position != own.position || !bytes.Equal(m.Data, own.claim.Owner[:]) {
 			return "the last own claim is gone: the store has lost what it acknowledged", nil
 		}
 	}
