@@ -278,6 +278,17 @@ func TestAClusterIsOpenedAtOnce(t *testing.T) {
 // Three servers that all come back with an older copy, as after a loss of power, end the epoch before anybody accepts what was claimed.
 func TestAClusterIsPutBack(t *testing.T) {
 	t.Parallel()
+	clusterIsPutBack(t, true)
+}
+
+// Where the member that misses its claim is away meanwhile, another one may claim the token anew, and at the same position. The member sees the loss
+// all the same, once it is back.
+func TestAClusterIsPutBackUnseen(t *testing.T) {
+	t.Parallel()
+	clusterIsPutBack(t, false)
+}
+
+func clusterIsPutBack(t *testing.T, isSeen bool) {
 	dirs := []string{t.TempDir(), t.TempDir(), t.TempDir()}
 	servers, err := broker.NewCluster(dirs)
 	if err != nil {
@@ -301,7 +312,9 @@ func TestAClusterIsPutBack(t *testing.T) {
 	start()
 	begin := func() *Store {
 		store := newStore(t, o)
-		store.forRun = 10 * time.Second // (a busy machine takes its time to let the other one look)
+		if isSeen {
+			store.forRun = 10 * time.Second // (a busy machine takes its time to let the other one look)
+		}
 		t.Cleanup(func() { store.Close() })
 		claimstest.Open(t, store)
 		return store
@@ -318,7 +331,9 @@ func TestAClusterIsPutBack(t *testing.T) {
 	start()
 	c := one(1)
 	wantOwner(t, claimstest.Put(t, a, c)[0], c.Owner)
-	claimstest.Watch(t, a)
+	if isSeen {
+		claimstest.Watch(t, a)
+	}
 	all((*broker.Server).Kill)
 	for i, dir := range dirs {
 		os.RemoveAll(filepath.Join(dir, "jetstream"))
@@ -326,8 +341,8 @@ func TestAClusterIsPutBack(t *testing.T) {
 	}
 	start()
 	c.Owner = claimstest.Own(2)
-	if f := claimstest.Put(t, b, c)[0]; claimstest.Judge(c, f, 60) == claimstest.Mine {
-		t.Errorf("accepted twice: %+v", f)
+	if f := claimstest.Put(t, b, c)[0]; isSeen == (claimstest.Judge(c, f, 60) == claimstest.Mine) {
+		t.Errorf("claimed anew: %+v", f)
 	}
 	var is claims.State
 	natstest.Await(t, "one other epoch", func() bool {

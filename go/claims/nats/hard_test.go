@@ -376,29 +376,6 @@ func TestAStreamIsMadeAnew(t *testing.T) {
 	}
 }
 
-// A member may be away for longer than the others wait for it, while one of them claims a token anew that was lost. It sees the loss all the same, though
-// the token is claimed at the position that its own claim had.
-func TestALostClaimThatAnotherMade(t *testing.T) {
-	t.Parallel()
-	m := newMachine(t)
-	o := claimstest.Options{Name: "anew", Terms: claimstest.Usual}
-	proxy := logtest.NewProxy(t, m.Address())
-	o.Address = proxy.Address
-	a := open(t, m, o)
-	o.Address = ""
-	b := open(t, m, o)
-	before := claimstest.State(t, a)
-	restore := m.Copy(t)
-	c := one(1)
-	wantOwner(t, claimstest.Put(t, a, c)[0], c.Owner)
-	proxy.Shut(true)
-	restore()
-	c.Owner = claimstest.Own(2)
-	wantOwner(t, claimstest.Put(t, b, c)[0], c.Owner)
-	proxy.Shut(false)
-	haveEnded(t, m, o, before, a, b)
-}
-
 // A server that lost the last claims with its power, or all, ends the epoch before anybody accepts one of them.
 func TestALostTail(t *testing.T) {
 	t.Parallel()
