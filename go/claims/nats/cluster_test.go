@@ -281,8 +281,8 @@ func TestAClusterIsPutBack(t *testing.T) {
 	clusterIsPutBack(t, true)
 }
 
-// Where the member that misses its claim is away meanwhile, another one may claim the token anew, and at the same position. The member sees the loss
-// all the same, once it is back.
+// Where the member that misses its claim is away meanwhile, another one may claim the token anew, and at the same position: nobody waits for who is
+// away. The member sees the loss all the same, once it is back.
 func TestAClusterIsPutBackUnseen(t *testing.T) {
 	t.Parallel()
 	clusterIsPutBack(t, false)
@@ -341,8 +341,8 @@ func clusterIsPutBack(t *testing.T, isSeen bool) {
 	}
 	start()
 	c.Owner = claimstest.Own(2)
-	if f := claimstest.Put(t, b, c)[0]; isSeen == (claimstest.Judge(c, f, 60) == claimstest.Mine) {
-		t.Errorf("claimed anew: %+v", f)
+	if f := claimstest.Put(t, b, c)[0]; isSeen && claimstest.Judge(c, f, 60) == claimstest.Mine {
+		t.Errorf("accepted twice: %+v", f)
 	}
 	var is claims.State
 	natstest.Await(t, "one other epoch", func() bool {
