@@ -301,7 +301,7 @@ func TestRights(t *testing.T) {
 		t.Error(err)
 	}
 	wrong := strings.Replace(s.URL, "redis://", "redis://member:wrong@", 1)
-	if err := tryOpen(t, Options{URLs: []string{wrong}}, 300*time.Millisecond); err == nil || !strings.Contains(err.Error(), "WRONGPASS") {
+	if err := tryOpen(t, Options{URLs: []string{wrong}}, 3*time.Second); err == nil || !strings.Contains(err.Error(), "WRONGPASS") {
 		t.Errorf("%v", err)
 	}
 }

@@ -218,7 +218,7 @@ func TestTwoPrimaries(t *testing.T) {
 	if f := claimstest.Try(a, 5*time.Second, claim(1))[0]; f.Err == nil {
 		t.Errorf("%+v", f)
 	}
-	ctx, cancel := context.WithTimeout(context.Background(), 300*time.Millisecond)
+	ctx, cancel := context.WithTimeout(context.Background(), 3*time.Second)
 	defer cancel()
 	if _, err := newStore(t, o).Open(ctx); err == nil || !strings.Contains(err.Error(), "both that they are the primary") {
 		t.Error(err)
