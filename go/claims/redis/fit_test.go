@@ -124,7 +124,7 @@ func TestAServerThatGetsAFile(t *testing.T) {
 	s.do(t, "DEBUG", "POPULATE", "100")
 	s.do(t, "CONFIG", "SET", "rdb-key-save-delay", "10000")
 	s.do(t, "CONFIG", "SET", "appendonly", "yes")
-	if err := tryOpen(t, Options{URLs: []string{s.URL}}, 300*time.Millisecond); err == nil || !strings.Contains(err.Error(), "first append-only file") {
+	if err := tryOpen(t, Options{URLs: []string{s.URL}}, 3*time.Second); err == nil || !strings.Contains(err.Error(), "first append-only file") {
 		t.Error(err)
 	}
 	opened(t, Options{URLs: []string{s.URL}})
@@ -135,7 +135,7 @@ func TestAReplicaAlone(t *testing.T) {
 	t.Parallel()
 	primary := start(t)
 	replica := startReplica(t, primary)
-	if err := tryOpen(t, Options{URLs: []string{replica.URL}}, 300*time.Millisecond); err == nil || !strings.Contains(err.Error(), "it is a replica") {
+	if err := tryOpen(t, Options{URLs: []string{replica.URL}}, 3*time.Second); err == nil || !strings.Contains(err.Error(), "it is a replica") {
 		t.Error(err)
 	}
 	opened(t, Options{URLs: []string{replica.URL, primary.URL}})
