@@ -121,7 +121,7 @@ func TestTheFirstRewrite(t *testing.T) {
 func TestAServerThatGetsAFile(t *testing.T) {
 	t.Parallel()
 	s := start(t, "--enable-debug-command", "local", "--appendonly", "no")
-	s.do(t, "DEBUG", "POPULATE", "100")
+	s.do(t, "DEBUG", "POPULATE", "600")
 	s.do(t, "CONFIG", "SET", "rdb-key-save-delay", "10000")
 	s.do(t, "CONFIG", "SET", "appendonly", "yes")
 	if err := tryOpen(t, Options{URLs: []string{s.URL}}, 3*time.Second); err == nil || !strings.Contains(err.Error(), "first append-only file") {
