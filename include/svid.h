@@ -176,6 +176,30 @@ enum svid_status {
     SVID_PATTERN_SEGMENT_DOTS = 98,  /* the pattern has a segment that is . or .. */
     SVID_PATTERN_PATH_BYTE = 99,     /* the pattern has a byte that may not stand in a path segment */
 
+    /* what a call on a member answers beside these; nothing happened */
+    SVID_NO_MEMBER = 20, /* the validator has no member */
+    SVID_UNASKED = 29,   /* the request does not wait for that, or its time is over */
+    SVID_NO_MODE = 30,   /* the number is none of a mode */
+
+    /* why a member answers a request without judging its token to the end; `status` of svid_deed */
+    SVID_LATE = 201,     /* the time of the request was over before it had an answer */
+    SVID_NOT_KEPT = 202, /* the state folder did not take the acceptance */
+    SVID_LEFT = 203,     /* nobody waits for the answer any more */
+
+    /* why a member judges no token (211 to 217), or why none is to be sent to it: the first that holds, in this order */
+    SVID_ENDED = 211,              /* the member has ended */
+    SVID_NO_BUNDLE = 212,          /* there is no trust bundle */
+    SVID_LOADING = 213,            /* the state folder is being read */
+    SVID_STORE_UNREACHED = 214,    /* the group's store was not reached yet */
+    SVID_WITHDRAWALS_UNREAD = 215, /* the store's withdrawals are being read */
+    SVID_BROKER_UNREACHED = 216,   /* the group's broker was not reached yet */
+    SVID_GROUP_UNREAD = 217,       /* what the group had is being read */
+    SVID_DRAINING = 218,           /* the member is to end soon */
+    SVID_JUMPED = 219,             /* the clock went ahead too far at once */
+    SVID_KEEPS_NOTHING = 220,      /* the state folder takes no acceptance */
+    SVID_STORE_AWAY = 221,         /* the group's store does not answer, so no token can be claimed */
+    SVID_DEAF = 222,               /* the store has lost entries, so no token is accepted that lives as long as it may */
+
     /* why a token is refused: the first that holds, in this order */
     SVID_TOO_LONG = 101,           /* The token has more than 65,536 bytes. */
     SVID_NOT_THREE_PARTS = 102,    /* The token has not exactly two periods. */
@@ -671,6 +695,198 @@ uint64_t svid_claim_moment(uint64_t now, uint64_t time, uint64_t ahead);
 uint32_t svid_claim_outcome(const uint8_t owner[32], uint64_t exp, const uint8_t found_owner[32], uint64_t time, uint64_t deaf,
                             uint64_t lasts, uint64_t moment);
 
+/* ---- A member: requests, and their answers ----
+ *
+ * A member answers requests by a validator: it says which may be answered that their token is accepted, and what has to be done before. Its
+ * modes: SVID_ONCE accepts a token once by this member; where there is a state folder, its use is on the disk before the answer. SVID_STRICT
+ * accepts it once in the whole group, SVID_BOUND from one caller alone, both by a claim in the group's store. SVID_REUSE accepts it again and again.
+ *
+ * It has no clock, thread or socket. You tell it what happened, one call at a time, under the lock of the validator. Each call writes at most one
+ * thing to do into `deed`. For each request:
+ *   1. svid_token_open reads the token, outside of the lock. One that it refuses is answered so.
+ *   2. svid_member_come: SVID_DEED_JUDGE has the number of the request.
+ *   3. Find the key that made its signature (svid_bundles_*, or svid_validator_ask_token), outside of the lock, and call svid_member_judge.
+ *   4. Do what each deed says:
+ *      - SVID_DEED_JUDGE: judge the request of `number` again, by the key that you found.
+ *      - SVID_DEED_APPEND: bring `used` to the state folder, and call svid_member_wrote.
+ *      - SVID_DEED_CLAIM: put a claim of `used` into the store, for the owner of svid_claim_owner, or in mode bound of svid_claim_owner_of_caller.
+ *        Right before a claim goes out, ask svid_member_send: put it only if that says SVID_DEED_CLAIM. Then call svid_member_found with the answer.
+ *        A put without an answer may be made again.
+ *      - SVID_DEED_ANSWER: answer the request: its token is accepted if `status` is SVID_OK. Then judge that of `next` again, if that is a request.
+ *      - SVID_DEED_NOTHING: another call will say what is to be done for it.
+ *   5. When svid_member_due comes, call svid_member_overdue until there is nothing to do.
+ *
+ * What is proved of the answers (crates/PROOFS.md): no token is answered SVID_OK twice, in mode once by one member over its restarts, in mode strict
+ * by the whole group; in mode bound none is for two callers. Your part: report writes and claims as they were, carry out each answer once, give
+ * each start a `life` of its own, and in mode once let each start take what the state folder has. `up` is a moment by a clock that only goes ahead, in
+ * any unit, the same for all calls and for `wait`; `now` is the wall clock's, in seconds.
+ *
+ * All calls answer SVID_CLOSED if the validator is closed, and, but for svid_member_open, SVID_NO_MEMBER if it has no member: then nothing happened. */
+
+enum svid_modes { SVID_ONCE = 0, SVID_STRICT = 1, SVID_BOUND = 2, SVID_REUSE = 3 };
+
+enum svid_deeds {
+    SVID_DEED_NOTHING = 0,
+    SVID_DEED_JUDGE = 1,
+    SVID_DEED_APPEND = 2,
+    SVID_DEED_CLAIM = 3,
+    SVID_DEED_ANSWER = 4
+};
+
+/* What a member is given for its life. */
+typedef struct {
+    uint64_t mode;     /* one of svid_modes */
+    uint64_t disk;     /* 1 if there is a state folder, else 0 */
+    uint64_t store;    /* 1 if there is a store, else 0 */
+    uint64_t log;      /* 1 if there is a log that tells withdrawals, else 0 */
+    uint64_t wait;     /* within how long each request and each withdrawal is answered, by the clock of `up` */
+    uint64_t ahead;    /* how many seconds the store's time may be ahead of the own clock */
+    uint64_t lasts;    /* how many seconds past the store's time a token may expire */
+    uint8_t life[16];  /* 16 random bytes, which each start takes anew */
+} svid_member_terms;
+
+/* What a member is told that it knows: 1 for yes, 0 for no. */
+typedef struct {
+    uint64_t bundled;    /* it has a trust bundle */
+    uint64_t loaded;     /* its state folder is read, or it has none */
+    uint64_t opened;     /* the store was reached, or it has none */
+    uint64_t heard;      /* the store's withdrawals were read to the end once, or it has no store */
+    uint64_t joined;     /* the broker of the group was reached, or it has none */
+    uint64_t caught_up;  /* what the group had is read, or it has no broker */
+    uint64_t draining;   /* it is to end soon */
+    uint64_t jumped;     /* its clock went ahead too far at once */
+    uint64_t full;       /* the state folder has no room for another acceptance */
+    uint64_t away;       /* the store has not answered for longer than a request waits */
+    uint64_t deaf;       /* the store has lost entries, so that no token is accepted that lives as long as it may */
+    uint64_t ended;      /* it has ended */
+} svid_known;
+
+/* What is to be done for a request. */
+typedef struct {
+    uint64_t what;    /* one of svid_deeds */
+    uint64_t number;  /* of the request */
+    uint64_t status;  /* of an answer: SVID_OK; SVID_TOO_LONG to SVID_REPLAYED, SVID_NOT_ALLOWED, SVID_CLAIM_FAR or SVID_CLAIM_DEAF; or SVID_LATE,
+                         SVID_NOT_KEPT, SVID_LEFT or SVID_NO_MEMORY */
+    uint64_t next;    /* of an answer: the number of a request that waited for it, whose token is to be judged again; UINT64_MAX for none */
+    svid_use used;    /* of SVID_DEED_APPEND, SVID_DEED_CLAIM and an answer that is SVID_OK; else zeros */
+} svid_deed;
+
+/* What a store answered to a put. */
+typedef struct {
+    uint64_t time;      /* the store's, in seconds, read at the put or after it */
+    uint64_t deaf;      /* tokens that expire by then may have been claimed before the store lost entries; 0 if it never lost one */
+    uint8_t owner[32];  /* what the key has after the put */
+} svid_found;
+
+/* A moment by the clock of `up`; UINT64_MAX for none. */
+typedef struct {
+    uint64_t at;
+} svid_deadline;
+
+/* Lets a validator answer requests: it has a member, without requests, which judges no token before svid_member_know. All may call. Takes no memory.
+ * SVID_HAS_LOG; SVID_IS_OPEN if it has a member; SVID_NO_MODE. */
+uint32_t svid_member_open(svid_validator *v, const svid_member_terms *terms);
+
+/* Tells a member all that it is to know from now on. Whether the state folder took the last acceptance it knows by itself. */
+uint32_t svid_member_know(svid_validator *v, const svid_known *known);
+
+/* Whether a member judges tokens: SVID_OK, or SVID_ENDED to SVID_GROUP_UNREAD for the first reason why not. */
+uint32_t svid_member_judges(svid_validator *v);
+
+/* Whether tokens are to be sent to a member: SVID_OK, or SVID_ENDED to SVID_DEAF for the first reason why not. SVID_WITHDRAWALS_UNREAD counts in all modes
+ * but strict, SVID_KEEPS_NOTHING in once alone, and SVID_STORE_AWAY and SVID_DEAF in strict alone. */
+uint32_t svid_member_ready(svid_validator *v);
+
+/* A request comes. SVID_ENDED to SVID_GROUP_UNREAD, SVID_NO_MEMORY: nothing came, and `deed` stays as it was. SVID_DEED_NOTHING if no number is left. */
+uint32_t svid_member_come(svid_validator *v, uint64_t up, svid_deed *deed);
+
+/* Judges the token of the request `number`, which was read. `key`, `input` and `signature` are as for svid_validator_check_token. In mode once the
+ * record gains the use of an accepted token.
+ *
+ * SVID_OK: the token is accepted, `out` has the SPIFFE ID of its subject, and `used` is its use; `deed` says what is to be done before the answer. It
+ * may be an answer already, as SVID_LATE, or SVID_NO_MEMORY if there was none to let the request wait.
+ * SVID_NOT_AUDIENCE to SVID_REPLAYED and SVID_NO_MEMORY: it is refused. SVID_NOT_ALLOWED: it is good, and its subject may not call; nothing is added.
+ * SVID_UNASKED: the request does not wait for a judgment, or its time is over; nothing happened.
+ *
+ * SVID_JUMP; SVID_TOO_SHORT if `out_len` is less than SVID_ID_ROOM; SVID_HAS_LOG. Then nothing happened, and `deed` stays as it was. SVID_CLOSED if
+ * the validator is closed, or the token. */
+uint32_t svid_member_judge(svid_validator *v, uint64_t now, uint64_t up, uint64_t number, const uint8_t *key, size_t key_len,
+                           const uint8_t *input, size_t input_len, const uint8_t *signature, size_t signature_len,
+                           svid_token *t, uint8_t *out, size_t out_len, svid_use *used, svid_deed *deed, svid_told *told);
+
+/* The use of the request `number` is on the disk, or could not be brought there if `ok` is 0. In mode once a member is not ready while the last one
+ * could not: call it again once the disk took that use after all. */
+uint32_t svid_member_wrote(svid_validator *v, uint64_t up, uint64_t number, uint64_t ok, svid_deed *deed);
+
+/* The claim of the request `number` is about to go out: put it if `deed` is SVID_DEED_CLAIM. */
+uint32_t svid_member_send(svid_validator *v, uint64_t up, uint64_t number, svid_deed *deed);
+
+/* The store answered the claim of the request `number`, or any put of the same claim. `caller` are 32 bytes that tell who presents the token, and count
+ * in mode bound alone. If the claim counts, the token is judged once more, as by svid_member_judge, and in mode strict the record gains its use. If the
+ * store says that the token was withdrawn, so does the record from now on, unless memory is refused.
+ *
+ * As svid_member_judge, and SVID_CLAIM_WITHDRAWN to SVID_CLAIM_EXPIRED if the claim does not count. SVID_UNASKED: the request does not wait for the
+ * claim of this token, or its time is over; nothing happened. */
+uint32_t svid_member_found(svid_validator *v, uint64_t now, uint64_t up, uint64_t number, const uint8_t caller[32], const svid_found *found,
+                           const uint8_t *key, size_t key_len, const uint8_t *input, size_t input_len, const uint8_t *signature,
+                           size_t signature_len, svid_token *t, uint8_t *out, size_t out_len, svid_use *used, svid_deed *deed, svid_told *told);
+
+/* Nobody waits any more for the answer to the request `number`. A use that is on its way to the disk goes there. */
+uint32_t svid_member_leave(svid_validator *v, uint64_t up, uint64_t number, svid_deed *deed);
+
+/* Answers the request that came first, if its time is over. */
+uint32_t svid_member_overdue(svid_validator *v, uint64_t up, svid_deed *deed);
+
+/* When a request or a withdrawal is due: then call svid_member_overdue and svid_withdrawal_overdue. */
+uint32_t svid_member_due(svid_validator *v, svid_deadline *out);
+
+/* Replaces the audiences of a validator, and who may call its member, at once. `own` are audiences, one a line; `callers` are patterns of SPIFFE IDs
+ * as of svid_id_allows, one a line; empty lines are passed over. If `all` is not 0, all may call, and `callers` does not count. The record stays.
+ * SVID_OWN_NOT_UTF8; SVID_PATTERN_TOO_LONG to SVID_PATTERN_PATH_BYTE for the first line that is no pattern; SVID_NO_MEMORY. Then nothing happened. */
+uint32_t svid_member_rules(svid_validator *v, const uint8_t *own, size_t own_len, uint64_t all, const uint8_t *callers, size_t callers_len);
+
+/* Withdrawals on their way to the state folder, the store and the log, as far as there are such (svid_member_terms). After svid_validator_withdraw,
+ * svid_withdrawal_come gives the withdrawal a number. Tell what became of it at each of these three keepers, also at one that is not there, by
+ * svid_withdrawal_told: it ends once no keeper is left. */
+enum svid_keepers { SVID_AT_DISK = 0, SVID_AT_STORE = 1, SVID_AT_LOG = 2 };
+
+/* How far a withdrawal is. For each keeper: 0 it waits, 1 it is there, or need not be, 2 it may not be there. */
+typedef struct {
+    uint64_t number;  /* UINT64_MAX if none has ended */
+    uint64_t disk;
+    uint64_t store;
+    uint64_t log;
+} svid_withdrawal;
+
+/* The record has a withdrawal: `made` has its number and nothing else, or the number UINT64_MAX if none is left. SVID_NO_MEMORY: it is on its way nowhere; make it again. */
+uint32_t svid_withdrawal_come(svid_validator *v, uint64_t up, svid_withdrawal *made);
+
+/* A keeper has the withdrawal `number`, or may not have it if `ok` is 0. `made` is that withdrawal if it has ended, else its number is UINT64_MAX. */
+uint32_t svid_withdrawal_told(svid_validator *v, uint64_t number, uint64_t keeper, uint64_t ok, svid_withdrawal *made);
+
+/* Gives up the withdrawal that came first, if its time is over: `made` is that, else its number is UINT64_MAX. */
+uint32_t svid_withdrawal_overdue(svid_validator *v, uint64_t up, svid_withdrawal *made);
+
+/* When the claims that wait go out: many share a call to the store, and none waits long for that. Times are milliseconds by a clock that only goes
+ * ahead. Begin with SVID_PACING_FIRST. */
+typedef struct {
+    uint64_t calls;  /* how many calls are under way */
+    uint64_t at;     /* when the last one went out */
+    uint64_t pause;  /* how long claims without an answer wait before they are put again */
+} svid_pacing;
+#define SVID_PACING_FIRST { 0, 0, 10 }
+
+/* 1 if a call goes out at `up`, where so many claims wait, else 0. */
+uint32_t svid_pacing_may_send(const svid_pacing *p, uint64_t up, uint64_t waiting);
+/* When a call goes out beside those that are under way, where claims wait; UINT64_MAX if an answer has to come first. */
+uint64_t svid_pacing_due(const svid_pacing *p);
+/* A call goes out at `up`. */
+void svid_pacing_sent(svid_pacing *p, uint64_t up);
+/* A call has ended, and the store has answered some of its claims. */
+void svid_pacing_answered(svid_pacing *p);
+/* A call has ended without an answer. Returns how long its claims wait before they are put again. */
+uint64_t svid_pacing_unanswered(svid_pacing *p);
+
 /* ---- Trust bundles that you keep ----
  *
  * A `svid_bundles` reads trust bundles once, and lists the keys that may have signed a token. It keeps no record, and shares nothing with a
@@ -1131,6 +1347,24 @@ static inline const char *svid_strstatus(uint32_t status) {
     case SVID_PATTERN_SEGMENT_EMPTY: return "SVID_PATTERN_SEGMENT_EMPTY";
     case SVID_PATTERN_SEGMENT_DOTS: return "SVID_PATTERN_SEGMENT_DOTS";
     case SVID_PATTERN_PATH_BYTE: return "SVID_PATTERN_PATH_BYTE";
+    case SVID_NO_MEMBER: return "SVID_NO_MEMBER";
+    case SVID_UNASKED: return "SVID_UNASKED";
+    case SVID_NO_MODE: return "SVID_NO_MODE";
+    case SVID_LATE: return "SVID_LATE";
+    case SVID_NOT_KEPT: return "SVID_NOT_KEPT";
+    case SVID_LEFT: return "SVID_LEFT";
+    case SVID_ENDED: return "SVID_ENDED";
+    case SVID_NO_BUNDLE: return "SVID_NO_BUNDLE";
+    case SVID_LOADING: return "SVID_LOADING";
+    case SVID_STORE_UNREACHED: return "SVID_STORE_UNREACHED";
+    case SVID_WITHDRAWALS_UNREAD: return "SVID_WITHDRAWALS_UNREAD";
+    case SVID_BROKER_UNREACHED: return "SVID_BROKER_UNREACHED";
+    case SVID_GROUP_UNREAD: return "SVID_GROUP_UNREAD";
+    case SVID_DRAINING: return "SVID_DRAINING";
+    case SVID_JUMPED: return "SVID_JUMPED";
+    case SVID_KEEPS_NOTHING: return "SVID_KEEPS_NOTHING";
+    case SVID_STORE_AWAY: return "SVID_STORE_AWAY";
+    case SVID_DEAF: return "SVID_DEAF";
     case SVID_TOO_LONG: return "SVID_TOO_LONG";
     case SVID_NOT_THREE_PARTS: return "SVID_NOT_THREE_PARTS";
     case SVID_HEADER_SPELLING: return "SVID_HEADER_SPELLING";
@@ -1254,6 +1488,24 @@ static inline const char *svid_strsentence(uint32_t status) {
     case SVID_PATTERN_SEGMENT_EMPTY: return "The pattern has an empty segment. Write spiffe://DOMAIN/PATH for one ID, spiffe://DOMAIN/PATH/" "* for all below it, or spiffe://DOMAIN for all of a trust domain.";
     case SVID_PATTERN_SEGMENT_DOTS: return "The pattern has a segment that is one or two periods. Write spiffe://DOMAIN/PATH for one ID, spiffe://DOMAIN/PATH/" "* for all below it, or spiffe://DOMAIN for all of a trust domain.";
     case SVID_PATTERN_PATH_BYTE: return "The pattern has a byte that may not stand in a path segment. Write spiffe://DOMAIN/PATH for one ID, spiffe://DOMAIN/PATH/" "* for all below it, or spiffe://DOMAIN for all of a trust domain.";
+    case SVID_NO_MEMBER: return "The validator has no member. Open one.";
+    case SVID_UNASKED: return "The request does not wait for that, or its time is over.";
+    case SVID_NO_MODE: return "The number is none of a mode.";
+    case SVID_LATE: return "The time of the request was over before it had an answer. Try again.";
+    case SVID_NOT_KEPT: return "The state folder did not take the acceptance. Mend the disk.";
+    case SVID_LEFT: return "Nobody waits for the answer any more.";
+    case SVID_ENDED: return "The member has ended.";
+    case SVID_NO_BUNDLE: return "There is no trust bundle.";
+    case SVID_LOADING: return "The state folder is being read.";
+    case SVID_STORE_UNREACHED: return "The group's store was not reached yet.";
+    case SVID_WITHDRAWALS_UNREAD: return "The store's withdrawals are being read.";
+    case SVID_BROKER_UNREACHED: return "The group's broker was not reached yet.";
+    case SVID_GROUP_UNREAD: return "What the group had is being read.";
+    case SVID_DRAINING: return "The member is to end soon.";
+    case SVID_JUMPED: return "The clock went ahead too far at once. Set the clock right.";
+    case SVID_KEEPS_NOTHING: return "The state folder takes no acceptance. Mend the disk.";
+    case SVID_STORE_AWAY: return "The group's store does not answer, so no token can be claimed.";
+    case SVID_DEAF: return "The store has lost entries, so no token is accepted that lives as long as it may.";
     case SVID_TOO_LONG: return "The token has more than 65,536 bytes.";
     case SVID_NOT_THREE_PARTS: return "The token has not exactly two periods.";
     case SVID_HEADER_SPELLING: return "The header is not base64url.";

@@ -85,6 +85,22 @@ RUNS = {
         "sanitized": "answers refused guarded nulls renewed mixed",
         "valgrind": "refused nulls renewed mixed",
     },
+    # a member that answers requests
+    "members": {
+        "wrapped": "refused",
+        "bare": "guarded nulls threads stack times",
+        "musl": "threads stack",
+        "sanitized": "refused guarded nulls",
+        "threads": "threads",
+        "valgrind": "refused nulls",
+    },
+    # what it answers
+    "walks": {
+        "wrapped": "answers",
+        "bare": "answers random",
+        "sanitized": "answers random",
+        "valgrind": "answers",
+    },
     # the entries of messages
     "entries": {
         "wrapped": "refused",

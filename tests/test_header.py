@@ -34,7 +34,7 @@ PREFIXES = {
     "EntryFault": "ENTRY_",
     "Outcome": "CLAIM_",
 }
-LISTS = ("Reason", "Refusal", *PREFIXES)
+LISTS = ("Reason", "Refusal", "Unready", "Verdict", *PREFIXES)
 # What stands in these lists but has the name or the number of another one.
 OTHER_NAMES = {("Next", "Unfit"), ("NoBearer", "TooLong")}
 # What stands in no list.
@@ -51,6 +51,9 @@ OWN = {
     "SVID_JUMP": 9,
     "SVID_HAS_LOG": 10,
     "SVID_NO_LOG": 19,
+    "SVID_NO_MEMBER": 20,
+    "SVID_UNASKED": 29,
+    "SVID_NO_MODE": 30,
     "SVID_TABLE_LINE": 34,
     "SVID_OWN_NOT_UTF8": 35,
     "SVID_OWN_LENGTHS": 36,
@@ -205,6 +208,23 @@ def test_the_page_has_words_for_each(path, name, least, most):
     body = re.search(rf"^(?:export )?const {name} = \{{\n(.*?)^\}};", text_of(path), re.M | re.S)[1]
     due = range(numbers()[f"SVID_{least}"], numbers()[f"SVID_{most}"] + 1)
     assert [int(it) for it in re.findall(r"^  (\d+): ", body, re.M)] == [it for it in sorted(numbers().values()) if it in due]
+
+
+@pytest.mark.parametrize(
+    "named, path, form",
+    [
+        ("svid_modes", "member_open.rt", r"(\d+) => Some\(Mode::(\w+)\),"),
+        ("svid_keepers", "withdrawal_come.rt", r"(\d+|_) => Place::(\w+),"),
+        ("svid_deeds", "deed.rt", r"Deed::(\w+)(?:\([\w, ]+\))? => (?:deed_by\(|deed_of_use\(|SvidDeed \{\s+what: )(\d+),"),
+    ],
+)
+def test_the_numbers_of_another_list(named, path, form):
+    """Those that a member is told by, and those that it tells: each in the order of the sources, the last keeper being any other number."""
+    body = re.search(rf"enum {named} \{{(.*?)\}}", HEADER, re.S)[1]
+    found = re.findall(r"SVID_(?:DEED_|AT_)?(\w+) = (\d+)", body)
+    rows = [(it[0], it[1]) if it[1].isdigit() else (it[1], it[0]) for it in re.findall(form, text_of(f"crates/svid_c/src/{path}"))]
+    due = [(name.upper(), number.replace("_", str(number_of))) for number_of, (name, number) in enumerate(rows)]
+    assert found == due and len(due) >= 3
 
 
 def test_no_two_have_one_number():

@@ -103,6 +103,34 @@ class Digests(c.Structure):
     _fields_ = [("moment", c.c_uint64), ("digests", c.c_uint8 * 32 * 256)]
 
 
+class MemberTerms(c.Structure):
+    _fields_ = [("mode", c.c_uint64), ("disk", c.c_uint64), ("store", c.c_uint64), ("log", c.c_uint64), ("wait", c.c_uint64), ("ahead", c.c_uint64), ("lasts", c.c_uint64), ("life", c.c_uint8 * 16)]
+
+
+class Known(c.Structure):
+    _fields_ = [("bundled", c.c_uint64), ("loaded", c.c_uint64), ("opened", c.c_uint64), ("heard", c.c_uint64), ("joined", c.c_uint64), ("caught_up", c.c_uint64), ("draining", c.c_uint64), ("jumped", c.c_uint64), ("full", c.c_uint64), ("away", c.c_uint64), ("deaf", c.c_uint64), ("ended", c.c_uint64)]
+
+
+class Deed(c.Structure):
+    _fields_ = [("what", c.c_uint64), ("number", c.c_uint64), ("status", c.c_uint64), ("next", c.c_uint64), ("used", Use)]
+
+
+class Found(c.Structure):
+    _fields_ = [("time", c.c_uint64), ("deaf", c.c_uint64), ("owner", c.c_uint8 * 32)]
+
+
+class Deadline(c.Structure):
+    _fields_ = [("at", c.c_uint64)]
+
+
+class Withdrawal(c.Structure):
+    _fields_ = [("number", c.c_uint64), ("disk", c.c_uint64), ("store", c.c_uint64), ("log", c.c_uint64)]
+
+
+class Pacing(c.Structure):
+    _fields_ = [("calls", c.c_uint64), ("at", c.c_uint64), ("pause", c.c_uint64)]
+
+
 class Refused(Exception):
     """Why a call gave up: its status, and what it told."""
 

@@ -7,7 +7,8 @@ import "C"
 // a log. So a token that was used before is still refused. A verdict of before counts no more (ErrRenewed), since it may be of a
 // token for another audience. On an error nothing has changed.
 //
-// The lock is held while the record is copied, which takes a few microseconds for each entry, and twice its memory.
+// With a member, who may call stays as it is (SetRules). Without one the lock is held while the record is copied, which takes a few microseconds for
+// each entry, and twice its memory.
 //
 // Errors: ErrAudience, ErrNoMemory, ErrJump where the record has a moment that is too far ahead, ErrClosed.
 func (v *Validator) SetAudiences(audiences []string) error {
@@ -17,6 +18,9 @@ func (v *Validator) SetAudiences(audiences []string) error {
 	}
 	v.mu.Lock()
 	defer v.mu.Unlock()
+	if v.answers {
+		return v.setRules(own, v.allow)
+	}
 	next := &Validator{terms: v.terms, log: v.log}
 	if err := next.open(own, v.text); err != nil {
 		return err

@@ -20,6 +20,10 @@
 // which all of its validators read. There a token is judged (Validator.Judge), its
 // use goes into the log, and Validator.Read says whether the token is accepted.
 //
+// A service that answers many requests at once, keeps what it accepts on a disk, or
+// claims tokens in a group's store, opens a member (Validator.OpenMember). It says for
+// each request what is to be done before the answer, and what the answer is: a [Deed].
+//
 // An error that is a [Refusal] says why the token is refused, and
 // errors.Is(err, svid.Replayed) tests for one reason. Any other error means
 // that the token could not be judged: it was not accepted, and the caller may

@@ -64,6 +64,17 @@ var callWords = map[C.uint32_t]string{
 	C.SVID_BUNDLES_UNNAMED:    "the document is the bundle of one trust domain, without its name: name it",
 	C.SVID_BUNDLES_TWICE:      "an earlier document has a bundle of this trust domain: leave one of them out",
 	C.SVID_BUNDLES_LENGTHS:    "the lengths of the documents do not add up to the length of bytes",
+	C.SVID_CLAIM_WITHDRAWN:    "the entry says that the token was withdrawn",
+	C.SVID_CLAIM_TAKEN:        "the entry is another's, so the token was used",
+	C.SVID_CLAIM_FAR:          "the token expires more than lasts seconds past the store's time: set the store's clock right",
+	C.SVID_CLAIM_DEAF:         "the token may have been claimed before the store lost entries: present a token that was issued later",
+	C.SVID_CLAIM_EXPIRED:      "the token has expired",
+	C.SVID_NO_MEMBER:          "the validator has no member: open one",
+	C.SVID_UNASKED:            "the request does not wait for that, or its time is over",
+	C.SVID_NO_MODE:            "the number is none of a mode",
+	C.SVID_LATE:               "the time of the request was over before it had an answer: try again",
+	C.SVID_NOT_KEPT:           "the state folder did not take the acceptance: mend the disk",
+	C.SVID_LEFT:               "nobody waits for the answer any more",
 }
 
 // lists:end
@@ -150,6 +161,10 @@ var statusErrors = map[C.uint32_t]error{
 	C.SVID_NOT_SUMMARY:        ErrNotSummary,
 	C.SVID_BUNDLES_NOT_OBJECT: ErrBundles,
 	C.SVID_OWN_NOT_UTF8:       ErrAudience,
+	C.SVID_IS_OPEN:            ErrIsOpen,
+	C.SVID_NO_MEMBER:          ErrNoMember,
+	C.SVID_NO_MODE:            ErrNoMode,
+	C.SVID_UNASKED:            ErrUnasked,
 }
 
 // failure is the error of a status, or nil for SVID_OK.
@@ -157,8 +172,10 @@ func failure(status C.uint32_t, told *C.svid_told) error {
 	switch {
 	case status == C.SVID_OK:
 		return nil
-	case status >= C.SVID_TOO_LONG: // (no other status has a number as great)
+	case status >= C.SVID_TOO_LONG && status <= C.SVID_REPLAYED: // (no other status has a number between these)
 		return Refusal(status)
+	case status >= C.SVID_ENDED && status <= C.SVID_DEAF:
+		return Unready(status)
 	case status == C.SVID_BUNDLES_DOMAIN:
 		return &BundleError{Reason: "Domain", Index: int(told.offset)}
 	case status == C.SVID_BUNDLES_KEYS:

@@ -4,6 +4,7 @@ import (
 	"errors"
 	"fmt"
 	"log"
+	"time"
 
 	"svid.example/go/v2/svid"
 )
@@ -129,4 +130,56 @@ func ExampleValidator_Withdraw() {
 	_, err = validator.Check(moment, token, yes)
 	fmt.Println(errors.Is(err, svid.Withdrawn))
 	// Output: true
+}
+
+// A service that keeps what it accepts on a disk asks a member what to do for each request.
+func ExampleValidator_OpenMember() {
+	keyring, err := svid.NewKeyring(example.Bundles())
+	if err != nil {
+		log.Fatal(err)
+	}
+	defer keyring.Close()
+	validator, err := svid.Open(svid.Options{Audiences: []string{"ledger"}, Bundles: example.Bundles(), Longest: 3600, Ahead: 10})
+	if err != nil {
+		log.Fatal(err)
+	}
+	defer validator.Close()
+	life, err := svid.NewLife()
+	if err != nil {
+		log.Fatal(err)
+	}
+	if err := validator.OpenMember(svid.MemberTerms{Mode: svid.MemberOnce, Disk: true, Wait: 5 * time.Second, Life: life}); err != nil {
+		log.Fatal(err)
+	}
+	// The record of the disk is read, and there is neither a store nor a broker.
+	if err := validator.Know(svid.Known{Bundled: true, Loaded: true, Opened: true, Heard: true, Joined: true, CaughtUp: true}); err != nil {
+		log.Fatal(err)
+	}
+
+	now, began := uint64(1767225600), time.Now()
+	token := svid.NewToken(example.Token("ES256", map[string]any{"sub": "spiffe://example.org/web", "aud": "ledger", "exp": now + 300}))
+	defer token.Close()
+	for i := 0; i < 2; i++ {
+		deed, err := validator.Come(time.Since(began))
+		if err != nil {
+			log.Fatal(err)
+		}
+		if _, err := keyring.VerifyToken(&token); err != nil {
+			log.Fatal(err)
+		}
+		_, deed, err = validator.JudgeRequest(now, time.Since(began), deed.Number, &token)
+		if deed.Kind == svid.DeedAppend {
+			fmt.Println("to the disk:", deed.Used.Expires)
+			deed, err = validator.Wrote(time.Since(began), deed.Number, true)
+		}
+		if deed.Kind == svid.DeedAnswer {
+			fmt.Println("answer:", deed.Err)
+		} else if err != nil {
+			log.Fatal(err)
+		}
+	}
+	// Output:
+	// to the disk: 1767225900
+	// answer: <nil>
+	// answer: svid: token refused: Replayed
 }

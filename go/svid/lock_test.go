@@ -119,7 +119,7 @@ func TestEachCallOfAValidatorHoldsItsLock(t *testing.T) {
 	if err != nil {
 		t.Fatal(err)
 	}
-	read := [2]Token{NewToken(token), NewToken(token)}
+	read := [4]Token{NewToken(token), NewToken(token), NewToken(token), NewToken(token)}
 	for i := range read {
 		defer read[i].Close()
 		if _, err := k.VerifyToken(&read[i]); err != nil {
@@ -133,20 +133,32 @@ func TestEachCallOfAValidatorHoldsItsLock(t *testing.T) {
 		"CheckClaimed": func() { _, _ = v.CheckClaimed(now, token, yes, batchOf(judged.Use)) },
 		"CheckToken":   func() { _, _ = v.CheckToken(now, &read[0]) },
 		"Close":        v.Close,
+		"Come":         func() { _, _ = v.Come(1) },
+		"Due":          func() { _, _, _ = v.Due() },
 		"Edition":      func() { _ = v.Edition() },
+		"Found":        func() { _, _, _ = v.Found(now, 1, 0, [32]byte{}, Found{}, &read[2]) },
 		"GoOn":         func() { _ = v.GoOn() },
 		"Judge":        func() { _, _ = v.Judge(now, token, yes) },
 		"JudgeAgain":   func() { _ = v.JudgeAgain(now, judged) },
+		"JudgeRequest": func() { _, _, _ = v.JudgeRequest(now, 1, 0, &read[3]) },
 		"JudgeToken":   func() { _, _ = v.JudgeToken(now, &read[1]) },
+		"Judges":       func() { _ = v.Judges() },
+		"Know":         func() { _ = v.Know(Known{}) },
+		"Leave":        func() { _, _ = v.Leave(1, 0) },
 		"LogBeside":    func() { _, _ = v.LogBeside() },
 		"LogMark":      func() { _, _, _ = v.LogMark() },
 		"OpenLog":      func() { _ = v.OpenLog(Log{}) },
+		"OpenMember":   func() { _ = v.OpenMember(MemberTerms{}) },
+		"Overdue":      func() { _, _ = v.Overdue(1) },
 		"Read":         func() { _, _ = v.Read(now, 1, nil, 1, nil) },
 		"ReadEach":     func() { _, _ = v.ReadEach(now, 1, [][]byte{nil}, 1, nil, nil) },
+		"Ready":        func() { _ = v.Ready() },
 		"Save":         func() { _ = v.Save(&bytes.Buffer{}) },
 		"Renew":        func() { _ = v.Renew(k, one.Bundles()) },
+		"Send":         func() { _, _ = v.Send(1, 0) },
 		"SetAudiences": func() { _ = v.SetAudiences([]string{"other"}) },
 		"SetBundles":   func() { _ = v.SetBundles(one.Bundles()) },
+		"SetRules":     func() { _ = v.SetRules([]string{"other"}, nil) },
 		"Size":         func() { _, _ = v.Size() },
 		"Summary":      func() { _, _ = v.Summary() },
 		"Take":         func() { _ = v.Take(now, batchOf(judged.Use)) },
@@ -156,6 +168,11 @@ func TestEachCallOfAValidatorHoldsItsLock(t *testing.T) {
 		"WalkSummary":  func() { _, _ = v.WalkSummary(0) },
 		"Withdraw":     func() { _, _ = v.Withdraw(now, judged.Use.Key, now+300) },
 		"WithdrawOnce": func() { _, _ = v.WithdrawOnce(now, judged.Use.Key, now+300) },
+		"Wrote":        func() { _, _ = v.Wrote(1, 0, true) },
+
+		"WithdrawalCome":    func() { _, _, _ = v.WithdrawalCome(1) },
+		"WithdrawalOverdue": func() { _, _, _ = v.WithdrawalOverdue(1) },
+		"WithdrawalTold":    func() { _, _, _ = v.WithdrawalTold(0, KeeperDisk, true) },
 	}
 	methods(t, v, calls)
 	v.mu.Lock()

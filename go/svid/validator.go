@@ -80,6 +80,12 @@ type Validator struct {
 	fates    []C.svid_fate
 	readings []C.svid_reading
 	status   C.uint32_t
+	// And of a member.
+	deed       C.svid_deed
+	found      C.svid_found
+	caller     [32]byte
+	due        C.svid_deadline
+	withdrawal C.svid_withdrawal
 
 	terms   C.svid_terms // of its whole life
 	bundles uint64       // how often there were other bundles or audiences, the first included; guarded by mu
@@ -87,6 +93,8 @@ type Validator struct {
 	large   bool         // they may have more keys than may be tried under the lock; guarded by mu
 	rows    []byte       // room for their candidates; guarded by mu
 	log     Log          // its Ready and Lasts, of the log that the validator reads; guarded by mu
+	answers bool         // it has a member; guarded by mu
+	allow   []string     // patterns of who may call that; nil allows all; guarded by mu
 }
 
 // Open returns a validator with an empty record. To go on with a saved record,

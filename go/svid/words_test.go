@@ -72,6 +72,12 @@ func TestCallErrorsInWords(t *testing.T) {
 		"TOO_MUCH": svid.ErrTooMuch, "NOT_SUMMARY": svid.ErrNotSummary, "NO_LOG": svid.ErrNoLog, "HAS_LOG": svid.ErrHasLog,
 		"BUNDLES_NOT_OBJECT": svid.ErrBundles, "FOLDER_ENDED": svid.ErrFolderEnded, "FOLDER_FULL": svid.ErrFolderFull,
 		"FOLDER_TOO_LONG": svid.ErrPayload, "FILE_TEAR": svid.ErrTorn, "FILE_DAMAGE": svid.ErrDamaged,
+		"NO_MEMBER": svid.ErrNoMember, "IS_OPEN": svid.ErrIsOpen, "NO_MODE": svid.ErrNoMode, "UNASKED": svid.ErrUnasked,
+		"CLAIM_FAR": svid.ErrClaimFar, "CLAIM_DEAF": svid.ErrClaimDeaf, "LATE": svid.ErrLate, "NOT_KEPT": svid.ErrNotKept, "LEFT": svid.ErrLeft,
+		"ENDED": svid.UnreadyEnded, "NO_BUNDLE": svid.UnreadyNoBundle, "LOADING": svid.UnreadyLoading, "STORE_UNREACHED": svid.UnreadyStoreUnreached,
+		"WITHDRAWALS_UNREAD": svid.UnreadyWithdrawalsUnread, "BROKER_UNREACHED": svid.UnreadyBrokerUnreached, "GROUP_UNREAD": svid.UnreadyGroupUnread,
+		"DRAINING": svid.UnreadyDraining, "JUMPED": svid.UnreadyJumped, "KEEPS_NOTHING": svid.UnreadyKeepsNothing, "STORE_AWAY": svid.UnreadyStoreAway,
+		"DEAF": svid.UnreadyDeaf,
 	} {
 		if want := "svid: " + listedStatus(t, name).whole(); err.Error() != want {
 			t.Errorf("%s says %q, and not %q", name, err, want)

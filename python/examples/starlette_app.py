@@ -32,7 +32,15 @@ async def health(_: Request) -> PlainTextResponse:
     return PlainTextResponse("ready")
 
 
+async def ready(_: Request) -> PlainTextResponse:
+    """Whether a load balancer is to send tokens to this process, and why not."""
+    why = validator.unready()
+    return PlainTextResponse(why or "ready", 503 if why else 200)
+
+
 app = Starlette(
-    routes=[Route("/", hello), Route("/healthz", health)],
-    middleware=[Middleware(SvidMiddleware, validator=validator, open_paths=["/healthz"])],
+    routes=[Route("/", hello), Route("/healthz", health), Route("/readyz", ready)],
+    middleware=[
+        Middleware(SvidMiddleware, validator=validator, open_paths=["/healthz", "/readyz"])
+    ],
 )

@@ -11,7 +11,8 @@
         print("refused:", why)
 
 `Validator` is the whole of it for one process, and `Validator(state=..)` keeps its record over
-restarts. Several processes tell each other by messages, or have the sidecar svidd in front of them.
+restarts. Several processes share a store (`Validator(mode="strict", store=..)`), tell each other by
+messages, or have the sidecar svidd in front of them.
 `Refused` has a subclass for each of the 25 reasons to refuse a token. `svid.asgi` and `svid.wsgi`
 are middlewares for web services.
 """
@@ -21,7 +22,6 @@ from __future__ import annotations
 from ._allow import allows
 from ._bundles import Bundle, Bundles, from_workload_api
 from ._journal import Journal
-from ._member import Member
 from ._signatures import Verifies
 from ._validator import Validator
 from .errors import (
@@ -34,6 +34,7 @@ from .errors import (
     Gone,
     Held,
     Jump,
+    NotAllowed,
     OtherFormat,
     Refused,
     TooFar,
@@ -71,6 +72,7 @@ from .errors import (  # the refusals
 
 # lists:end
 from .records import Accepted, Report, Use
+from .stores import WITHDRAWN, Claim, Found, MemoryStore, Store
 
 __all__ = [
     "Accepted",
@@ -78,23 +80,28 @@ __all__ = [
     "BadMessages",
     "Bundle",
     "Bundles",
+    "Claim",
     "Closed",
     "Damaged",
     "Error",
     "Forked",
+    "Found",
     "Gone",
     "Held",
     "Journal",
     "Jump",
-    "Member",
+    "MemoryStore",
+    "NotAllowed",
     "OtherFormat",
     "Refused",
     "Report",
+    "Store",
     "TooFar",
     "Unavailable",
     "Use",
     "Validator",
     "Verifies",
+    "WITHDRAWN",
     "allows",
     "from_workload_api",
 ]

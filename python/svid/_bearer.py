@@ -8,14 +8,15 @@ from http import HTTPStatus
 from typing import Any, NamedTuple, Union
 
 from . import _library as lib
-from ._allow import may_call, patterns
 from ._paths import Paths
 from ._validator import Validator
-from .errors import Refused, TooLong, Unavailable
+from .errors import NotAllowed, Refused, TooLong, Unavailable
 from .records import Accepted
 
 Reuse = Union[Iterable[str], Callable[[Any], bool]]
 """Paths, or a function of the scope or the environ that says whether a request is one of these."""
+Caller = Union[Callable[[Any], bytes], None]
+"""A function of the scope or the environ that says who presents the token; `Validator.check`."""
 
 
 class Admission(NamedTuple):
@@ -35,8 +36,6 @@ _NOT_BEARER = Admission(
     HTTPStatus.UNAUTHORIZED,
     'Bearer error="invalid_request", error_description="NotBearer"',
 )
-
-
 _NOT_ALLOWED = Admission(
     None,
     HTTPStatus.FORBIDDEN,
@@ -50,16 +49,16 @@ class Terms:
     def __init__(
         self,
         validator: Validator,
-        allow: Iterable[str] | None,
         reuse: Reuse,
         open_paths: Iterable[str],
+        caller: Caller,
     ) -> None:
-        """Raises ValueError for an empty list, for what is no pattern, and for what is no path."""
+        """Raises ValueError for what is no path."""
         self._validator = validator
-        self._allow = patterns(allow)
         self._reuse: Paths | Callable[[Any], bool]
         self._reuse = reuse if callable(reuse) else Paths(reuse)
         self._open = Paths(open_paths)
+        self._caller = caller
 
     def is_open(self, readings: Sequence[str]) -> bool:
         """Whether a request needs no token, by the ways to read its path."""
@@ -75,32 +74,35 @@ class Terms:
             raise TypeError(f"a function for reuse returns True or False, and not a {kind}")
         return answer
 
-    def admit(self, authorization: Sequence[bytes], reuses: bool) -> Admission:
-        """Checks the one token of a request, by the values of all its headers Authorization.
+    def caller(self, request: Mapping[str, Any]) -> bytes | None:
+        """Who sends a request, where that counts."""
+        return None if self._caller is None else self._caller(request)
 
-        A token whose subject none of the patterns allows, where there are some, is not used up.
-        """
+    def admit(
+        self, authorization: Sequence[bytes], reuses: bool, caller: bytes | None
+    ) -> Admission:
+        """Checks the one token of a request, by the values of all its headers Authorization."""
         try:
-            token = self._may_call(authorization)
+            token = _token(authorization)
             if isinstance(token, Admission):
                 return token
-            judge = self._validator.judge if reuses else self._validator.check
-            return Admission(judge(token))
+            if reuses:
+                return Admission(self._validator.judge(token))
+            if caller is None:
+                return Admission(self._validator.check(token))
+            return Admission(self._validator.check(token, caller=caller))
+        except NotAllowed:
+            return _NOT_ALLOWED
         except (Refused, Unavailable) as why:
             return _turned_away(why)
 
-    async def admit_soon(self, authorization: Sequence[bytes], reuses: bool) -> Admission:
+    async def admit_soon(
+        self, authorization: Sequence[bytes], reuses: bool, caller: bytes | None
+    ) -> Admission:
         """Does the same, and lets the event loop go on while the check waits."""
         if reuses or not self._validator.waits:
-            return self.admit(authorization, reuses)
-        return await asyncio.to_thread(self.admit, authorization, reuses)
-
-    def _may_call(self, authorization: Sequence[bytes]) -> bytes | Admission:
-        """The token of a caller that may call, or the answer to another one."""
-        token = _token(authorization)
-        if isinstance(token, bytes) and not may_call(self._validator, token, self._allow):
-            return _NOT_ALLOWED
-        return token
+            return self.admit(authorization, reuses, caller)
+        return await asyncio.to_thread(self.admit, authorization, reuses, caller)
 
 
 def _token(authorization: Sequence[bytes]) -> bytes | Admission:

@@ -13,7 +13,8 @@ from typing import Any
 from . import _library as lib
 from ._bundles import bundle_words
 from ._signatures import Verifies
-from ._trust import Trust, first
+from ._token import Token
+from ._words import no_memory, said
 from .errors import (
     REFUSALS,
     BadBundles,
@@ -22,27 +23,18 @@ from .errors import (
     Forked,
     Gone,
     Jump,
+    NotAllowed,
     TooFar,
+    Unavailable,
 )
-from ._words import no_memory, said
 from .records import Accepted, Use
 
 _USE = struct.Struct("=QQ32s16s")
-_ROW = struct.Struct(">32s4x5sI")  # a question, the algorithm, the length of the key
 _MOST = lib.size(lib.MOST_CANDIDATES)
-_LONG = 8192  # a token of so many bytes may take some milliseconds to read: other threads go on
 _ROOM = 65_536
 _ROOM_SIZE = lib.size(_ROOM)
-_NONE = lib.size(0)
-_ONE = lib.size(1)
 
 _Call = Callable[..., int]
-Calls = tuple[_Call, _Call]
-"""How to judge a short token, and how a long one."""
-
-_ASK: _Call = lib.quick.svid_validator_ask
-CHECK: Calls = (lib.quick.svid_validator_check, lib.library.svid_validator_check)
-JUDGE: Calls = (lib.quick.svid_validator_judge, lib.library.svid_validator_judge)
 
 
 class _LeftBehind:
@@ -84,11 +76,15 @@ class Handle:
         self._told_at = lib.address(self._told)
         self._room_at = lib.address(self._room)
         self._used_at = lib.address(self._used)
+        self._out = (self._room_at, _ROOM_SIZE, self._used_at)
+        self._bundles = object()  # another one for each renewal
         terms = lib.Terms(longest, ahead, step, (ctypes.c_uint8 * 16)(*validator_id))
-        self._trust = _opened(bundles)
         names, lens = b"".join(own), (ctypes.c_size_t * len(own))(*map(len, own))
         lent = (lib.address(terms), names, len(names), lib.address(lens), len(own))
-        self._run(lib.library.svid_validator_open_by_lengths, *lent, bundles, len(bundles))
+        opens = lib.library.svid_validator_open_by_lengths
+        status = opens(self._at, *lent, bundles, len(bundles), self._told_at)
+        if status != lib.OK:
+            raise _bundles_fault(status, self._told)
         self._freeing = weakref.finalize(self, _close, self._words)
         self._freeing.atexit = False  # a thread that outlives the interpreter may be in a call
         _handles.add(self)
@@ -98,13 +94,15 @@ class Handle:
         if self._freeing.alive:
             with self._lock:
                 self._freeing()
-            self._trust.close()
+                self._end()
 
-    def leave(self) -> None:
+    def _end(self) -> None:
+        """The validator is closed, and the lock is held."""
+
+    def leave_behind(self) -> None:
         """Leaves it to the parent process: the fork may have come while a thread was in a call."""
         self._freeing.detach()
         self._lock = _LeftBehind()
-        self._trust.leave(self._lock)
 
     def stand(self) -> None:
         """Raises Forked, and waits for nothing."""
@@ -116,67 +114,59 @@ class Handle:
 
         They are read before the lock is taken, and the old ones are freed after it.
         """
-        asked, judged = _opened(bundles), _opened(bundles)
+        words, told = (ctypes.c_uint64 * 2)(), lib.Told()
+        at = lib.address(words)
+        status = lib.library.svid_bundles_open(at, bundles, len(bundles), lib.address(told))
+        if status != lib.OK:
+            raise _bundles_fault(status, told)
         try:
             with self._lock:
-                lent = (self._at, judged.at, self._told_at)
-                status = lib.library.svid_validator_renew_by(*lent)
+                status = lib.library.svid_validator_renew_by(self._at, at, self._told_at)
                 if status != lib.OK:
                     raise self._fault(status)
-                asked, self._trust = self._trust, asked
+                self._bundles = object()
         finally:
-            asked.close()
-            judged.close()
+            lib.library.svid_bundles_close(at)
 
-    def check(self, calls: Calls, now: int, token: bytes, verifies: Verifies) -> Accepted:
-        """Judges a token by CHECK or JUDGE. Raises Refused.
+    def read(self, text: bytes, now: int) -> Token:
+        """Reads a token. Raises Refused for what is none, and then advances the record too."""
+        token = Token(text)
+        if token.status != lib.OK:
+            self.tick(now)
+            raise fault(token.status, token.told)
+        return token
 
-        The lock is free while a signature is verified, and while a long token is read.
-        """
-        is_long = len(token) >= _LONG
-        judge = calls[is_long]
-        at, size, room, told = self._at, lib.size(len(token)), self._room_at, self._told_at
-        when, used = lib.moment(now), self._used_at
+    def judge(self, token: Token, now: int, verifies: Verifies) -> Accepted:
+        """Says what a check would, and adds nothing. Raises Refused."""
+        call, at = lib.quick.svid_validator_judge_token, (self._at, lib.moment(now))
         while True:
-            trust, yes = (self._long if is_long else self._short)(token, size, verifies)
-            count = _ONE if yes else _NONE
+            self.find(token, verifies)
             with self._lock:
-                if yes and trust is not self._trust:
-                    continue  # The question may be of a key that is not there any more.
-                status = judge(at, when, yes, count, token, size, room, _ROOM_SIZE, used, told)
+                if token.bundles is not self._bundles:
+                    continue
+                status = call(*at, *token.evidence, token.at, *self._out, self._told_at)
                 if status != lib.OK:
                     raise self._fault(status)
-                subject = self._room[: self._told.len].decode()
                 expires, moment, key, validator_id = _USE.unpack(self._used)
-            return Accepted(subject, Use(expires, key, validator_id, moment))
+                return Accepted(self._subject(), Use(expires, key, validator_id, moment))
 
-    def _short(self, token: bytes, size: Any, verifies: Verifies) -> tuple[Trust, bytes]:
-        """The question that a token's signature answers, or nothing, and the bundles it is of.
+    def find(self, token: Token, verifies: Verifies) -> None:
+        """Finds the key that made the signature of a token, among those of the bundles now.
 
-        The questions of all keys that are tried cost less than another call would.
+        The lock is free while signatures are verified.
         """
+        ask: _Call = lib.quick.svid_validator_ask_token
         with self._lock:
-            trust, lent = self._trust, (token, size, _MOST)
-            status = _ASK(self._at, *lent, self._room_at, _ROOM_SIZE, self._told_at)
+            token.bundles = self._bundles
+            lent = (token.at, _MOST)
+            status = ask(self._at, *lent, self._room_at, _ROOM_SIZE, self._told_at)
             if status == lib.OK:
                 rows = self._view[: self._told.len].tobytes()
             elif status in REFUSALS:
-                # Another reason may come before this one, and `now` is to be told.
-                return trust, b""
+                rows = b""  # Another reason may come before this one, and `now` is to be told.
             else:
-                rows = self._rest(status, _ASK, *lent)
-        found = first(_ROW, rows, token, size, verifies)
-        return trust, rows[found[1] : found[1] + 32] if found else b""
-
-    def _long(self, token: bytes, size: Any, verifies: Verifies) -> tuple[Trust, bytes]:
-        """The same of a long token, without the lock. It is hashed for the key that verified it."""
-        while True:
-            trust = self._trust
-            status, yes = trust.answer(token, size, verifies)
-            if status == lib.OK or status in REFUSALS:
-                return trust, yes
-            if trust is self._trust:
-                raise fault(status, trust.told)
+                rows = self._rest(status, ask, *lent)
+        token.look(rows, verifies)
 
     def withdraw(self, now: int, key: bytes, expires: int) -> Use:
         """Withdraws the token with this key of 32 bytes. Raises Gone."""
@@ -212,6 +202,10 @@ class Handle:
         """The answer to the summary of another validator."""
         return self._written(lib.library.svid_validator_answer, now, summary, len(summary))
 
+    def _subject(self) -> str:
+        """The subject that the last call has written."""
+        return self._room[: self._told.len].decode()
+
     def _run(self, call: _Call, *lent: Any) -> int:
         """Makes a call, and gives the length that it tells."""
         with self._lock:
@@ -243,17 +237,26 @@ class Handle:
         return fault(status, self._told)
 
 
-def fault(status: int, told: lib.Told) -> Exception:
+def fault(status: int, told: lib.Told | None = None) -> Exception:
     """The exception for a status that is not OK."""
     if status in REFUSALS:
         return REFUSALS[status]()
     if status in _FAULTS:
         return _FAULTS[status]()
-    if status in lib.MESSAGE_FAULTS:
+    if status in _UNAVAILABLE:
+        return Unavailable(said(status))
+    if told and status in lib.MESSAGE_FAULTS:
         return BadMessages(lib.MESSAGE_FAULTS[status], told.message, told.offset)
+    return RuntimeError(f"libsvid answered {status}, which include/svid.h does not explain")
+
+
+def _bundles_fault(status: int, told: lib.Told) -> Exception:
+    """The exception for a status of bundles that is not OK."""
+    if status == lib.TOO_MUCH:
+        return BadBundles(said(status))
     if status in (lib.BUNDLES_NOT_OBJECT, lib.BUNDLES_DOMAIN, lib.BUNDLES_KEYS):
         return BadBundles(bundle_words(status, told.offset))
-    return RuntimeError(f"libsvid answered {status}, which include/svid.h does not explain")
+    return fault(status, told)
 
 
 _FAULTS: dict[int, Callable[[], Exception]] = {
@@ -262,17 +265,9 @@ _FAULTS: dict[int, Callable[[], Exception]] = {
     lib.GONE: Gone,
     lib.TOO_FAR: TooFar,
     lib.JUMP: Jump,
+    lib.NOT_ALLOWED: NotAllowed,
 }
-
-
-def _opened(bundles: bytes) -> Trust:
-    """These bundles. Raises BadBundles."""
-    trust = Trust(bundles)
-    if trust.status == lib.TOO_MUCH:
-        raise BadBundles(said(trust.status))
-    if trust.status != lib.OK:
-        raise fault(trust.status, trust.told)
-    return trust
+_UNAVAILABLE = {lib.CLAIM_FAR, lib.CLAIM_DEAF, lib.LATE, lib.NOT_KEPT, lib.LEFT, *lib.UNREADY}
 
 
 def _close(words: ctypes.Array[ctypes.c_uint64]) -> None:
@@ -281,7 +276,7 @@ def _close(words: ctypes.Array[ctypes.c_uint64]) -> None:
 
 def _leave_all() -> None:
     for handle in list(_handles):
-        handle.leave()
+        handle.leave_behind()
 
 
 _handles: weakref.WeakSet[Handle] = weakref.WeakSet()

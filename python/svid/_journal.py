@@ -14,6 +14,7 @@ import threading
 import time
 import weakref
 from collections.abc import Callable, Iterable
+from typing import Union
 
 from . import _library as lib
 from ._bundles import Path
@@ -39,6 +40,7 @@ _MOST = lib.PAYLOAD_MOST
 """The most bytes of messages that one write takes."""
 
 _Parts = Callable[[], Iterable[bytes]]
+_Told = Callable[[Union[Exception, None]], None]
 
 
 class Journal:
@@ -103,7 +105,11 @@ class Journal:
 
     def append_soon(self, messages: bytes) -> None:
         """Does that in the background. Logs a warning by "svid" where it fails."""
-        self._keeper.append_soon(bytes(messages))
+        self._keeper.keep(bytes(messages), _warn)
+
+    def keep(self, messages: bytes, told: Callable[[Exception | None], None]) -> None:
+        """Does that in the background, and calls `told` with why it failed, or with None."""
+        self._keeper.keep(bytes(messages), told)
 
     def snapshot(self, parts: _Parts) -> None:
         """Replaces the snapshot by the `parts` of the validator, and drops the journals before it.
@@ -128,9 +134,16 @@ class _Commit:
     def __init__(self) -> None:
         self.parts: list[bytes] = []
         self.len = 0
-        self.is_soon = False  # somebody waits for none of it
         self.done = threading.Event()
+        self.told: list[_Told] = []  # who else is to know
         self.why: Exception | None = None
+
+    def end(self) -> None:
+        """Tells who waits what came of it."""
+        self.done.set()
+        for tell in self.told:
+            with contextlib.suppress(Exception):  # (who is told must not end the writing)
+                tell(self.why)
 
 
 class _Keeper:
@@ -181,12 +194,12 @@ class _Keeper:
         if commit.why is not None:
             raise Unavailable(f"the use is not kept: {commit.why}") from commit.why
 
-    def append_soon(self, messages: bytes) -> None:
+    def keep(self, messages: bytes, told: _Told) -> None:
         try:
             self._stand()
-            self._join(messages, is_soon=True)
+            self._join(messages, told=told)
         except Error as why:
-            _LOG.warning("uses are not kept: %s", why)
+            told(why)
 
     @property
     def wants_snapshot(self) -> bool:
@@ -352,7 +365,7 @@ class _Keeper:
             with self._gate:
                 self._snapshots -= 1
 
-    def _join(self, messages: bytes, is_soon: bool = False) -> _Commit:
+    def _join(self, messages: bytes, told: _Told | None = None) -> _Commit:
         """Adds messages to what the next write takes."""
         if len(messages) > _MOST:
             raise ValueError("messages have at most 16,777,215 bytes")
@@ -367,7 +380,8 @@ class _Keeper:
                 raise Unavailable("the disk does not answer, and too much waits for it")
             commit.parts.append(messages)
             commit.len += len(messages)
-            commit.is_soon = commit.is_soon or is_soon
+            if told is not None:
+                commit.told.append(told)
             return commit
 
     def _work(self) -> None:
@@ -386,11 +400,9 @@ class _Keeper:
                     quiet = None
                 else:
                     commit.why = self._put_commit(commit)
-                    commit.done.set()
                     quiet = _QUIET
-            if commit is not None and commit.is_soon and commit.why is not None:
-                with contextlib.suppress(Exception):  # (who is warned must not end the writing)
-                    _LOG.warning("uses are not kept: %s", commit.why)
+            if commit is not None:
+                commit.end()
         with self._switching, self._writing:
             self._mark()
             done, self._file = self._file, -1
@@ -476,6 +488,11 @@ def _joined(payloads: list[bytes]) -> Iterable[bytes]:
             some, size = [], 0
     if some:
         yield b"".join(some)
+
+
+def _warn(why: Exception | None) -> None:
+    if why is not None:
+        _LOG.warning("uses are not kept: %s", why)
 
 
 def _close(file: int) -> None:

@@ -43,7 +43,14 @@ MESSAGE_FAULTS = {
 BEARER_SEVERAL = 82
 BEARER_SPELLING = 84
 NOT_ALLOWED = 91
+CLAIM_FAR = 58
+CLAIM_DEAF = 59
 TOO_LONG = 101
+LATE = 201
+NOT_KEPT = 202
+LEFT = 203
+UNREADY = range(211, 223)
+"""Why a member judges no token, or why none is to be sent to it."""
 
 # lists:begin folder (written by tools/lists from lists/statuses.toml)
 FOLDER_FAULTS = {
@@ -68,6 +75,21 @@ FILE_END = 52
 FILE_TEAR = 53
 FILE_DAMAGE = 54
 FILE_OTHER = 55
+
+MODES = {"once": 0, "strict": 1, "bound": 2, "reuse": 3}
+"""The modes of a member, by their names."""
+DEED_NOTHING = 0
+DEED_JUDGE = 1
+DEED_APPEND = 2
+DEED_CLAIM = 3
+DEED_ANSWER = 4
+AT_DISK = 0
+AT_STORE = 1
+AT_LOG = 2
+MAY_LACK = 2
+"""What `svid_withdrawal` has where the withdrawal may not be."""
+NONE = 2**64 - 1
+"""No request, no withdrawal, no moment."""
 
 CALL_NOTHING = 0
 CALL_CREATE_JOURNAL = 1
@@ -141,13 +163,6 @@ class Id(ctypes.Structure):
     offset: int
     domain_len: int
     path_len: int
-
-
-class Signed(ctypes.Structure):
-    """`svid_signed`: what a token's signature is made over."""
-
-    _fields_ = [("len", c_size_t)]
-    len: int
 
 
 class Entry(ctypes.Structure):
@@ -251,6 +266,64 @@ class Frame(ctypes.Structure):
     format: int
 
 
+class MemberTerms(ctypes.Structure):
+    """`svid_member_terms`: what a member is given for its life."""
+
+    _fields_ = [
+        ("mode", c_uint64),
+        ("disk", c_uint64),
+        ("store", c_uint64),
+        ("log", c_uint64),
+        ("wait", c_uint64),
+        ("ahead", c_uint64),
+        ("lasts", c_uint64),
+        ("life", c_uint8 * 16),
+    ]
+
+
+class Known(ctypes.Structure):
+    """`svid_known`: what a member is told that it knows."""
+
+    _fields_ = [
+        ("bundled", c_uint64),
+        ("loaded", c_uint64),
+        ("opened", c_uint64),
+        ("heard", c_uint64),
+        ("joined", c_uint64),
+        ("caught_up", c_uint64),
+        ("draining", c_uint64),
+        ("jumped", c_uint64),
+        ("full", c_uint64),
+        ("away", c_uint64),
+        ("deaf", c_uint64),
+        ("ended", c_uint64),
+    ]
+
+
+class Deadline(ctypes.Structure):
+    """`svid_deadline`: a moment by the clock that only goes ahead."""
+
+    _fields_ = [("at", c_uint64)]
+    at: int
+
+
+class Withdrawal(ctypes.Structure):
+    """`svid_withdrawal`: how far a withdrawal is at each place."""
+
+    _fields_ = [("number", c_uint64), ("disk", c_uint64), ("store", c_uint64), ("log", c_uint64)]
+    number: int
+    disk: int
+    store: int
+
+
+class Pacing(ctypes.Structure):
+    """`svid_pacing`: when the claims that wait go out."""
+
+    _fields_ = [("calls", c_uint64), ("at", c_uint64), ("pause", c_uint64)]
+
+
+PACING_FIRST = (0, 0, 10)
+
 _MAJOR = 2
 _LENT = [c_char_p, c_size_t]
 _OUT = [c_void_p, c_size_t]
@@ -279,6 +352,16 @@ _CALLS = {
     "svid_journal_unwritten": _FOLDER,
     "svid_key_spki": [*_LENT, *_LENT, c_size_t, *_OUT, *_TOLD],
     "svid_token_says": [*_LENT, c_void_p, *_OUT, *_OUT, *_TOLD],
+    "svid_member_due": [*_VALIDATOR, c_void_p],
+    "svid_member_know": [*_VALIDATOR, c_void_p],
+    "svid_member_leave": [*_VALIDATOR, *_NOW, c_uint64, c_void_p],
+    "svid_member_open": [*_VALIDATOR, c_void_p],
+    "svid_member_overdue": [*_VALIDATOR, *_NOW, c_void_p],
+    "svid_member_ready": _VALIDATOR,
+    "svid_member_rules": [*_VALIDATOR, *_LENT, c_uint64, *_LENT],
+    "svid_member_send": [*_VALIDATOR, *_NOW, c_uint64, c_void_p],
+    "svid_member_wrote": [*_VALIDATOR, *_NOW, c_uint64, c_uint64, c_void_p],
+    "svid_pacing_may_send": [c_void_p, *_NOW, c_uint64],
     "svid_report": [*_LENT, *_NOW, *_OUT, *_TOLD],
     "svid_validator_answer": [*_VALIDATOR, *_NOW, *_LENT, *_OUT, *_TOLD],
     "svid_validator_open_by_lengths": [*_VALIDATOR, c_void_p, *_LENT, *_OUT, *_LENT, *_TOLD],
@@ -289,14 +372,31 @@ _CALLS = {
     "svid_validator_tick": [*_VALIDATOR, *_NOW, *_TOLD],
     "svid_validator_withdraw": [*_VALIDATOR, *_NOW, c_char_p, c_uint64, c_void_p, *_TOLD],
     "svid_version": [],
+    "svid_withdrawal_come": [*_VALIDATOR, *_NOW, c_void_p],
+    "svid_withdrawal_overdue": [*_VALIDATOR, *_NOW, c_void_p],
+    "svid_withdrawal_told": [*_VALIDATOR, c_uint64, c_uint64, c_uint64, c_void_p],
+}
+_CALLS_OF_NO_STATUS: dict[str, tuple[list[Any], Any]] = {
+    "svid_bundles_close": (_VALIDATOR, None),
+    "svid_claim_deaf": ([c_uint64, c_uint64, c_uint64], c_uint64),
+    "svid_claim_owner": ([c_char_p, c_char_p, c_uint64, c_void_p], None),
+    "svid_claim_owner_of_caller": ([c_char_p, c_uint64, c_void_p], None),
+    "svid_claim_until": ([c_uint64, c_uint64], c_uint64),
+    "svid_journal_bears": ([*_LENT, c_void_p], None),
+    "svid_pacing_answered": ([c_void_p], None),
+    "svid_pacing_due": ([c_void_p], c_uint64),
+    "svid_pacing_sent": ([c_void_p, *_NOW], None),
+    "svid_pacing_unanswered": ([c_void_p], c_uint64),
+    "svid_token_close": (_VALIDATOR, None),
+    "svid_validator_close": (_VALIDATOR, None),
 }
 _CALLS_OF_A_CHECK = [
-    "svid_bundles_ask",
-    "svid_bundles_question",
-    "svid_token_signature",
-    "svid_validator_ask",
-    "svid_validator_check",
-    "svid_validator_judge",
+    "svid_member_come",
+    "svid_member_found",
+    "svid_member_judge",
+    "svid_token_open",
+    "svid_validator_ask_token",
+    "svid_validator_judge_token",
 ]
 """ctypes converts no argument of these, which would take a twentieth of a check. Each of them is an
 `address`, `bytes`, a `size` or a `moment`. Give them no `int`: they would see 32 bits of it."""
@@ -339,11 +439,10 @@ def _load(path: str, kind: type[_Library]) -> _Library:
             call.restype = c_uint32
         for name in _CALLS_OF_A_CHECK:
             getattr(library, name).restype = c_uint32
-        for close in (library.svid_bundles_close, library.svid_validator_close):
-            close.argtypes = _VALIDATOR
-            close.restype = None
-        library.svid_journal_bears.argtypes = [*_LENT, c_void_p]
-        library.svid_journal_bears.restype = None
+        for name, (takes, gives) in _CALLS_OF_NO_STATUS.items():
+            call = getattr(library, name)
+            call.argtypes = takes
+            call.restype = gives
     except AttributeError as error:
         raise ImportError(f"{path} has version {version}, which is too old: {error}") from error
     return library

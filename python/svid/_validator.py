@@ -2,6 +2,8 @@
 
 from __future__ import annotations
 
+import functools
+import hashlib
 import logging
 import math
 import os
@@ -13,17 +15,23 @@ from collections.abc import Iterable, Iterator
 from typing import TypeVar, Union
 
 from . import _library as lib
+from ._allow import allows, patterns
 from ._bundles import Bundles, Path, Source
-from ._handle import CHECK, JUDGE, Calls, Handle, fault
+from ._handle import fault
 from ._journal import Journal
+from ._member import Member
 from ._signatures import USUAL_RSA_BITS, Verifier, Verifies
-from .errors import BadMessages, Error
+from .errors import BadMessages, Error, NotAllowed
 from .records import Accepted, Report, Use
+from .stores import Store
 
 _LOG = logging.getLogger("svid")
 _YEAR_5138 = 100_000_000_000
 _PIECE = 2**22
 """How many bytes of messages are written, or read of a file, at a time."""
+_NOBODY = bytes(32)
+_CLAIMS = ("strict", "bound")
+"""The modes in which tokens are claimed in a store."""
 
 Token = Union[str, bytes]
 Self = TypeVar("Self", bound="Validator")
@@ -56,6 +64,9 @@ class Validator:
         *,
         audiences: str | Iterable[str],
         bundles: Bundles,
+        mode: str = "once",
+        callers: str | Iterable[str] | None = None,
+        store: Store | None = None,
         longest: int | None = None,
         ahead: int = 10,
         step: int | None = None,
@@ -70,10 +81,17 @@ class Validator:
 
         audiences: this service's own names. A token is for it where one of them is in `aud`.
         bundles: the keys of each trust domain; see `svid.Bundles`.
+        mode: how often a token is accepted. "once": once by this validator. "strict": once by all
+            validators that share the `store`. "bound": again and again, but from one caller alone,
+            by all that share the `store`. "reuse": again and again.
+        callers: patterns of the SPIFFE IDs that may call (`svid.allows`). A good token of another
+            caller raises NotAllowed, and is not used up. None lets all call.
+        store: the store of the group, for "strict" and "bound".
         longest: how many seconds a token may still live; a token that expires later is refused as
-            TooLongLived. None is no limit. It bounds how long a use stays in the record.
-        ahead: how many seconds a message's moment may lie past `now`: a little more than clocks
-            differ.
+            TooLongLived. None is no limit. It bounds how long a use stays in the record, and for
+            how long a store that has lost entries lets nobody in.
+        ahead: how many seconds a message's moment, or the store's time, may lie past `now`: a
+            little more than clocks differ.
         step: a `now` more than so many seconds past the record's moment raises Jump, so that a
             wrong clock does not expire the record. None is no limit. After a longer pause you need
             a new validator, so set it to more than the longest time without a call.
@@ -87,10 +105,9 @@ class Validator:
             so that a token of a stranger costs little. It is not for `verifies`.
         state: a folder that keeps the record, so that no token that `check` returned is accepted
             again after a crash, a restart or a loss of power. The validator has the ID that is
-            in it. `check` and `withdraw` return once the disk has the use. What `take` got is kept
-            from the next snapshot on. See `svid.Journal`.
-        wait: for how many seconds `check` and `withdraw` wait for that, until they raise
-            Unavailable.
+            in it. In mode "once" `check` returns once the disk has the use, and so does `withdraw`
+            in each mode. What `take` got is kept from the next snapshot on. See `svid.Journal`.
+        wait: how many seconds `check` and `withdraw` may take, until they raise Unavailable.
 
         Raises BadBundles, OSError for a file of bundles, and ValueError and TypeError for arguments
         that can't be. With `state` it raises what `svid.Journal` does, and TooFar where the clock
@@ -100,28 +117,45 @@ class Validator:
             raise ValueError("validator_id has 16 bytes, and a folder of state has its own")
         if refresh is not None and not refresh >= 0:
             raise ValueError("refresh is a number of seconds, or None")
-        if not wait >= 0:
-            raise ValueError("wait is a number of seconds")
+        if not wait > 0:
+            raise ValueError("wait is a number of seconds, and more than 0")
+        if mode not in lib.MODES:
+            raise ValueError(f"mode is one of {', '.join(lib.MODES)}, and not {mode!r}")
+        if (store is not None) != (mode in _CLAIMS):
+            raise ValueError("give a store in the modes strict and bound, and in no other one")
         self._verifies = verifies or Verifier(rsa_bits)
         self._source = Source(bundles)
         self._stamp = self._source.stamp()
         self._refresh = math.inf if refresh is None else refresh
         self._look_at = time.monotonic() + self._refresh
         self._renewing = threading.Lock()
-        self._wait = wait
+        self._mode = mode
+        self._callers = patterns(callers)
         terms = {
             "longest": _limit("longest", longest),
             "ahead": _limit("ahead", ahead),
             "step": _limit("step", step),
         }
         own, text = _names(audiences), self._source.read()
+        if callers is not None and any(b"\n" in it for it in own):
+            raise ValueError("with callers, no audience has a line feed")
         self._journal = None if state is None else Journal(state)
         if self._journal is not None:
             validator_id = self._journal.validator_id
         elif validator_id is None:
             validator_id = os.urandom(16)
         try:
-            self._handle = Handle(**terms, validator_id=validator_id, own=own, bundles=text)
+            self._handle = Member(
+                **terms,
+                validator_id=validator_id,
+                own=own,
+                bundles=text,
+                mode=mode,
+                wait=wait,
+                callers=self._callers,
+                journal=self._journal,
+                store=store,
+            )
             self._start()
         except BaseException:
             if self._journal is not None:
@@ -136,8 +170,21 @@ class Validator:
 
     @property
     def waits(self) -> bool:
-        """Whether `check` waits for a disk: an event loop needs a thread for it."""
-        return self._journal is not None
+        """Whether `check` waits for a disk or a store: an event loop needs a thread for it."""
+        return self._journal is not None or self._mode in _CLAIMS
+
+    @property
+    def ready(self) -> bool:
+        """Whether tokens are to be sent to this validator: `unready` says None."""
+        return self.unready() is None
+
+    def unready(self, now: float | None = None) -> str | None:
+        """Says the first reason why no tokens are to be sent to this validator, as a sentence.
+
+        None if it is ready. Ask it where a load balancer asks, as at the path /readyz: it also
+        tries the disk and the store again, and advances the record to `now`.
+        """
+        return self._handle.unready(_seconds(now))
 
     def close(self) -> None:
         """Frees the record and the bundles. Closing twice does nothing."""
@@ -145,18 +192,38 @@ class Validator:
             self._journal.close()
         self._handle.close()
 
-    def check(self, token: Token, now: float | None = None) -> Accepted:
-        """Accepts a token, once. Raises the subclass of Refused that says why not.
+    def check(
+        self, token: Token, now: float | None = None, *, caller: bytes | None = None
+    ) -> Accepted:
+        """Accepts a token, as `mode` says. Raises the subclass of Refused that says why not.
 
-        With `state` it returns once the disk has the use, and raises Unavailable where that fails.
+        Raises NotAllowed for a good token of who may not call. Raises Unavailable if the disk or
+        the store fails, or if that takes longer than `wait`.
+
+        caller: bytes that tell who presents the token, as its address or certificate, in mode
+            "bound" alone.
         """
-        accepted = self._checked(CHECK, token, now)
-        self._keep(accepted.use)
+        if (caller is not None) != (self._mode == "bound"):
+            raise ValueError("give a caller in the mode bound, and in no other one")
+        self._look()
+        who = _NOBODY if caller is None else hashlib.sha256(_lent(caller)).digest()
+        clock = functools.partial(_seconds, now)
+        accepted = self._handle.check(_bytes(token), clock, who, self._verifies)
+        self._tidy()
         return accepted
 
     def judge(self, token: Token, now: float | None = None) -> Accepted:
         """Answers what `check` would, but the record gains no use: `check` may still accept it."""
-        return self._checked(JUDGE, token, now)
+        self._look()
+        moment = _seconds(now)
+        read = self._handle.read(_bytes(token), moment)
+        try:
+            accepted = self._handle.judge(read, moment, self._verifies)
+        finally:
+            read.close()
+        if self._callers and not any(allows(it, accepted.spiffe_id) for it in self._callers):
+            raise NotAllowed
+        return accepted
 
     def withdraw(self, token: Token, now: float | None = None) -> Use:
         """Withdraws a token until it expires: from now on it is refused as Withdrawn.
@@ -177,7 +244,7 @@ class Validator:
         if expires is None:  # (as no limit, the withdrawal would stay in each record)
             raise TypeError("expires is a number of seconds")
         use = self._handle.withdraw(_seconds(now), _lent(key), _limit("expires", expires))
-        self._keep(use)
+        self._tidy()
         return use
 
     def tick(self, now: float | None = None) -> None:
@@ -279,30 +346,23 @@ class Validator:
 
     def _start(self) -> None:
         """Takes the record that the state folder has."""
-        if self._journal is None:
-            return
-        for name in self._journal.torn:
-            _LOG.warning("a crash cut off a write at the end of %s: nobody had an answer", name)
-        self._journal.load(self.take)
-        if self._journal.wants_snapshot:
-            self._journal.snapshot(self.parts)
+        if self._journal is not None:
+            for name in self._journal.torn:
+                _LOG.warning("a crash cut off a write at the end of %s: nobody had an answer", name)
+            self._journal.load(self.take)
+            if self._journal.wants_snapshot:
+                self._journal.snapshot(self.parts)
+        self._handle.begin()
 
-    def _keep(self, use: Use) -> None:
-        """Returns once the state folder has a use that the record has gained."""
-        if self._journal is None:
-            return
-        self._journal.append(use.message, self._wait)
-        if self._journal.wants_snapshot:
+    def _tidy(self) -> None:
+        """Writes a snapshot in the background, if one is due."""
+        if self._journal is not None and self._journal.wants_snapshot:
             self._journal.snapshot_soon(self.parts)
 
-    def _checked(self, calls: Calls, token: Token, now: float | None) -> Accepted:
-        """What `check` or `judge` answers by these calls."""
-        if self._stamp and time.monotonic() >= self._look_at:
-            self._look()
-        return self._handle.check(calls, _seconds(now), _bytes(token), self._verifies)
-
     def _look(self) -> None:
-        """Reads the files of the bundles again where they have changed."""
+        """Reads the files of the bundles again where they have changed, if a look is due."""
+        if not self._stamp or time.monotonic() < self._look_at:
+            return
         self._look_at = time.monotonic() + self._refresh
         try:
             if self._source.stamp() != self._stamp:

@@ -41,6 +41,11 @@ SENTENCES: dict[int, str] = {
     37: "The document is the bundle of one trust domain, without its name.",
     38: "An earlier document has a bundle of this trust domain.",
     39: "The lengths of the documents do not add up to the length of bytes.",
+    56: "The entry says that the token was withdrawn.",
+    57: "The entry is another's, so the token was used.",
+    58: "The token expires more than lasts seconds past the store's time.",
+    59: "The token may have been claimed before the store lost entries.",
+    60: "The token has expired.",
     91: "The pattern does not allow the ID.",
     92: "The ID in the pattern has more than 2,048 bytes.",
     93: "The pattern does not begin with spiffe://.",
@@ -50,6 +55,24 @@ SENTENCES: dict[int, str] = {
     97: "The pattern has an empty segment.",
     98: "The pattern has a segment that is one or two periods.",
     99: "The pattern has a byte that may not stand in a path segment.",
+    20: "The validator has no member.",
+    29: "The request does not wait for that, or its time is over.",
+    30: "The number is none of a mode.",
+    201: "The time of the request was over before it had an answer.",
+    202: "The state folder did not take the acceptance.",
+    203: "Nobody waits for the answer any more.",
+    211: "The member has ended.",
+    212: "There is no trust bundle.",
+    213: "The state folder is being read.",
+    214: "The group's store was not reached yet.",
+    215: "The store's withdrawals are being read.",
+    216: "The group's broker was not reached yet.",
+    217: "What the group had is being read.",
+    218: "The member is to end soon.",
+    219: "The clock went ahead too far at once.",
+    220: "The state folder takes no acceptance.",
+    221: "The group's store does not answer, so no token can be claimed.",
+    222: "The store has lost entries, so no token is accepted that lives as long as it may.",
 }
 """What each status says, as a sentence."""
 ADVICE: dict[int, str] = {
@@ -74,6 +97,8 @@ ADVICE: dict[int, str] = {
     33: "Write a JWK Set under that name, or take it out.",
     37: "Name it.",
     38: "Leave one of them out.",
+    58: "Set the store's clock right.",
+    59: "Present a token that was issued later.",
     92: (
         "Write spiffe://DOMAIN/PATH for one ID, spiffe://DOMAIN/PATH/* for all below it, or "
         "spiffe://DOMAIN for all of a trust domain."
@@ -106,6 +131,11 @@ ADVICE: dict[int, str] = {
         "Write spiffe://DOMAIN/PATH for one ID, spiffe://DOMAIN/PATH/* for all below it, or "
         "spiffe://DOMAIN for all of a trust domain."
     ),
+    20: "Open one.",
+    201: "Try again.",
+    202: "Mend the disk.",
+    219: "Set the clock right.",
+    220: "Mend the disk.",
 }
 """What to do about a status, as a sentence, where there is something to do."""
 MESSAGE_WORDS: dict[str, str] = {

@@ -27,9 +27,7 @@ class SvidMiddleware:
     check is Unavailable, the status is 503. A check runs on the event loop: it takes little more
     than to verify one signature. A check that waits for a disk runs in a thread.
 
-    `allow` are patterns of the SPIFFE IDs that may call (`svid.allows`). Another one with a good
-    token is answered with status 403, and the token is not used up. Left out, all may call; an
-    empty list is a ValueError.
+    A good token of who may not call (`Validator(callers=..)`) is answered with status 403.
 
     `reuse` are paths where a token is checked, and stays good: it may come again, there and once
     elsewhere. It is refused there, too, once it was used elsewhere. It may also be a function of
@@ -42,24 +40,28 @@ class SvidMiddleware:
     the framework may read in two ways is on no list: escapes, empty segments, "." and "..". Under
     a `root_path` a path is listed both with it and without it, since frameworks differ in that.
 
-    Raises ValueError for what is no pattern, and for what is no path.
+    `caller` is a function of the scope that returns bytes which tell who presents the token, as
+    the client's address. A validator in the mode "bound" needs it.
 
-    A `Validator` belongs to one process: a server with several workers accepts a token once in
-    each. Run one process with several threads, or put the sidecar svidd in front of the service:
-    all workers behind it together accept a token once (docs/SIDECAR.md).
+    Raises ValueError for what is no path.
+
+    A `Validator` belongs to one process: in the mode "once" a server with several workers accepts a
+    token once in each. Run one process with several threads, take the mode "strict", or put the
+    sidecar svidd in front of the service: then all workers together accept a token once
+    (docs/SIDECAR.md).
     """
 
     def __init__(
         self,
         app: App,
         validator: Validator,
-        allow: Iterable[str] | None = None,
         *,
         reuse: Iterable[str] | Callable[[Scope], bool] = (),
         open_paths: Iterable[str] = (),
+        caller: Callable[[Scope], bytes] | None = None,
     ) -> None:
         self.app = app
-        self.terms = Terms(validator, allow, reuse, open_paths)
+        self.terms = Terms(validator, reuse, open_paths, caller)
 
     async def __call__(self, scope: Scope, receive: Receive, send: Send) -> None:
         if scope["type"] == "lifespan":
@@ -69,7 +71,8 @@ class SvidMiddleware:
         if self.terms.is_open(readings):
             return await self.app(theirs, receive, send)
         given = [value for name, value in scope["headers"] if name.lower() == b"authorization"]
-        admission = await self.terms.admit_soon(given, self.terms.reuses(theirs, readings))
+        who, reuses = self.terms.caller(theirs), self.terms.reuses(theirs, readings)
+        admission = await self.terms.admit_soon(given, reuses, who)
         if admission.accepted is not None:
             ours = (admission.accepted.spiffe_id, admission.accepted)
             await self.app({**theirs, **dict(zip(_OURS, ours))}, receive, send)

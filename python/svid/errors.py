@@ -11,6 +11,7 @@
     ├── TooFar           a message's moment is further past `now` than `ahead` allows
     ├── BadBundles       the trust bundles can't be read
     ├── BadMessages      bytes of another validator are no messages
+    ├── NotAllowed       the token is good, and its subject may not call: answer status 403
     ├── Unavailable      it is not known whether the token counts as used: answer status 503
     ├── Held             another process has the state folder
     ├── Damaged          a file of the state folder is damaged
@@ -95,8 +96,18 @@ class BadMessages(Error, ValueError):
         return f"{self.reason}{where}: {MESSAGE_WORDS.get(self.reason, 'these are no messages')}"
 
 
+class NotAllowed(Error):
+    """The token is good, and none of the `callers` of the validator allows its subject.
+
+    Answer with status 403. The token is not used up.
+    """
+
+    def __init__(self) -> None:
+        super().__init__("the token is good, and its subject is none of the callers that may call")
+
+
 class Unavailable(Error):
-    """Nobody accepts the token: the disk did not keep its use in time.
+    """Nobody accepts the token: the disk or the store failed, or did not answer in time.
 
     Answer with status 503. The token may be used up all the same, and its client needs a new one.
     """

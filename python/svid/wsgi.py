@@ -23,9 +23,7 @@ class SvidMiddleware:
     request is answered with status 401, and with 503 where a check is Unavailable. Servers with
     several threads may use it.
 
-    `allow` are patterns of the SPIFFE IDs that may call (`svid.allows`). Another one with a good
-    token is answered with status 403, and the token is not used up. Left out, all may call; an
-    empty list is a ValueError.
+    A good token of who may not call (`Validator(callers=..)`) is answered with status 403.
 
     `reuse` are paths where a token is checked, and stays good: it may come again, there and once
     elsewhere. It is refused there, too, once it was used elsewhere. It may also be a function of
@@ -38,24 +36,28 @@ class SvidMiddleware:
     with `PATH_INFO`, by which frameworks choose what to call, and not with `SCRIPT_NAME`. What may
     be read in two ways is on no list: escapes, empty segments, "." and "..".
 
-    Raises ValueError for what is no pattern, and for what is no path.
+    `caller` is a function of the environ that returns bytes which tell who presents the token, as
+    the client's address. A validator in the mode "bound" needs it.
 
-    A `Validator` belongs to one process: a server with several workers accepts a token once in
-    each. Run one process with several threads, or put the sidecar svidd in front of the service:
-    all workers behind it together accept a token once (docs/SIDECAR.md).
+    Raises ValueError for what is no path.
+
+    A `Validator` belongs to one process: in the mode "once" a server with several workers accepts a
+    token once in each. Run one process with several threads, take the mode "strict", or put the
+    sidecar svidd in front of the service: then all workers together accept a token once
+    (docs/SIDECAR.md).
     """
 
     def __init__(
         self,
         app: App,
         validator: Validator,
-        allow: Iterable[str] | None = None,
         *,
         reuse: Iterable[str] | Callable[[Environ], bool] = (),
         open_paths: Iterable[str] = (),
+        caller: Callable[[Environ], bytes] | None = None,
     ) -> None:
         self.app = app
-        self.terms = Terms(validator, allow, reuse, open_paths)
+        self.terms = Terms(validator, reuse, open_paths, caller)
 
     def __call__(self, environ: Environ, start_response: StartResponse) -> Iterable[bytes]:
         theirs = {name: it for name, it in environ.items() if name not in _OURS}
@@ -64,7 +66,8 @@ class SvidMiddleware:
             return self.app(theirs, start_response)
         given = environ.get("HTTP_AUTHORIZATION")
         values = [] if given is None else [given.encode("latin-1", "replace")]
-        admission = self.terms.admit(values, self.terms.reuses(theirs, readings))
+        who, reuses = self.terms.caller(theirs), self.terms.reuses(theirs, readings)
+        admission = self.terms.admit(values, reuses, who)
         if admission.accepted is not None:
             ours = (admission.accepted.spiffe_id, admission.accepted)
             return self.app({**theirs, **dict(zip(_OURS, ours))}, start_response)

@@ -126,9 +126,10 @@ def signed(alg, key, header, payload):
 
 
 def validator(bundles=None, **terms):
-    """A validator of the audience "ledger" that knows the key k1, of ES256."""
+    """A validator of the audience "ledger" that knows the key k1, of ES256, and has patience."""
     bundles = bundle(entry(private_key("ES256"), "k1")) if bundles is None else bundles
-    return svid.Validator(**{"audiences": ["ledger"], "bundles": bundles, **terms})
+    usual = {"audiences": ["ledger"], "bundles": bundles, "wait": PATIENCE}
+    return svid.Validator(**{**usual, **terms})
 
 
 def verdict(checks, text, now=NOW):

@@ -187,7 +187,7 @@ def test_renewing_by_another_file(tmp_path):
 
 
 def test_keys_of_replaced_bundles_are_freed():
-    """Each bundle has four keys of 60 kB: those of 300 bundles that stayed would be 72 MB."""
+    """Each bundle has four keys of 60 kB: those of 600 bundles that stayed would be 144 MB."""
     text = """
 import base64, json, svid
 from making import NOW, bundle, entry, private_key, token
@@ -195,7 +195,7 @@ key, made = entry(private_key("ES256", 1), "k1"), token()
 def bundles(which):
     return bundle(*({**key, "note": f"{which} {it}".ljust(60_000)} for it in range(4)))
 with svid.Validator(audiences="ledger", bundles=bundles(0)) as checks:
-    for which in range(300):
+    for which in range(600):
         checks.renew(bundles(which))
         try:
             checks.check(made, NOW)

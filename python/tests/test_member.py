@@ -1,26 +1,682 @@
-"""A member of a group in mode `strict`, which the package does not have."""
+"""Requests, and their answers: the modes, the store of a group, deadlines and readiness."""
+
+import contextlib
+import errno
+import gc
+import os
+import random
+import threading
+import time
+import weakref
 
 import pytest
 import svid
+from making import PATIENCE, SUBJECT, bundle, entry, fresh, private_key, until, validator
+from svid import _claims, _journal, _member
+from test_threads import forked
+
+THREADS = 32
+
+
+class Fickle:
+    """A store whose calls do `before` what is put, and `after` it, as a test wants."""
+
+    def __init__(self, **terms):
+        self.store = svid.MemoryStore(**terms)
+        self.puts = []
+        self.before = self.after = lambda: None
+
+    def put(self, claims):
+        if claims:
+            self.puts.append(list(claims))
+        self.before()
+        found = self.store.put(claims)
+        self.after()
+        return found
+
+    def withdraw(self, key, expires):
+        self.before()
+        self.store.withdraw(key, expires)
+
+
+def strict(store, **terms):
+    return validator(mode="strict", store=store, **terms)
+
+
+def bound(store, **terms):
+    return validator(mode="bound", store=store, **terms)
+
+
+def away():
+    raise ConnectionError("the store is away")
+
+
+def answer(check, *given, **named):
+    """What a call comes to: the subject that it gives, if any, or the name of the error."""
+    try:
+        return getattr(check(*given, **named), "spiffe_id", "")
+    except svid.Error as why:
+        return type(why).__name__
+
+
+class Soon:
+    """A call in a thread of its own, which a test does not wait for longer than it has patience."""
+
+    def __init__(self, call, *given, **named):
+        self.said = None
+        self.thread = threading.Thread(target=self.run, args=(call, given, named), daemon=True)
+        self.thread.start()
+
+    def run(self, call, given, named):
+        self.said = answer(call, *given, **named)
+
+    @property
+    def answer(self):
+        self.thread.join(PATIENCE)
+        assert not self.thread.is_alive(), "it does not end"
+        return self.said
+
+
+def in_time(check, token):
+    """What a check comes to, once it is not too late: a wait may be short for a busy machine."""
+    said = []
+    until(lambda: said.append(Soon(check, token).answer) or said[-1] != "Unavailable")
+    return said[-1]
+
+
+def nothing_waits(checks):
+    """No request and no withdrawal is left behind."""
+    return checks._handle._open == {} and checks._handle._withdrawals == {}
+
+
+@contextlib.contextmanager
+def holding(store):
+    """The store answers nothing until the block ends."""
+    go = threading.Event()
+    store.before = lambda: go.wait(PATIENCE)
+    try:
+        yield
+    finally:
+        store.before = lambda: None
+        go.set()
+
+
+# -- Modes
+
+
+def test_once_over_restarts(tmp_path):
+    token = fresh(jti="1")
+    for said in SUBJECT, "Replayed", "Replayed":
+        with validator(mode="once", state=tmp_path) as checks:
+            assert answer(checks.check, token) == said
+
+
+def test_a_token_that_may_come_again():
+    with validator(mode="reuse") as checks:
+        token = fresh()
+        assert [answer(checks.check, token) for _ in range(3)] == [SUBJECT] * 3
+        assert checks.report().uses == ()
+        checks.withdraw(token)
+        assert answer(checks.check, token) == "Withdrawn"
 
 
 @pytest.mark.parametrize(
     "terms",
-    [
-        {},
-        {"audiences": "ledger", "bundles": b"{}", "longest": 3600, "replay": "strict"},
-        {"audiences": "ledger", "bundles": b"{}", "longest": 3600, "log": "redis://localhost"},
-    ],
+    [{"mode": "twice"}, {"mode": "strict"}, {"mode": "bound"}, {"store": svid.MemoryStore()}],
+    ids=str,
 )
-def test_no_member_is_made(terms):
-    """Whatever it is given, and the error says what to do."""
-    with pytest.raises(NotImplementedError) as raised:
-        svid.Member(**terms)
-    said = str(raised.value)
-    assert said.startswith("mode strict needs the group's store, which this package does not speak")
-    assert "svidd" in said and "docs/SIDECAR.md" in said and "svid.Validator" in said
+def test_a_mode_and_its_store(terms):
+    with pytest.raises(ValueError, match="mode"):
+        validator(**terms)
 
 
-def test_no_validator_is_a_member():
-    with svid.Validator(audiences="ledger", bundles=b"{}") as checks:
-        assert not isinstance(checks, svid.Member)
+def test_one_of_many_threads_is_accepted():
+    store, token = Fickle(), fresh()
+    with strict(store) as checks:
+        with holding(store):
+            calls = [Soon(checks.check, token) for _ in range(THREADS)]
+            until(lambda: store.puts)
+        said = sorted(it.answer for it in calls)
+        assert said == sorted([SUBJECT] + ["Replayed"] * (THREADS - 1))
+        assert [len(it) for it in store.puts] == [1]  # (the others wait for the answer to that)
+        assert len(checks.report().uses) == 1
+        assert nothing_waits(checks)
+
+
+def test_validators_of_one_store():
+    store, tokens = svid.MemoryStore(), [fresh(jti=str(it)) for it in range(20)]
+    with strict(store) as one, strict(store) as other:
+        calls = [
+            Soon(checks.check, token) for token in tokens for checks in (one, other, one, other)
+        ]
+        said = [it.answer for it in calls]
+    for at in range(len(tokens)):
+        assert sorted(said[4 * at : 4 * at + 4]) == ["Replayed"] * 3 + [SUBJECT]
+
+
+def test_a_store_that_fails_now_and_then():
+    """Calls fail before or after they are made, or take long: no token is accepted twice."""
+    store, chance = Fickle(), random.Random(7)
+
+    def fault():
+        match chance.randrange(8):
+            case 0 | 1:
+                away()
+            case 2:
+                time.sleep(0.03)
+
+    tokens = [fresh(jti=str(it)) for it in range(40)]
+    with strict(store, wait=0.05) as one, strict(store, wait=0.05) as other:
+        store.before = store.after = fault
+        said = []
+
+        def work(number):
+            for token in chance.sample(tokens, len(tokens)):
+                said.append((token, answer((one, other)[number % 2].check, token)))
+
+        for it in [Soon(work, number) for number in range(8)]:
+            assert it.answer == ""
+        assert {it for _, it in said} <= {SUBJECT, "Replayed", "Unavailable"}
+        won = [token for token, it in said if it == SUBJECT]
+        assert len(won) == len(set(won)) > 0
+        assert nothing_waits(one) and nothing_waits(other)
+
+
+def test_each_life_has_claims_of_its_own():
+    """A restart does not take the claims of the life before for its own."""
+    store, token = svid.MemoryStore(), fresh()
+    for said in SUBJECT, "Replayed":
+        with strict(store, validator_id=b"v" * 16) as checks:
+            assert answer(checks.check, token) == said
+
+
+def test_a_store_and_a_state_folder(tmp_path):
+    store, one, two = svid.MemoryStore(), fresh(jti="1"), fresh(jti="2")
+    with strict(store, state=tmp_path) as checks:
+        assert answer(checks.check, one) == SUBJECT
+        checks.withdraw(two)
+    with strict(svid.MemoryStore(), state=tmp_path) as checks:
+        assert answer(checks.check, two) == "Withdrawn"
+
+
+def test_a_token_is_bound_to_its_caller():
+    store, token = svid.MemoryStore(), fresh()
+    with bound(store) as one, bound(store) as other:
+        for checks in one, other, one:
+            assert answer(checks.check, token, caller=b"owner" * 9) == SUBJECT
+            assert answer(checks.check, token, caller=b"owner" * 10) == "Replayed"
+        one.withdraw(token)
+        for checks in one, other:
+            assert answer(checks.check, token, caller=b"owner" * 9) == "Withdrawn"
+
+
+def test_a_caller_is_given_in_mode_bound_alone():
+    with bound(svid.MemoryStore()) as checks:
+        with pytest.raises(ValueError, match="caller"):
+            checks.check(fresh())
+        with pytest.raises(TypeError, match="bytes"):
+            checks.check(fresh(), caller="owner")
+    with validator() as checks, pytest.raises(ValueError, match="caller"):
+        checks.check(fresh(), caller=b"owner")
+
+
+# -- The store
+
+
+def test_a_store_that_answers_late():
+    store, token = Fickle(), fresh()
+    with strict(store, wait=0.2) as checks:
+        with holding(store):
+            assert Soon(checks.check, token).answer == "Unavailable"
+            assert nothing_waits(checks)
+        # (the claim is of this life, so the token is not lost)
+        assert in_time(checks.check, token) == SUBJECT
+        assert in_time(checks.check, token) == "Replayed"
+
+
+def test_a_store_that_never_answers(caplog):
+    store, token = Fickle(), fresh()
+    with strict(store, wait=0.2) as checks:
+        store.before = away
+        for _ in range(2):
+            assert Soon(checks.check, token).answer == "Unavailable"
+        assert "the store is away" in caplog.text
+        assert len(store.puts) > 2  # (the claim is put again and again)
+        store.before = lambda: None
+        assert in_time(checks.check, token) == SUBJECT
+        assert nothing_waits(checks)
+
+
+def test_an_answer_that_is_lost():
+    """The same claim is put again, and finds its own entry."""
+    store, token, fails = Fickle(), fresh(), [True]
+
+    def lost():
+        if fails:
+            fails.pop()
+            away()
+
+    with strict(store, wait=PATIENCE) as checks:
+        store.after = lost
+        assert Soon(checks.check, token).answer == SUBJECT
+        assert [len(it) for it in store.puts] == [1, 1]
+        assert store.puts[0] == store.puts[1]
+        assert Soon(checks.check, token).answer == "Replayed"
+
+
+def test_an_answer_that_comes_again():
+    """Nothing comes of it."""
+    store, token, said = Fickle(), fresh(), []
+    with strict(store) as checks:
+        real = checks._handle.found
+
+        def twice(number, found):
+            real(number, found)
+            real(number, found)
+            said.append((number, found))
+
+        checks._handle.found = twice
+        assert Soon(checks.check, token).answer == SUBJECT
+        until(lambda: said)
+        twice(*said[0])
+        assert Soon(checks.check, token).answer == "Replayed"
+        assert len(checks.report().uses) == 1 and nothing_waits(checks)
+
+
+@pytest.mark.parametrize(("owner", "said"), [(b"o" * 32, "Replayed"), (bytes(32), "Withdrawn")])
+def test_an_entry_of_another_owner(owner, said):
+    class Theirs(svid.MemoryStore):
+        def put(self, claims):
+            return [it._replace(owner=owner) for it in super().put(claims)]
+
+    token = fresh()
+    with strict(Theirs()) as checks:
+        assert Soon(checks.check, token).answer == said
+        assert [it.withdrawn for it in checks.report().uses] == [True] * (said == "Withdrawn")
+
+
+@pytest.mark.parametrize(
+    "wrong", [lambda _: [], lambda it: [it[0]._replace(owner=b"")] if it else []]
+)
+def test_an_answer_that_is_none(wrong):
+    """It counts as no answer: the claim is put again."""
+
+    class Wrong(svid.MemoryStore):
+        wrongs = 0
+
+        def put(self, claims):
+            found = super().put(claims)
+            if not claims or self.wrongs > 1:
+                return found
+            self.wrongs += 1
+            return wrong(found)
+
+    store = Wrong()
+    with strict(store, wait=PATIENCE) as checks:
+        assert Soon(checks.check, fresh()).answer == SUBJECT
+    assert store.wrongs == 2
+
+
+@pytest.mark.parametrize("most", [THREADS, 10])
+def test_many_claims_share_a_call(most, monkeypatch):
+    monkeypatch.setattr(_claims, "_MOST", most)
+    store = Fickle()
+    with strict(store, wait=PATIENCE) as checks:
+        with holding(store):
+            calls = [Soon(checks.check, fresh(jti="first"))]
+            until(lambda: store.puts)
+            checks._handle._claims._pacing.calls = 64  # (as many as may be under way)
+            calls += [Soon(checks.check, fresh(jti=str(it))) for it in range(THREADS)]
+            until(lambda: len(checks._handle._claims._waiting) == THREADS)
+            checks._handle._claims._pacing.calls = 1
+        assert {it.answer for it in calls} == {SUBJECT}
+        rest = [THREADS % most] if THREADS % most else []
+        assert sorted(len(it) for it in store.puts) == [1, *rest, *[most] * (THREADS // most)]
+
+
+def test_a_call_that_hangs_does_not_hold_up_the_others():
+    store = Fickle()
+    with strict(store, wait=PATIENCE) as checks:
+        go = threading.Event()
+        store.before = lambda: len(store.puts) == 1 and go.wait(PATIENCE)
+        first = Soon(checks.check, fresh(jti="first"))
+        until(lambda: store.puts)
+        for it in range(3):
+            assert Soon(checks.check, fresh(jti=str(it))).answer == SUBJECT
+        assert first.thread.is_alive()
+        go.set()
+        assert first.answer == SUBJECT
+
+
+def test_a_claim_that_is_late_is_not_put():
+    """Nobody would get the answer, and the token would be lost."""
+    store, late = Fickle(), fresh(jti="late")
+    with strict(store, wait=0.3) as checks:
+        claims = checks._handle._claims
+        claims._pacing.calls = 64  # (as many as may be under way)
+        assert Soon(checks.check, late).answer == "Unavailable"
+        claims._pacing.calls = 0
+        until(lambda: Soon(checks.check, fresh(jti=os.urandom(8).hex())).answer == SUBJECT)
+        assert all(it.expires == store.puts[0][0].expires for put in store.puts for it in put)
+        keys = {it.key for put in store.puts for it in put}
+        assert checks.judge(late).use.key not in keys
+
+
+def test_a_claim_of_who_does_not_know_yet_that_it_is_late():
+    """It is asked about right before it goes out."""
+    store = Fickle()
+    with strict(store, wait=0.3) as checks:
+        claims = checks._handle._claims
+        claims._pacing.calls = 64
+        checks._handle._until_due = lambda: PATIENCE
+        call = Soon(checks.check, fresh())
+        until(lambda: claims._waiting)
+        time.sleep(0.4)
+        claims._pacing.calls = 0
+        with claims._gate:
+            claims._gate.notify()
+        assert call.answer == "Unavailable"
+        assert store.puts == [] and nothing_waits(checks)
+
+
+def test_a_store_that_has_lost_entries():
+    store = svid.MemoryStore(lasts=3620)
+    with strict(store, longest=3600) as checks:
+        assert Soon(checks.check, fresh(jti="1")).answer == SUBJECT
+        assert checks.unready() is None
+        store.lose()
+        with pytest.raises(svid.Unavailable, match="before the store lost entries"):
+            checks.check(fresh(jti="2"))
+        assert checks.unready().startswith("The store has lost entries")
+        assert checks.unready(int(time.time()) + 60) is None
+
+
+def test_a_token_that_lives_longer_than_the_store_keeps_it():
+    now = int(time.time())
+    with strict(svid.MemoryStore(now=lambda: now - 3600), longest=3600) as checks:
+        with pytest.raises(svid.Unavailable, match="lasts seconds past the store's time"):
+            checks.check(fresh())
+
+
+def test_the_memory_of_a_store():
+    clock = [1000]
+    store = svid.MemoryStore(now=lambda: clock[0], margin=10, lasts=100)
+    mine, theirs = (svid.Claim(b"k" * 32, it * 32, 1050) for it in (b"m", b"t"))
+    assert store.put([]) == []
+    assert store.put([mine, theirs, mine]) == [svid.Found(b"m" * 32, 1000, 0)] * 3
+    clock[0] = 1059
+    assert store.put([theirs]) == [svid.Found(b"m" * 32, 1059, 0)]
+    clock[0] = 1060
+    assert store.put([theirs]) == [svid.Found(b"t" * 32, 1060, 0)]
+    store.put([mine._replace(key=b"l" * 32, expires=1200)])
+    store.withdraw(b"l" * 32, 1100)
+    clock[0] = 1209
+    late = theirs._replace(key=b"l" * 32)
+    assert store.put([late]) == [svid.Found(svid.WITHDRAWN, 1209, 0)]
+    store.lose()
+    assert store.put([late]) == [svid.Found(b"t" * 32, 1209, 1309)]
+
+
+# -- Withdrawals
+
+
+def test_a_withdrawal_reaches_the_other_validators():
+    store, token = svid.MemoryStore(), fresh()
+    with strict(store) as one, strict(store) as other:
+        use = one.withdraw(token)
+        assert use.withdrawn
+        for checks in one, other, other:
+            assert Soon(checks.check, token).answer == "Withdrawn"
+        assert [it.withdrawn for it in other.report().uses] == [True]
+        assert nothing_waits(one)
+
+
+def test_a_withdrawal_that_the_store_may_not_have():
+    store, token = Fickle(), fresh()
+    with strict(store, wait=0.2) as checks:
+        store.before = away
+        with pytest.raises(svid.Unavailable, match="withdraw it again"):
+            checks.withdraw(token)
+        with holding(store), pytest.raises(svid.Unavailable, match="withdraw it again"):
+            checks.withdraw(token)
+        assert in_time(checks.check, token) == "Withdrawn"
+        until(lambda: answer(checks.withdraw, token) != "Unavailable")
+        assert nothing_waits(checks)
+
+
+def test_a_withdrawal_that_the_disk_may_not_have(tmp_path, monkeypatch):
+    with validator(state=tmp_path) as checks:
+        monkeypatch.setattr(_journal, "write", no_space)
+        with pytest.raises(svid.Unavailable, match="withdraw it again"):
+            checks.withdraw(fresh())
+        monkeypatch.undo()
+        checks.withdraw(fresh())
+        assert nothing_waits(checks)
+
+
+# -- Callers
+
+
+OTHERS = ["spiffe://example.org/other", "spiffe://example.com"]
+OURS = ["spiffe://example.com", "spiffe://example.org/billing/*"]
+
+
+@pytest.mark.parametrize("terms", [{}, {"mode": "reuse"}, {"mode": "strict"}], ids=str)
+def test_callers(terms):
+    if terms.get("mode") == "strict":
+        terms = {**terms, "store": svid.MemoryStore()}
+    token = fresh()
+    with validator(callers=OTHERS, **terms) as closed:
+        for call in closed.check, closed.judge, closed.check:
+            assert Soon(call, token).answer == "NotAllowed"
+            assert Soon(call, token[:-6] + "AAAAAA").answer == "BadSignature"
+        assert closed.report().uses == () and nothing_waits(closed)
+    for callers in OURS, OURS[1], iter(OURS), None:
+        with validator(callers=callers, **terms) as opened:
+            token = fresh(jti=os.urandom(8).hex())
+            assert Soon(opened.judge, token).answer == SUBJECT
+            assert Soon(opened.check, token).answer == SUBJECT
+
+
+@pytest.mark.parametrize("callers", [[], (), iter(())], ids=["list", "tuple", "iterator"])
+def test_no_callers_are_not_all(callers):
+    with pytest.raises(ValueError, match="leave it out"):
+        validator(callers=callers)
+
+
+@pytest.mark.parametrize("callers", ["", "example.org", ["spiffe://example.org", "a"], ["*"]])
+def test_callers_that_are_no_patterns(callers):
+    with pytest.raises(ValueError, match="no pattern of SPIFFE IDs"):
+        validator(callers=callers)
+
+
+def test_callers_and_audiences_of_several_lines():
+    with pytest.raises(ValueError, match="line feed"):
+        validator(audiences=["ledger", "a\nb"], callers=OURS)
+
+
+# -- Deadlines
+
+
+def test_a_verifier_that_takes_too_long():
+    """The token is not used up: it was not judged in time."""
+    token, slow = fresh(), [True]
+
+    def verifies(*_):
+        until(lambda: not slow or time.monotonic() > end)
+        return True
+
+    with validator(verifies=verifies, wait=0.2) as checks:
+        end = time.monotonic() + 0.5
+        assert Soon(checks.check, token).answer == "Unavailable"
+        assert checks.report().uses == () and nothing_waits(checks)
+        slow.clear()
+        assert in_time(checks.check, token) == SUBJECT
+
+
+def test_those_that_wait_are_late_one_by_one():
+    store = Fickle()
+    with strict(store, wait=0.3) as checks:
+        with holding(store):
+            calls = [Soon(checks.check, fresh(jti=str(it % 4))) for it in range(8)]
+            assert {it.answer for it in calls} == {"Unavailable"}
+        assert nothing_waits(checks)
+
+
+def test_who_waits_behind_a_late_claim_goes_on(monkeypatch):
+    """Its turn comes as the one before it is late, and it is not late itself."""
+    store, token, go = Fickle(), fresh(), threading.Event()
+    with strict(store, wait=PATIENCE) as checks:
+        store.before = lambda: len(store.puts) == 1 and go.wait(PATIENCE)
+        first = Soon(checks.check, token)
+        until(lambda: store.puts)
+        came = _member.up()
+        until(lambda: _member.up() > came + 1)
+        second = Soon(checks.check, token)
+        until(lambda: len(checks._handle._open) == 2)
+        checks._handle._until_due()
+        late = checks._handle._due.at
+        monkeypatch.setattr(_member, "up", lambda: late)
+        checks._handle._overdue()
+        assert (first.answer, second.answer) == ("Unavailable", SUBJECT)
+        go.set()
+
+
+def test_an_error_leaves_nobody_behind():
+    """Who waits behind a request that ends by an error has its turn."""
+    store, token, asked = Fickle(), fresh(), []
+
+    def verifies(*_):
+        asked.append(True)
+        if len(asked) == 1:
+            raise KeyboardInterrupt
+        return True
+
+    with strict(store, verifies=verifies) as checks:
+        with pytest.raises(KeyboardInterrupt):
+            checks.check(token)
+        assert nothing_waits(checks)
+        assert checks._handle._until_due() == threading.TIMEOUT_MAX
+        assert Soon(checks.check, token).answer == SUBJECT
+
+
+def test_closing_while_others_wait():
+    store = Fickle()
+    checks = strict(store, wait=PATIENCE * 9)
+    with holding(store):
+        calls = [Soon(checks.check, fresh(jti=str(it % 3))) for it in range(6)]
+        calls.append(Soon(checks.withdraw, fresh(jti="w")))
+        until(lambda: len(checks._handle._open) == 6 and checks._handle._withdrawals)
+        checks.close()
+        assert {it.answer for it in calls} == {"Closed"}
+    until(lambda: not claiming())
+    assert nothing_waits(checks)
+
+
+def test_a_fork_puts_no_claims():
+    store, token = Fickle(), fresh()
+    with strict(store) as checks:
+        assert forked(lambda: answer(checks.check, token)) == "Forked"
+        assert forked(checks.unready) == "Forked"
+        assert forked(checks.close) is None
+        assert store.puts == [] and Soon(checks.check, token).answer == SUBJECT
+
+
+def claiming():
+    return [it for it in threading.enumerate() if it.name == "svid-claims"]
+
+
+def test_a_validator_that_is_dropped_ends_its_threads():
+    checks = strict(svid.MemoryStore())
+    gone = weakref.ref(checks._handle)
+    assert Soon(checks.check, fresh()).answer == SUBJECT and claiming()
+    del checks
+    gc.collect()
+    until(lambda: gone() is None and not claiming())
+
+
+# -- Readiness
+
+
+def no_space(*_):
+    raise OSError(errno.ENOSPC, "no space")
+
+
+KEEPS_NOTHING = "The state folder takes no acceptance. Mend the disk."
+
+
+def test_a_disk_that_fails(tmp_path, monkeypatch):
+    token = fresh(jti="1")
+    with validator(state=tmp_path) as checks:
+        assert checks.ready and checks.unready() is None
+        monkeypatch.setattr(_journal, "write", no_space)
+        with pytest.raises(svid.Unavailable, match="did not take the acceptance.*no space"):
+            checks.check(token)
+        for _ in range(2):
+            assert not checks.ready and checks.unready() == KEEPS_NOTHING
+        monkeypatch.undo()
+        until(lambda: checks.ready)  # (each look tries to keep that use)
+        assert answer(checks.check, fresh(jti="2")) == SUBJECT
+        assert answer(checks.check, token) == "Replayed"
+    with validator(state=tmp_path) as checks:
+        assert len(checks.report().uses) == 2
+
+
+def test_a_disk_that_hangs(tmp_path, monkeypatch):
+    go, real = threading.Event(), os.fdatasync
+
+    def fdatasync(file):
+        go.wait(PATIENCE)
+        real(file)
+
+    with validator(state=tmp_path, wait=0.2) as checks:
+        monkeypatch.setattr(os, "fdatasync", fdatasync)
+        assert Soon(checks.check, fresh(jti="1")).answer == "Unavailable"
+        assert checks.unready() == KEEPS_NOTHING and nothing_waits(checks)
+        go.set()
+        until(lambda: checks.ready)
+        until(lambda: Soon(checks.check, fresh(jti=os.urandom(8).hex())).answer == SUBJECT)
+
+
+def test_a_store_that_is_not_there_yet(caplog):
+    store = Fickle()
+    store.before = away
+    with strict(store, wait=0.1) as checks:
+        assert checks.unready() == "The group's store was not reached yet."
+        with pytest.raises(svid.Unavailable, match="not reached yet"):
+            checks.check(fresh())
+        assert store.puts == [] and "the store is away" in caplog.text
+        store.before = lambda: None
+        until(lambda: checks.ready)
+        assert in_time(checks.check, fresh()) == SUBJECT
+
+
+def test_a_store_that_goes_away():
+    store = Fickle()
+    with strict(store, wait=0.1) as checks:
+        assert checks.ready
+        store.before = away
+        assert Soon(checks.check, fresh()).answer == "Unavailable"
+        until(lambda: not checks.ready)
+        assert checks.unready().startswith("The group's store does not answer")
+        store.before = lambda: None
+        until(lambda: checks.ready)  # (each look asks the store)
+
+
+def test_a_clock_that_jumps():
+    now = int(time.time())
+    with validator(step=3600) as checks:
+        assert checks.unready(now) is None
+        assert checks.unready(now + 7200).startswith("The clock went ahead too far at once.")
+        assert checks.unready(now) is None
+
+
+def test_renewed_bundles_count_for_who_waits():
+    """A key that is gone by then lets nobody in."""
+    store, token = Fickle(), fresh()
+    with strict(store, wait=PATIENCE) as checks:
+        with holding(store):
+            calls = [Soon(checks.check, token) for _ in range(2)]
+            until(lambda: store.puts)
+            checks.renew(bundle(entry(private_key("ES256", 1), "k2")))
+        assert {it.answer for it in calls} == {"NoKey"}

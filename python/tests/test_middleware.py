@@ -69,7 +69,7 @@ def test_starlette(bundles, keeps, tmp_path, monkeypatch):
     if keeps:
         monkeypatch.setenv("SVID_STATE", str(tmp_path / "state"))
     with TestClient(load("starlette_app").app) as client:
-        assert client.get("/healthz").text == "ready"
+        assert client.get("/healthz").text == client.get("/readyz").text == "ready"
         made = "bearer " + fresh(jti="1")
         answer = client.get("/", headers={"Authorization": made})
         assert (answer.status_code, answer.text) == (200, HELLO)

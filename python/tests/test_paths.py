@@ -272,10 +272,8 @@ def test_a_function_that_is_asynchronous_lets_nobody_in():
 
 @KINDS
 def test_a_caller_that_no_pattern_allows_may_not_come_again(kind):
-    with validator() as checks:
-        ask = kind(
-            checks, [], allow=["spiffe://example.com"], reuse=["/again"], open_paths=["/open"]
-        )
+    with validator(callers="spiffe://example.com") as checks:
+        ask = kind(checks, [], reuse=["/again"], open_paths=["/open"])
         assert [ask(fresh(), it) for it in ("/again", "/", "/open")] == [403, 403, 200]
 
 

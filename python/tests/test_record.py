@@ -127,6 +127,7 @@ def test_a_use_has_the_moment_of_the_record():
         checks.tick(NOW + 100)
         used, withdrawn = checks.check(token(jti="1"), NOW), checks.withdraw(token(jti="2"), NOW)
         assert (used.use.at, withdrawn.at) == (NOW + 100, NOW + 100)
+        assert checks.judge(token(jti="3"), NOW).use.at == NOW + 100
         for use in used.use, withdrawn:
             other.take(use.message, NOW + 100)
         assert other.report() == checks.report()

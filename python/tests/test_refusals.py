@@ -103,6 +103,7 @@ def test_closed():
         lambda: checks.answer(b""),
         checks.report,
         checks.renew,
+        checks.unready,
     ]
     for call in calls:
         with pytest.raises(svid.Closed):

@@ -110,22 +110,6 @@ def test_no_thread_gets_the_answer_of_another():
         assert len(checks.report().uses) == THREADS * 100
 
 
-def test_no_thread_gets_the_signature_of_another(monkeypatch):
-    """Though others run between the call of the library and the reading of what it wrote."""
-    real = svid._library.quick.svid_token_signature
-
-    def call(*given):
-        status = real(*given)
-        time.sleep(1e-4)
-        return status
-
-    monkeypatch.setattr(svid._library.quick, "svid_token_signature", call)
-    tokens = [[token(jti=f"{which} {it}") for it in range(20)] for which in range(THREADS)]
-    with validator() as checks:
-        in_threads(lambda number: [checks.check(it, NOW) for it in tokens[number]])
-        assert len(checks.report().uses) == THREADS * 20
-
-
 def test_closing_waits_for_a_call():
     """Else the call would read what was freed."""
     checks = validator()
@@ -214,7 +198,7 @@ def test_a_fork_does_not_go_on_with_a_validator():
     with validator() as checks:
         made = token()
         assert forked(lambda: verdict(checks, made)) == "Forked"
-        assert forked(checks.report) == "Forked"
+        assert forked(checks.report) == forked(checks.unready) == "Forked"
         assert forked(checks.close) is None
         assert verdict(checks, made).startswith("accepted")
 

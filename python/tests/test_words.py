@@ -145,6 +145,19 @@ def test_want_of_memory():
     assert str(why) == sentence("NO_MEMORY")
 
 
+UNAVAILABLE = ["CLAIM_FAR", "CLAIM_DEAF", "LATE", "NOT_KEPT", "LEFT"]
+
+
+@pytest.mark.parametrize(
+    "number", [*range(211, 223), *(STATUSES[it]["number"] for it in UNAVAILABLE)]
+)
+def test_why_a_token_has_no_answer(number):
+    name = next(name for name, it in STATUSES.items() if it["number"] == number)
+    why = _handle.fault(number)
+    assert isinstance(why, svid.Unavailable)
+    assert str(why) == sentence(name)
+
+
 def test_what_is_no_id():
     with pytest.raises(ValueError) as raised:
         svid.allows("spiffe://a", "spiffe://a//b")

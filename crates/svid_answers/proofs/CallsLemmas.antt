@@ -1,9 +1,9 @@
 -- The calls of a member are events of its group.
 use Rattle.std.proofs.Common.{◌≡◌, ◌≢◌, ◌++◌, ℕ, max, Bool, true, false, cond, List, [], ◌∷◌, refl, sym, ap, ◌∙◌, subst, Option, None, Ok, Err, Result}
-use Rattle.std.specs.Prelude.{◌==◌}
+use Rattle.std.specs.Prelude.{◌+◌, ◌==◌, if◌then◌else◌}
 use Rattle.std.specs.List.{AllByRecursion}
 use Rattle.std.proofs.lemmas.Option.{none-some}
-use Rattle.std.proofs.lemmas.Bool.{cond-false, cond-true, eq-eqb, ne_eqb}
+use Rattle.std.proofs.lemmas.Bool.{cond-false, cond-true, eq-eqb, eqb-true, ne_eqb}
 use Rattle.svid_replay.specs.Records as records
 use Rattle.svid_replay.specs.Buckets.{raised_to}
 use Rattle.svid_replay.proofs.RecordsLemmas.{moment-join}
@@ -41,6 +41,20 @@ put_other of v n s other = cond-false (n == v) s (of n) (ne_eqb n v other)
 
 pub member_other : (w : claims.World) (v n : ℕ) (z : Member) → n ≢ v → (claims.put_member w v z).members n ≡ w.members n
 member_other w v n z other = cond-false (n == v) z (w.members n) (ne_eqb n v other)
+
+-- a member that is in the same life as before leaves all lives as they were
+pub life_put : (w : claims.World) (v n : ℕ) (z : Member) → z.life ≡ (w.members v).life → ((claims.put_member w v z).members n).life ≡ (w.members n).life
+life_put w v n z same = by (n == v) refl where
+  by : (b : Bool) → (n == v) ≡ b → (if b then z else w.members n).life ≡ (w.members n).life
+  by true e = same ∙ ap (λ k. (w.members k).life) (sym (eqb-true n v e))
+  by false e = refl
+
+-- and one in its next life has one more
+life_next : (w : claims.World) (v n moment : ℕ) → ((claims.put_member w v (claims.next_life (w.members v) moment [])).members n).life ≡ (if n == v then (w.members n).life + 1 else (w.members n).life)
+life_next w v n moment = by (n == v) refl where
+  by : (b : Bool) → (n == v) ≡ b → (if b then claims.next_life (w.members v) moment [] else w.members n).life ≡ (if b then (w.members n).life + 1 else (w.members n).life)
+  by true e = ap (λ k. (w.members k).life + 1) (sym (eqb-true n v e))
+  by false e = refl
 
 mirrors_same : (t : Terms) (n : ℕ) (w w_new : World) (x : records.State) (m : MemberData) → w_new.requests n ≡ w.requests n → w_new.claims.members n ≡ w.claims.members n → Mirrors t n w x m → Mirrors t n w_new x m
 mirrors_same t n w w_new x m requests members h = record {
@@ -105,13 +119,16 @@ module _ (t : Terms) (v : ℕ) where
       let s = at_moment (w.requests v) up in
       mirrors_other t v n w w.claims (heard refused s e) (given_by v None (heard_deed refused s e) w.given) x m other refl h
 
-  pub hears_events : (claimed : Option (List ℕ)) (events : List Event) (up : ℕ) (e : requests.Event) (x : records.State) (m m_new : MemberData) (deed : Deed) → AreAllowed t events → Mirrors t v (history t events) x m → granted e ≡ None → Hears up e m deed m_new → AreEvents t events v claimed x m_new deed
+  pub hears_events : (claimed : Option (List ℕ)) (events : List Event) (up : ℕ) (e : requests.Event) (x : records.State) (m m_new : MemberData) (deed : Deed) → AreAllowed t events → Mirrors t v (history t events) x m → granted e ≡ None → Hears up e m deed m_new → AreEvents t false events v claimed x m_new deed
   hears_events claimed events up e x m m_new deed allowed h grants hears = record {
     more = Hear v up hears.0 e ∷ [];
     owner = None;
     owner_is = λ o is. absurd (none-some o is);
     allowed = (allowed, grants);
     puts = λ told all. all;
+    stores = refl;
+    answers = refl;
+    lives = λ n. refl;
     mirrors = heard_mirrors events up e x m m_new deed h hears;
     others = λ n y d other k. heard_others (history t events) up e hears.0 n y d other k;
     given = deed_is (history t events) up e None x m m_new deed h hears;
@@ -119,7 +136,7 @@ module _ (t : Terms) (v : ℕ) where
 
   -- its record is joined, and then they hear of something
   pub joins_hear : (claimed : Option (List ℕ)) (events : List Event) (up : ℕ) (e : requests.Event) (x b : records.State) (m m_new : MemberData) (deed : Deed) → AreAllowed t events → Mirrors t v (history t events) x m → granted e ≡ None → Hears up e m deed m_new
-      → AreEvents t events v claimed (records.join x b) m_new deed
+      → AreEvents t false events v claimed (records.join x b) m_new deed
   joins_hear claimed events up e x b m m_new deed allowed h grants hears =
       let joined = joined_mirrors events x b m h in record {
         more = Hear v up hears.0 e ∷ Group (Tick v b.moment) ∷ [];
@@ -127,6 +144,9 @@ module _ (t : Terms) (v : ℕ) where
         owner_is = λ o is. absurd (none-some o is);
         allowed = ((allowed, tt), grants);
         puts = λ told all. tells_more told (in_claims events) (Tick v b.moment) tt all;
+        stores = refl;
+        answers = refl;
+        lives = λ n. life_put (history t events).claims v n (claims.at_moment ((history t events).claims.members v) b.moment) refl;
         others = λ n y d other k. heard_others (history t (Group (Tick v b.moment) ∷ events)) up e hears.0 n y d other (joined_others events b n y d other k);
         mirrors = heard_mirrors (Group (Tick v b.moment) ∷ events) up e (records.join x b) m m_new deed joined hears;
         given = deed_is (history t (Group (Tick v b.moment) ∷ events)) up e None (records.join x b) m m_new deed joined hears;
@@ -138,6 +158,9 @@ hears_are_events t events v up e x m m_new deed allowed h grants hears = hears_e
 pub joins_are_events : JoinsAreEvents
 joins_are_events t events v x b m allowed h = record {
   puts = λ told all. tells_more told (in_claims events) (Tick v b.moment) tt all;
+  stores = refl;
+  answers = refl;
+  lives = λ n. life_put (history t events).claims v n (claims.at_moment ((history t events).claims.members v) b.moment) refl;
   others = λ n y d other k. joined_others t v events b n y d other k;
   more = Group (Tick v b.moment) ∷ [];
   owner = None;
@@ -162,7 +185,7 @@ none_held n (Err refusal) = refl
 
 pub judges_are_events : JudgesAreEvents
 judges_are_events t events v now up n answer x m m_new asked allowed h told =
-    subst (λ (b : Bool). AreEvents t events v None (judged_by b (raised_to x now) answer) m_new asked.deed) (sym (modes_once t.strict m.mode h.mode))
+    subst (λ (b : Bool). AreEvents t false events v None (judged_by b (raised_to x now) answer) m_new asked.deed) (sym (modes_once t.strict m.mode h.mode))
     (joins_hear t v None events up (Judged n (judgment_of answer)) x (records.state_of now []) m m_new asked.deed allowed h (none_held n answer) told.0)
 
 pub comes_are_events : ComesAreEvents
@@ -173,6 +196,9 @@ comes_are_events t events v up refused x m allowed h =
       owner_is = λ o is. absurd (none-some o is);
       allowed = (allowed, tt);
       puts = λ told all. all;
+      stores = refl;
+      answers = refl;
+      lives = λ n. refl;
       others = λ n y d other k. mirrors_other t v n w w.claims (comes refused (at_moment (w.requests v) up)) w.given y d other refl k;
       mirrors = mirrors_on t v w (history t (Come v up refused ∷ events)) x x m (with_requests m (comes refused (at_moment m.requests up))) (comes refused (at_moment m.requests up)) (w.claims.members v) h refl
           (put_at w.requests v (comes refused (at_moment (w.requests v) up)) ∙ ap (λ (s : State). comes refused (at_moment s up)) (sym h.requests)) refl h.moment h.knows;
@@ -188,6 +214,9 @@ begins_are_events t events v wait life knows x allowed =
       owner_is = λ o is. absurd (none-some o is);
       allowed = (allowed, tt);
       puts = λ told all. tells_more told (in_claims events) (Restart v x.moment []) tt all;
+      stores = refl;
+      answers = refl;
+      lives = λ n. life_next w.claims v n x.moment;
       others = λ n y d other k. mirrors_other t v n w (claims.put_member w.claims v z) (begun Claim wait) w.given y d other (member_other w.claims v n z other) k;
       mirrors = record {
         mode = refl;

@@ -7,5 +7,7 @@ pub mod GrantsLemmas
 pub mod GroupLemmas
 pub mod LooksLemmas
 pub mod RecordsLemmas
+pub mod RunsAloneLemmas
+pub mod RunsLemmas
 pub mod WritesLemmas
 pub mod WrittenLemmas

@@ -44,7 +44,7 @@ use Rattle.svid_answers.specs.Calls.{AreEvents, FindsAreEvents, FoundIsALook, Is
 use Rattle.svid_answers.specs.Group.{AreAllowed, Event, FindsUse, World, given_by, history, in_claims, owner_in, passing}
 use Rattle.svid_answers.specs.Group.Event.{Looks}
 use Rattle.svid_answers.specs.Records.{Knows, KnowsOf}
-use Rattle.svid_answers.proofs.CallsLemmas.{deed_is, hears_events, joins_hear, member_at, member_other, mirrors_on, mirrors_other, tells_more, put_at, strict_adds}
+use Rattle.svid_answers.proofs.CallsLemmas.{life_put, deed_is, hears_events, joins_hear, member_at, member_other, mirrors_on, mirrors_other, tells_more, put_at, strict_adds}
 use Rattle.svid_answers.proofs.GroupLemmas.{claims_is}
 use Rattle.svid_answers.proofs.RecordsLemmas.{accepts_says, all_know_join, all_know_judged, known_is_used, moment_judged}
 
@@ -168,7 +168,7 @@ raised_moment x now moment is = moment-join x (records.state_of now []) ∙ ap (
 
 look_events : (t : Terms) (events : List Event) (v now index up n : ℕ) (a : Answer) (accepted : Accepted) (x : records.State) (m m_new : MemberData) (deed : Deed) → AreAllowed t events → Mirrors t v (history t events) x m
     → Accepts t (history t events).claims v now index a → a.key ≡ accepted.used.key → a.found.exp ≡ accepted.used.exp → (raised_to x now).moment < accepted.used.exp → Hears up (Found n (Passes accepted.used)) m deed m_new
-    → AreEvents t events v (Some a.found.owner) (judged_by (adds_at_claim m.mode) (raised_to x now) (Ok accepted)) m_new deed
+    → AreEvents t false events v (Some a.found.owner) (judged_by (adds_at_claim m.mode) (raised_to x now) (Ok accepted)) m_new deed
 look_events t events v now index up n a accepted x m m_new deed allowed h is key exp live hears =
     let w = history t events in
     let y = w.claims.members v in
@@ -181,6 +181,9 @@ look_events t events v now index up n a accepted x m m_new deed allowed h is key
       owner_is = λ o some. sym (ap owner_in is.given) ∙ some;
       allowed = (allowed, λ u some. subst (FindsUse t w.claims v now index) (same_Some accepted.used u some) (record { answer = a; accepts = is; key_is = key; exp_is = exp }));
       puts = λ told all. tells_more told (in_claims events) (Accept v now index) tt all;
+      stores = ap (λ (o : Option Answer). (look t w.claims v now o).stores) is.given;
+      answers = ap (λ (o : Option Answer). (look t w.claims v now o).answers) is.given;
+      lives = λ n. ap (λ (o : Option Answer). ((look t w.claims v now o).members n).life) is.given ∙ life_put w.claims v n (with_look t v (w.claims.members v) now a) refl;
       others = λ n y d other k. mirrors_other t v n w (claims.happens t w.claims (Accept v now index)) (heard hears.0 (at_moment (w.requests v) up) e)
           (given_by v (owner_in (slice_get w.claims.answers index)) (heard_deed hears.0 (at_moment (w.requests v) up) e) w.given) y d other
           (ap (λ (o : Option Answer). (look t w.claims v now o).members n) is.given ∙ member_other w.claims v n (with_look t v (w.claims.members v) now a) other) k;
@@ -200,7 +203,7 @@ refused_record false x refusal = refl
 module _ (V : Type 0) (t : Terms) (events : List Event) (told : List ℕ → ℕ) (v now index up n : ℕ) (a : Answer) (own : Use) (caller : List ℕ) (s : Setting) (said : Said) (h h_new : Held V) (m m_new : MemberData) (c : Claimed)
     (allowed : AreAllowed t events) (mirrors : Mirrors t v (history t events) h.state m) where
   abbrev Done : records.State → Type 0
-  Done x = AreEvents t events v (Some (owner_for m own caller)) x m_new c.deed
+  Done x = AreEvents t false events v (Some (owner_for m own caller)) x m_new c.deed
 
   refused_events : (why : ℕ) → h_new ≡ h → Hears up (Found n (Fails why)) m c.deed m_new → Done h_new.state
   refused_events why same hears = subst Done (ap (λ (x : Held V). x.state) (sym same)) (hears_events t v (Some (owner_for m own caller)) events up (Found n (Fails why)) h.state m m_new c.deed allowed mirrors refl hears)
@@ -220,7 +223,7 @@ module _ (V : Type 0) (t : Terms) (events : List Event) (told : List ℕ → ℕ
   judged_events (Ok accepted) puts claim waits mine is left =
       let f = finds_accepted V t events told v now index up n a own caller s said h h_new m m_new c mirrors puts claim waits accepted mine is in
       let live = (accepts_says s (raised_to h.state now).moment (raised_to h.state now).uses said accepted is.0).live in
-      subst Done (sym left) (subst (λ (o : List ℕ). AreEvents t events v (Some o) (judged_by (adds_at_claim m.mode) (raised_to h.state now) (Ok accepted)) m_new c.deed) f.3 (look_events t events v now index up n a accepted h.state m m_new c.deed allowed mirrors f.0 f.1 f.2 live is.1))
+      subst Done (sym left) (subst (λ (o : List ℕ). AreEvents t false events v (Some o) (judged_by (adds_at_claim m.mode) (raised_to h.state now) (Ok accepted)) m_new c.deed) f.3 (look_events t events v now index up n a accepted h.state m m_new c.deed allowed mirrors f.0 f.1 f.2 live is.1))
   judged_events (Err refusal) puts claim waits mine is left = joined_events (records.state_of now []) (reason_of refusal) (left ∙ refused_record (adds_at_claim m.mode) (raised_to h.state now) refusal) is.1
 
   finds_by : (o : Outcome) → outcome t events told v now index a own caller s said h.state m ≡ o → AllByRecursion (PutsTelling told) (in_claims events) → IsClaimed t told v index (history t events) m own caller a → awaited m up n said ≡ Some own

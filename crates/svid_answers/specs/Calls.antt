@@ -1,5 +1,5 @@
 -- What the calls of a member are in its group.
-use Rattle.std.specs.Prelude.{◌≡◌, ◌≢◌, ℕ, ◌<◌, ◌^◌, Bool, true, List, ◌∷◌, ◌++◌, slice_get, Option, Some, None, if◌then◌else◌, Result}
+use Rattle.std.specs.Prelude.{◌≡◌, ◌≢◌, ℕ, ◌+◌, ◌<◌, ◌^◌, Bool, true, false, ◌==◌, ◌&&◌, List, ◌∷◌, ◌++◌, slice_get, Option, Some, None, if◌then◌else◌, Result}
 use Rattle.std.specs.List.{AllByRecursion}
 use Rattle.svid_token.specs.declared.refusal.Refusal.{Refusal}
 use Rattle.svid_replay.specs.declared.token_use.Use.{Use}
@@ -62,14 +62,22 @@ FoundIsALook V = (t : Terms) (events : List Event) (told : List ℕ → ℕ) (v 
     → awaited m up n said ≡ Some own → Finds s now up n own caller (found_by a) said h h_new m m_new c
     → (j : Judgment) × Hears up (Found n j) m c.deed m_new × ((u : Use) → passing j ≡ Some u → FindsUse t w.claims v now index u)
 
+-- the number of lives of member n, where member v begins its next one, or not
+abbrev pub life_after : Bool → (v n life : ℕ) → ℕ
+life_after born v n life = if born && n == v then life + 1 else life
+
 -- What a call did is done by allowed events of the group. They leave member v as it is then, and the others as they were. What the call's deed answers
--- was given by them, for a claim of this owner if for any. They put nothing into a store.
-pub record AreEvents (t : Terms) (events : List Event) (v : ℕ) (claimed : Option (List ℕ)) (x : records.State) (m : MemberData) (deed : Deed) : Type 0 where
+-- was given by them, for a claim of this owner if for any. They put nothing into a store, and each store and its answers stay as they were. A member's
+-- next life begins by a start, and by nothing else.
+pub record AreEvents (t : Terms) (born : Bool) (events : List Event) (v : ℕ) (claimed : Option (List ℕ)) (x : records.State) (m : MemberData) (deed : Deed) : Type 0 where
   pub more : List Event
   pub owner : Option (List ℕ)
   pub owner_is : (o : List ℕ) → owner ≡ Some o → claimed ≡ Some o
   pub allowed : AreAllowed t (more ++ events)
   pub puts : (told : List ℕ → ℕ) → AllByRecursion (PutsTelling told) (in_claims events) → AllByRecursion (PutsTelling told) (in_claims (more ++ events))
+  pub stores : (history t (more ++ events)).claims.stores ≡ (history t events).claims.stores
+  pub answers : (history t (more ++ events)).claims.answers ≡ (history t events).claims.answers
+  pub lives : (n : ℕ) → ((history t (more ++ events)).claims.members n).life ≡ life_after born v n ((history t events).claims.members n).life
   pub mirrors : Mirrors t v (history t (more ++ events)) x m
   pub others : (n : ℕ) (y : records.State) (d : MemberData) → n ≢ v → Mirrors t n (history t events) y d → Mirrors t n (history t (more ++ events)) y d
   pub given : (history t (more ++ events)).given ≡ given_by v owner deed (history t events).given
@@ -79,33 +87,33 @@ abbrev pub FindsAreEvents : (V : Type 0) → Type 0
 FindsAreEvents V = (t : Terms) (events : List Event) (told : List ℕ → ℕ) (v now index up n : ℕ) (a : Answer) (own : Use) (caller : List ℕ) (s : Setting) (said : Said) (h h_new : Held V) (m m_new : MemberData) (c : Claimed)
     → let w = history t events in
     AreAllowed t events → Mirrors t v w h.state m → AllByRecursion (PutsTelling told) (in_claims events) → IsClaimed t told v index w m own caller a
-    → awaited m up n said ≡ Some own → Finds s now up n own caller (found_by a) said h h_new m m_new c → AreEvents t events v (Some (owner_for m own caller)) h_new.state m_new c.deed
+    → awaited m up n said ≡ Some own → Finds s now up n own caller (found_by a) said h h_new m m_new c → AreEvents t false events v (Some (owner_for m own caller)) h_new.state m_new c.deed
 
 -- of a judgment
 abbrev pub JudgesAreEvents : Type 0
 JudgesAreEvents = (t : Terms) (events : List Event) (v now up n : ℕ) (answer : Result Accepted Refusal) (x : records.State) (m m_new : MemberData) (asked : Asked)
     → AreAllowed t events → Mirrors t v (history t events) x m → IsTold up n answer m asked m_new
-    → AreEvents t events v None (judged_by (adds_at_judgment m.mode) (raised_to x now) answer) m_new asked.deed
+    → AreEvents t false events v None (judged_by (adds_at_judgment m.mode) (raised_to x now) answer) m_new asked.deed
 
 -- of all else that the requests hear
 abbrev pub HearsAreEvents : Type 0
 HearsAreEvents = (t : Terms) (events : List Event) (v up : ℕ) (e : requests.Event) (x : records.State) (m m_new : MemberData) (deed : Deed)
-    → AreAllowed t events → Mirrors t v (history t events) x m → granted e ≡ None → Hears up e m deed m_new → AreEvents t events v None x m_new deed
+    → AreAllowed t events → Mirrors t v (history t events) x m → granted e ≡ None → Hears up e m deed m_new → AreEvents t false events v None x m_new deed
 
 -- of a request that comes
 abbrev pub ComesAreEvents : Type 0
 ComesAreEvents = (t : Terms) (events : List Event) (v up : ℕ) (refused : Bool) (x : records.State) (m : MemberData)
-    → AreAllowed t events → Mirrors t v (history t events) x m → AreEvents t events v None x (with_requests m (comes refused (at_moment m.requests up))) Nothing
+    → AreAllowed t events → Mirrors t v (history t events) x m → AreEvents t false events v None x (with_requests m (comes refused (at_moment m.requests up))) Nothing
 
 -- of what a record is joined with
 abbrev pub JoinsAreEvents : Type 0
 JoinsAreEvents = (t : Terms) (events : List Event) (v : ℕ) (x b : records.State) (m : MemberData)
-    → AreAllowed t events → Mirrors t v (history t events) x m → AreEvents t events v None (records.join x b) m Nothing
+    → AreAllowed t events → Mirrors t v (history t events) x m → AreEvents t false events v None (records.join x b) m Nothing
 
 -- and of a start with any record
 abbrev pub BeginsAreEvents : Type 0
 BeginsAreEvents = (t : Terms) (events : List Event) (v wait : ℕ) (life : List ℕ) (knows : Readiness) (x : records.State)
-    → AreAllowed t events → AreEvents t events v None x (member_of (mode_of t) life (t.ahead v) t.lasts knows (begun Claim wait)) Nothing
+    → AreAllowed t events → AreEvents t true events v None x (member_of (mode_of t) life (t.ahead v) t.lasts knows (begun Claim wait)) Nothing
 
 -- What happens in the stores leaves each member as it was.
 abbrev pub IsOfStores : claims.Event → Type 0

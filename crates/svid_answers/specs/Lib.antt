@@ -5,3 +5,5 @@ pub mod Examples
 pub mod Group
 pub mod Promises
 pub mod Records
+pub mod Runs
+pub mod RunsAlone

@@ -4,6 +4,8 @@ ghost use Rattle.svid_answers.specs.Alone.{AnsweredIsWritten, TokensAreAnsweredO
 ghost use Rattle.svid_answers.specs.Calls.{BeginsAreEvents, ComesAreEvents, FindsAreEvents, FoundIsALook, HearsAreEvents, JoinsAreEvents, JudgesAreEvents, StoresKeepMembers};
 ghost use Rattle.svid_answers.specs.CallsAlone as alone;
 ghost use Rattle.svid_answers.specs.Examples.{BoundAnswers, OnceAnswers, StrictAnswers};
+ghost use Rattle.svid_answers.specs.Runs.{RunsAnswerOnce};
+ghost use Rattle.svid_answers.specs.RunsAlone as runs_alone;
 ghost use Rattle.svid_answers.specs.Promises.{AnsweredIsFound, TokensAreAnsweredOnce, TokensAreAnsweredToOneCaller, TokensAreAnsweredToOneOwner};
 
 /// In a strict group that claims tokens in stores, at most one request for a token is answered 200. That counts all members, over their restarts,
@@ -57,6 +59,13 @@ pub fn calls_are_events_alone()
     ensures joins { alone.JoinsAreEvents }
     ensures begins { alone.BeginsAreEvents }
     ensures none_claimed { alone.NoneIsClaimed }
+{}
+
+/// So whatever is called, in whatever order, and however often a member starts again, no token is answered 200 twice: by one member in mode `Once`, and
+/// by a whole group in mode `Strict`, whatever its stores do. `V` is the members' verifier.
+pub fn runs_answer_once<V>()
+    ensures alone { runs_alone.RunsAnswerOnce }
+    ensures group { RunsAnswerOnce V }
 {}
 
 /// In some histories requests are answered 200, so these laws speak of something.

@@ -3,6 +3,7 @@ pub mod AloneLemmas
 pub mod AsBox
 pub mod AsTokenBox
 pub mod AsTrustBox
+pub mod CallersLemmas
 pub mod CheckedLemmas
 pub mod DocumentsLemmas
 pub mod EntriesLemmas

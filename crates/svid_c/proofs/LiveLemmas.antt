@@ -21,7 +21,7 @@ use Rattle.svid_c.specs.declared.validator_open.SvidTerms.{SvidTerms}
 -- a validator that is made of what the inputs say begins
 pub begun : (own : List (List ℕ)) (text : List ℕ) (terms : SvidTerms) (kept : List Bundle) (nobody : Nobody) (r : State)
     → AreBundles text kept → r ≡ state_of 0 []
-    → IsBegun own text terms (record { validator = record { own = own; validator_id = terms.validator_id; ahead = terms.ahead; bundles = kept; verifier = nobody; longest = Some terms.longest; state = r }; step = terms.step; member = None })
+    → IsBegun own text terms (record { validator = record { own = own; validator_id = terms.validator_id; ahead = terms.ahead; bundles = kept; verifier = nobody; longest = Some terms.longest; state = r }; step = terms.step; member = None; peer = None })
 begun own text terms kept nobody r are new = record {
   kept = kept;
   nobody = nobody;
@@ -29,6 +29,7 @@ begun own text terms kept nobody r are new = record {
   held = ap (λ s. record { own = own; validator_id = terms.validator_id; ahead = terms.ahead; bundles = kept; verifier = nobody; longest = Some terms.longest; state = s }) new;
   step = refl;
   member = refl;
+  peer = refl;
 }
 
 -- a call at a moment did this to what it took

@@ -23,10 +23,11 @@ unclaimed moment (Err why) = refl
 -- what a look at the claims beside the record leaves
 pub left_by_look : (now : ℕ) (r : State) (a : Live) (m n : MemberState) (v : Kept)
     → a.member ≡ Some m → v ≡ with_state a.validator r → IsLooked (raised_to a.validator.state now).moment m n
-    → IsLeft now r a (record { validator = v; step = a.step; member = Some n })
+    → IsLeft now r a (record { validator = v; step = a.step; member = Some n; peer = a.peer })
 left_by_look now r a m n v held is looked = record {
   validator = is;
   step = refl;
+  peer = refl;
   member = subst (λ (member : Option MemberState). IsLookedBy (raised_to a.validator.state now).moment member (Some n)) (sym held) (n, refl, looked);
 }
 
@@ -44,8 +45,8 @@ up : (i : ℕ) → suc i ≡ i + 1
 up i = omega arith
 
 -- what holds a member holds it
-pub same_live : (a : Live) (m : MemberState) → a.member ≡ Some m → record { validator = a.validator; step = a.step; member = Some m } ≡ a
-same_live a m is = ap (λ (member : Option MemberState). record { validator = a.validator; step = a.step; member = member }) (sym is)
+pub same_live : (a : Live) (m : MemberState) → a.member ≡ Some m → record { validator = a.validator; step = a.step; member = Some m; peer = a.peer } ≡ a
+same_live a m is = ap (λ (member : Option MemberState). record { validator = a.validator; step = a.step; member = member; peer = a.peer }) (sym is)
 
 -- so a row of uses is written one after the other
 pub put_more : (uses : List Use) (fates : List Fate) (room written : List SvidFate) (i : ℕ) (d : Use) (e : Fate) (x : SvidFate)

@@ -43,9 +43,9 @@ Kept = Held Nobody
 abbrev pub is_jump : Live → ℕ → Bool
 is_jump live now = nat_lt 0 live.validator.state.moment && nat_lt live.step (now - live.validator.state.moment)
 
--- the rest of what a handle holds is as it was: how far its clock may go, and where its validator is in a log
+-- the rest of what a handle holds is as it was: how far its clock may go, where its validator is in a log, and its member
 abbrev pub IsRest : Live → Live → Type 0
-IsRest a b = (b.step ≡ a.step) × (b.member ≡ a.member)
+IsRest a b = (b.step ≡ a.step) × (b.member ≡ a.member) × (b.peer ≡ a.peer)
 
 -- a call does something to the validator, and the rest is as it was
 abbrev pub ToValidator : (Kept → Kept → Type 0) → Live → Live → Type 0
@@ -89,6 +89,7 @@ pub record IsBegun (own : List (List ℕ)) (bundles : List ℕ) (terms : SvidTer
   pub held : live.validator ≡ record { own = own; validator_id = terms.validator_id; ahead = terms.ahead; bundles = kept; verifier = nobody; longest = Some terms.longest; state = state_of 0 [] }
   pub step : live.step ≡ terms.step
   pub member : live.member ≡ None
+  pub peer : live.peer ≡ None
 
 -- what comes of a closed handle that is opened with these audiences: it holds a validator that begins; or the bundles are refused
 pub data Begins (bundles : List ℕ) (terms : SvidTerms) (status : ℕ) (told : SvidTold) (new : Option Live) (own : List (List ℕ)) : Type 0 where
@@ -121,6 +122,7 @@ IsLookedBy moment (Some m) new = (n : MemberState) × (new ≡ Some n) × IsLook
 pub record IsLeft (now : ℕ) (r : State) (a b : Live) : Type 0 where
   pub validator : b.validator ≡ with_state a.validator r
   pub step : b.step ≡ a.step
+  pub peer : b.peer ≡ a.peer
   pub member : IsLookedBy (raised_to a.validator.state now).moment a.member b.member
 
 -- a check adds the use that it accepts

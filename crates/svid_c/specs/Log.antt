@@ -29,7 +29,7 @@ use Rattle.svid_c.specs.declared.told.SvidTold.{SvidTold}
 
 -- the same validator, where it is in a log
 abbrev pub with_member : Live → Option MemberState → Live
-with_member live member = record { validator = live.validator; step = live.step; member = member }
+with_member live member = record { validator = live.validator; step = live.step; member = member; peer = live.peer }
 
 -- the mark of a member, as C gives it
 abbrev pub mark_in : SvidMark → Mark
@@ -116,7 +116,7 @@ pub data ReadsValue (now position : ℕ) (value : List ℕ) (status : ℕ) (told
       → HasRead now (horizon now old.validator.ahead) position m old.validator.state uses room r n y written
       → status ≡ value_number fault r.rest → told ≡ told_value fault → reading ≡ reading_seen r
       → new_out ≡ fates_seen (take r.count (drop r.from uses)) written ++ drop r.count old_out
-      → new ≡ record { validator = with_state old.validator y; step = old.step; member = Some n }
+      → new ≡ record { validator = with_state old.validator y; step = old.step; member = Some n; peer = old.peer }
       → ReadsValue now position value status told reading old_out new_out old new
 
 -- what telling where a validator is in its log does; it reads none, or its mark is told, and nothing happens

@@ -6,7 +6,7 @@ use std::alloc::Global;
 use svid_allow::Pattern;
 use svid_id::{IdFault, SpiffeId};
 
-fn pattern_number(fault: IdFault) -> u32
+pub(crate) fn pattern_number(fault: IdFault) -> u32
     ensures { result ≡ pattern_number fault }
 {
     match fault {

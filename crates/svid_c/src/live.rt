@@ -1,6 +1,7 @@
 ghost use Rattle.std.specs.Prelude.{◌≡◌, Bool, false};
 ghost use Rattle.svid_c.specs.Live.{is_jump};
 
+use crate::peer::Peer;
 use svid_check::Validator;
 use svid_keys::{JwtKey, Verifier};
 use svid_log::Member;
@@ -25,12 +26,14 @@ impl Verifier for Nobody {
 /// The store of the uses of a validator that C keeps.
 pub(crate) type Store = ShardedUses<RunUses>;
 
-/// What a handle of C holds: a validator, how far its clock may go in one step, and where it is in a log, if it reads one.
+/// What a handle of C holds: a validator, how far its clock may go in one step, where it is in a log, if it reads one, and the member that
+/// answers requests by it, if there is one.
 #[derive(Drop)]
 pub struct Live {
     pub(crate) validator: Validator<Nobody, Store>,
     pub(crate) step: u64,
     pub(crate) member: Option<Member<RunUses>>,
+    pub(crate) peer: Option<Peer>,
 }
 
 impl Live {

@@ -56,6 +56,7 @@ fn begin(
         ),
         step: terms.step,
         member: None,
+        peer: None,
     })
 }
 

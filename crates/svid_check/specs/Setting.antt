@@ -62,6 +62,10 @@ with_state held state = record { own = held.own; validator_id = held.validator_i
 abbrev pub with_bundles : {V : Type 0} → Held V → List Bundle → Held V
 with_bundles held bundles = record { own = held.own; validator_id = held.validator_id; ahead = held.ahead; bundles = bundles; verifier = held.verifier; longest = held.longest; state = held.state }
 
+-- the same validator with other audiences
+abbrev pub with_own : {V : Type 0} → Held V → List (List ℕ) → Held V
+with_own held own = record { own = own; validator_id = held.validator_id; ahead = held.ahead; bundles = held.bundles; verifier = held.verifier; longest = held.longest; state = held.state }
+
 -- how a key is stored
 abbrev pub key_code : Coded KeyData
 key_code =

@@ -28,9 +28,9 @@ with_requests m s = record { mode = m.mode; life = m.life; ahead = m.ahead; last
 abbrev pub with_readiness : MemberData → Known → MemberData
 with_readiness m r = record { mode = m.mode; life = m.life; ahead = m.ahead; lasts = m.lasts; readiness = r; requests = m.requests }
 
--- the same member, whose state folder took the last use, or did not
-abbrev pub knows_kept : Bool → Known → Known
-knows_kept ok r = record {
+-- the same knowledge, but for whether the state folder took the last use
+abbrev pub knows_unkept : Bool → Known → Known
+knows_unkept unkept r = record {
   bundled = r.bundled;
   loaded = r.loaded;
   opened = r.opened;
@@ -39,14 +39,20 @@ knows_kept ok r = record {
   caught_up = r.caught_up;
   draining = r.draining;
   jumped = r.jumped;
-  unkept = not ok;
+  unkept = unkept;
+  full = r.full;
   away = r.away;
   deaf = r.deaf;
   ended = r.ended;
 }
 
+-- the same member, whose state folder took the last use, or did not
 abbrev pub with_kept : Bool → MemberData → MemberData
-with_kept ok m = with_readiness m (knows_kept ok m.readiness)
+with_kept ok m = with_readiness m (knows_unkept (not ok) m.readiness)
+
+-- the same member, which knows this from now on; it knows by itself whether the state folder took the last use
+abbrev pub with_known : Known → MemberData → MemberData
+with_known r m = with_readiness m (knows_unkept m.readiness.unkept r)
 
 -- a request comes at a moment, unless a reason speaks against it
 abbrev pub ComesBy : ℕ → Option Reason → MemberData → Coming → MemberData → Type 0

@@ -1,5 +1,5 @@
 -- When a member judges tokens, and when some are to be sent to it.
-use Rattle.std.specs.Prelude.{Bool, true, false, not, ◌&&◌, List, [], ◌∷◌, ◌++◌, Option, Some, None, if◌then◌else◌}
+use Rattle.std.specs.Prelude.{Bool, true, false, not, ◌&&◌, ◌||◌, List, [], ◌∷◌, ◌++◌, Option, Some, None, if◌then◌else◌}
 use Rattle.svid_member.specs.declared.mode.Mode.{Mode}
 use Rattle.svid_member.specs.declared.mode.Mode.TheVariants.{Once, Strict, Bound, Reuse}
 use Rattle.svid_member.specs.declared.readiness.Readiness.{Readiness}
@@ -49,7 +49,7 @@ abbrev pub doubt_rows : Readiness → Mode → List Row
 doubt_rows r mode =
     (Draining, r.draining)
     ∷ (Jumped, r.jumped)
-    ∷ (KeepsNothing, keeps_first mode && r.unkept)
+    ∷ (KeepsNothing, keeps_first mode && (r.unkept || r.full))
     ∷ (StoreAway, hears_by_claims mode && r.away)
     ∷ (Deaf, hears_by_claims mode && r.deaf)
     ∷ []

@@ -1,4 +1,4 @@
-ghost use Rattle.std.specs.Prelude.{◌≡◌, ℕ, max, List, Some, None, Result, false, true};
+ghost use Rattle.std.specs.Prelude.{◌≡◌, ℕ, max, List, Some, None, Result, false, is_some, true};
 ghost use Rattle.svid_claims.specs.Outcomes.{outcome_of};
 ghost use Rattle.svid_replay.specs.declared.token_use.Use.{Use};
 ghost use Rattle.svid_check.specs.Said.{said_in};
@@ -153,6 +153,13 @@ impl Member {
             return None;
         }
         Some(used)
+    }
+
+    /// Whether the request of this number waits for the answer to a claim of this token, and its time is not over.
+    pub fn awaits_claim(&self, up: u64, number: u64, reading: &Reading) -> bool
+        ensures { result ≡ is_some (awaited self.now up number (said_in reading.now)) }
+    {
+        self.awaited(up, number, reading).is_some()
     }
 
     /// Lets the request of this number hear what the store answered to its claim, or to any put of the same claim. Where the request does not wait

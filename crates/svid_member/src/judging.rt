@@ -62,6 +62,13 @@ impl Member {
         }
     }
 
+    /// Whether the request of this number waits for a judgment, and its time is not over.
+    pub fn awaits(&self, up: u64, number: u64) -> bool
+        ensures { result ≡ awaits (at_moment self.now.requests up) number }
+    {
+        self.requests.awaits(up, number)
+    }
+
     /// Lets the validator judge the token of the request of this number, by a verifier that has looked at its signature. Where the request does
     /// not wait for that, or its time is over, the validator is not asked, and nothing happens: no token is burnt for an answer that nobody gets.
     ///
@@ -80,7 +87,7 @@ impl Member {
             (answer : Result Accepted Refusal) × Answers Some answer (verdict_on (setting_by (W.says verifier.now) validator.old) x.moment x.uses (said_in reading.now))
             × (validator.new ≡ with_state validator.old (judged_by (adds_at_judgment self.old.mode) x answer)) × IsTold up number answer self.old result self.new }
     {
-        if !self.requests.awaits(up, number) {
+        if !self.awaits(up, number) {
             return Asked {
                 deed: Deed::Nothing,
                 answer: None,

@@ -1,9 +1,10 @@
 ghost use Rattle.std.specs.Prelude.{◌≡◌, IfOk, OnErr, Bool};
 ghost use Rattle.svid_requests.specs.Tables.{at_moment, begun, due};
 ghost use Rattle.svid_requests.specs.declared.event.Event.{Event};
-ghost use Rattle.svid_member.specs.Members.{Comes, Hears, with_kept, with_readiness, with_requests};
+ghost use Rattle.svid_requests.specs.declared.judgment.Judgment.{Judgment};
+ghost use Rattle.svid_member.specs.Members.{Comes, Hears, with_kept, with_known, with_requests};
 ghost use Rattle.svid_member.specs.Modes.{needs_of};
-ghost use Rattle.svid_member.specs.Readiness.{doubts};
+ghost use Rattle.svid_member.specs.Readiness.{blocks, doubts};
 
 use crate::coming::Coming;
 use crate::mode::Mode;
@@ -11,7 +12,7 @@ use crate::readiness::Readiness;
 use crate::unready::Unready;
 use std::alloc::{AllocError, Global};
 use std::marker::Model;
-use svid_requests::{Deed, Event, Requests};
+use svid_requests::{Deed, Event, Judgment, Requests};
 
 /// The requests of a validator, with what they are answered by.
 ///
@@ -62,11 +63,14 @@ impl Member {
         }
     }
 
-    /// What the member knows from now on. No request that is open changes.
+    /// What the member knows from now on. No request that is open changes. Whether the state folder took the last acceptance it knows by
+    /// itself, so `unkept` of `readiness` does not count.
     pub fn know(&mut self, readiness: Readiness)
-        ensures { self.new ≡ with_readiness self.old readiness }
+        ensures { self.new ≡ with_known readiness self.old }
     {
+        let unkept = self.readiness.unkept;
         self.readiness = readiness;
+        self.readiness.unkept = unkept;
     }
 
     /// A request comes. Where a reason says that no token is judged yet, nothing came. Else its number is that of the deed: it is to be judged, or
@@ -93,6 +97,22 @@ impl Member {
         self.requests.hear(up, &Event::Wrote(number, ok))
     }
 
+    /// The token of the request of this number is refused for the reason `why`, before a validator accepts it.
+    pub fn refuse(&mut self, up: u64, number: u64, why: u8) -> Deed
+        ensures { Hears up (Event.Judged number (Judgment.Fails why)) self.old result self.new }
+    {
+        self.requests
+            .hear(up, &Event::Judged(number, Judgment::Fails(why)))
+    }
+
+    /// The same of a request whose claim was answered.
+    pub fn refuse_claim(&mut self, up: u64, number: u64, why: u8) -> Deed
+        ensures { Hears up (Event.Found number (Judgment.Fails why)) self.old result self.new }
+    {
+        self.requests
+            .hear(up, &Event::Found(number, Judgment::Fails(why)))
+    }
+
     /// The claim of the request of this number is about to go out: `Claim` where it still is to.
     pub fn send(&mut self, up: u64, number: u64) -> Deed
         ensures { Hears up (Event.Send number) self.old result self.new }
@@ -112,6 +132,13 @@ impl Member {
         ensures { Hears up Event.Overdue self.old result self.new }
     {
         self.requests.hear(up, &Event::Overdue)
+    }
+
+    /// Why the member judges no tokens, if it judges none.
+    pub fn blocks(&self) -> Option<Unready>
+        ensures { result ≡ blocks self.now.readiness self.now.mode }
+    {
+        self.readiness.blocks(self.mode)
     }
 
     /// Why no tokens are to be sent to the member, if none are.

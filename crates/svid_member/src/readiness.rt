@@ -25,6 +25,8 @@ pub struct Readiness {
     pub jumped: bool,
     /// The state folder did not take the last acceptance.
     pub unkept: bool,
+    /// The state folder has no room for another acceptance.
+    pub full: bool,
     /// The store has not answered for longer than a request waits.
     pub away: bool,
     /// The store has lost entries, so that no token is accepted that lives as long as it may.
@@ -73,7 +75,7 @@ impl Readiness {
         if self.jumped {
             return Some(Unready::Jumped);
         }
-        if mode.keeps_first() && self.unkept {
+        if mode.keeps_first() && (self.unkept || self.full) {
             return Some(Unready::KeepsNothing);
         }
         if mode.hears_by_claims() && self.away {

@@ -41,6 +41,7 @@ fn lending_call(
         "judge_again" => lending::judge_again(out, named, words),
         "validator.candidates" => lending::candidates(out, env, named, words),
         "renew" => lending::renew(trust, named, words),
+        "renew_own" => lending::renew_own(env, named, words),
         "take_record" => lending::take_record(out, env, named, words),
         "parts_after" => lending::parts_after(out, named, words),
         "reading" => readings::reading(out, env, words),

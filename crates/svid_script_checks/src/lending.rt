@@ -10,7 +10,7 @@ use svid_script_base::over_any;
 use svid_script_base::say::{refused, say_batch, say_ok};
 use svid_script_base::stop::Stop;
 use svid_script_base::use_words::use_if_any;
-use svid_script_base::words::{key, number, word};
+use svid_script_base::words::{key, number, text, word};
 use svid_script_trust::asked::{Asked, asked_in};
 use svid_script_trust::keys::say_candidates;
 use svid_script_trust::say::{say_checked, token_refused};
@@ -168,6 +168,19 @@ pub fn renew(trust: &mut Trust, validators: &mut Validators, words: &[&str]) -> 
     let validator = validators.get_mut(word(words, 1))?;
     let before = over_any!(AnyValidator, validator, v => renew_in(v, bundles));
     trust.bundles.put(word(words, 2), before)
+}
+
+fn own_in<S: UseStore>(validator: &mut Validator<AnyVerifier, S>, own: Vec<String>) -> Vec<String> {
+    validator.replace_own(own)
+}
+
+/// `renew_own NAME AUDIENCE`
+pub fn renew_own(env: &Env, validators: &mut Validators, words: &[&str]) -> Result<(), Stop> {
+    let mut own = Vec::new(env.alloc);
+    own.push(text(env, word(words, 2))?)?;
+    let validator = validators.get_mut(word(words, 1))?;
+    let _before = over_any!(AnyValidator, validator, v => own_in(v, own));
+    Ok(())
 }
 
 fn take_in<S: UseStore, T: UseStore>(

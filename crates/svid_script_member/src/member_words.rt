@@ -47,6 +47,7 @@ fn ready() -> Readiness {
         draining: false,
         jumped: false,
         unkept: false,
+        full: false,
         away: false,
         deaf: false,
         ended: false,
@@ -65,6 +66,7 @@ fn but(mut known: Readiness, field: &str) -> Result<Readiness, Stop> {
         "draining" => known.draining = true,
         "jumped" => known.jumped = true,
         "unkept" => known.unkept = true,
+        "full" => known.full = true,
         "away" => known.away = true,
         "deaf" => known.deaf = true,
         "ended" => known.ended = true,
@@ -94,7 +96,8 @@ fn judgment(word: &str, judged: &str) -> Result<Judgment, Stop> {
     }
 }
 
-fn reason(word: &str) -> Result<u8, Stop> {
+/// The number of a reason.
+pub(crate) fn reason(word: &str) -> Result<u8, Stop> {
     u8::try_from(number(word)?).map_err(|_| Stop::Script("no reason"))
 }
 

@@ -46,6 +46,8 @@ pub(crate) enum Told {
     Send(u64, u64),
     Leave(u64, u64),
     Overdue(u64),
+    Refuse(u64, u64, u8),
+    RefuseClaim(u64, u64, u8),
     Found(Shown, [u8; 32], Found),
 }
 
@@ -171,6 +173,12 @@ impl Pair {
             Told::Send(up, number) => Answered::Does(self.member.send(*up, *number)),
             Told::Leave(up, number) => Answered::Does(self.member.leave(*up, *number)),
             Told::Overdue(up) => Answered::Does(self.member.overdue(*up)),
+            Told::Refuse(up, number, why) => {
+                Answered::Does(self.member.refuse(*up, *number, *why))
+            }
+            Told::RefuseClaim(up, number, why) => {
+                Answered::Does(self.member.refuse_claim(*up, *number, *why))
+            }
             Told::Found(shown, caller, found) => {
                 Answered::Claimed(self.found(shown, caller, found))
             }

@@ -1,4 +1,4 @@
-use crate::member_words::{found, is_yes, known, mode};
+use crate::member_words::{found, is_yes, known, mode, reason};
 use crate::peer::{Answered, Peer, Setting, Shown, Told};
 use crate::said::{say_asked, say_claimed, say_coming, say_deed, say_number_if_any, say_reason};
 use crate::values::Members;
@@ -6,7 +6,7 @@ use svid_check::Reading;
 use svid_script_base::byte_words::bytes;
 use svid_script_base::env::Env;
 use svid_script_base::out::Out;
-use svid_script_base::say::{say_bytes, say_number, say_uses};
+use svid_script_base::say::{say_bool, say_bytes, say_number, say_uses};
 use svid_script_base::stop::Stop;
 use svid_script_base::use_words::one_use;
 use svid_script_base::words::{from, id16, key, number, text, word};
@@ -135,6 +135,49 @@ pub(crate) fn owner(out: &mut Out<'_>, members: &Members, words: &[&str]) -> Res
 pub(crate) fn doubts(out: &mut Out<'_>, members: &Members, words: &[&str]) -> Result<(), Stop> {
     let member = members.peers.get(word(words, 1))?.member();
     Ok(say_reason(out, member.doubts()))
+}
+
+/// `peer.refuse NAME UP N WHY`, `peer.refuse_claim NAME UP N WHY`
+pub(crate) fn refuse(out: &mut Out<'_>, members: &mut Members, words: &[&str]) -> Result<(), Stop> {
+    let up = number(word(words, 2))?;
+    let about = number(word(words, 3))?;
+    let why = reason(word(words, 4))?;
+    let told = match word(words, 0) {
+        "peer.refuse" => Told::Refuse(up, about, why),
+        _ => Told::RefuseClaim(up, about, why),
+    };
+    tell(out, members, word(words, 1), told)
+}
+
+/// `peer.blocks NAME`
+pub(crate) fn blocks(out: &mut Out<'_>, members: &Members, words: &[&str]) -> Result<(), Stop> {
+    let member = members.peers.get(word(words, 1))?.member();
+    Ok(say_reason(out, member.blocks()))
+}
+
+/// `peer.awaits NAME UP N`
+pub(crate) fn awaits(out: &mut Out<'_>, members: &Members, words: &[&str]) -> Result<(), Stop> {
+    let up = number(word(words, 2))?;
+    let about = number(word(words, 3))?;
+    let member = members.peers.get(word(words, 1))?.member();
+    Ok(say_bool(out, member.awaits(up, about)))
+}
+
+/// `peer.awaits_claim NAME UP N TOKEN`
+pub(crate) fn awaits_claim(
+    out: &mut Out<'_>,
+    env: &Env,
+    members: &Members,
+    words: &[&str],
+) -> Result<(), Stop> {
+    let up = number(word(words, 2))?;
+    let about = number(word(words, 3))?;
+    let token = bytes(env, word(words, 4))?;
+    let member = members.peers.get(word(words, 1))?.member();
+    match Reading::of(env.alloc, &token) {
+        Ok(reading) => Ok(say_bool(out, member.awaits_claim(up, about, &reading))),
+        Err(refusal) => token_refused(out, refusal),
+    }
 }
 
 /// `peer.due NAME`

@@ -69,6 +69,9 @@ func TestWhoMayCallWithoutABundle(t *testing.T) {
 	if err := e.SetBundles(map[string]json.RawMessage{"example.com": example.JWKSet()}); err != nil {
 		t.Fatal(err)
 	}
+	if err := e.Load(nil); err != nil {
+		t.Fatal(err)
+	}
 	if err := check(e, token("a")); err != ErrNoBundle {
 		t.Error(err)
 	}

@@ -1,41 +1,13 @@
 package server
 
 import (
-	"context"
-	"errors"
-	"fmt"
 	"time"
 
 	"svid.example/go/v2/claims"
 	"svid.example/go/v2/svid"
 )
 
-const (
-	// nextCall is how long claims that wait for company wait at most for the call that is under way: then another call goes out
-	// beside it, so that one slow answer holds up nobody else.
-	nextCall = 20 * time.Millisecond
-	// mostCalls is how many calls may be under way.
-	mostCalls = 64
-	// fullCall is how many claims go out at once beside a call that is under way, as long as fewCalls are: a call of so many costs no less for each
-	// claim if more wait for it.
-	fullCall = 32
-	fewCalls = 4
-	// firstRetry is the pause before claims without an answer are put again. It doubles up to lastRetry while nothing is answered.
-	firstRetry = 10 * time.Millisecond
-	lastRetry  = 250 * time.Millisecond
-	// lostLook is how often expired tokens of other owners are dropped.
-	lostLook = time.Minute
-)
-
-var (
-	// ErrLost: the store has lost entries, so whether another member accepted the token is unknown.
-	ErrLost = errors.New("the store has lost entries, and a claim of the token may be among them: whether it was used is unknown")
-
-	// errFar: the token lives longer than the store's terms allow.
-	errFar = errors.New("the token lives longer than the group's store keeps claims: give all members the same --longest, and set their clocks right")
-)
-
-// A Batch is claims that go to the store in one call: the effect Claim puts them, and sets Found.
+// A Batch is claims that go to the store in one call: the effect PutClaims puts them, and sets Found.
 type Batch struct {
 	Claims []claims.Claim
 	Found  []claims.Found
@@ -54,215 +26,147 @@ func (b *Batch) has(r *Request) bool {
 	return false
 }
 
-// Claimed: the effect Claim is done.
+// Claimed: the effect PutClaims is done.
 type Claimed struct{ *Batch }
 
-// claimTable has the requests whose claims have no outcome yet. What an outcome is, the library says.
-type claimTable struct {
-	requests int                        // that are being worked on, or wait for an outcome
-	open     map[svid.TokenKey]*Request // whose claim has no outcome, one a token
-	gather   []*Request                 // these wait for a call; some may be over already
-	again    []*Request                 // these had no answer, and are put again at retryAt
-	calls    int                        // that are under way
-	at       time.Duration              // when the last one went out
-	pause    time.Duration              // before the next retry
-	retryAt  time.Duration              // never where none waits for it
-	due      time.Duration              // when a call is to be tried next, where claims wait
-	over     int                        // how many of gather and again are over already
-	lost     lostClaims
+// A claimQueue has the claims that are to be put. When a call goes out, the library says.
+type claimQueue struct {
+	pacing  *svid.Pacing
+	waiting []*Request // these wait for a call; some may be answered by then
+	later   []retry    // these had no answer
+	lost    lostClaims
 }
 
-func newClaims(now time.Duration) claimTable {
-	return claimTable{open: make(map[svid.TokenKey]*Request), at: now - nextCall, pause: firstRetry, due: never, retryAt: never, lost: newLostClaims(now)}
+// A retry is requests whose claims are put again at a time.
+type retry struct {
+	at       time.Duration
+	requests []*Request
 }
 
-// begin opens the claim of a request that was judged.
-func (c *claimTable) begin(r *Request) {
-	r.open, r.waits = true, true
-	c.open[r.Accepted.Use.Key] = r
-	c.gather = append(c.gather, r)
+func newClaimQueue(now time.Duration) claimQueue {
+	return claimQueue{pacing: svid.NewPacing(), lost: newLostClaims(now)}
 }
 
-// next returns the requests whose claims are to go out now, in one call. Where it returns none, due says when to ask again, if some wait.
-func (c *claimTable) next(now time.Duration) (these []*Request) {
-	if c.retryAt <= now {
-		c.gather, c.again, c.retryAt = append(c.gather, c.again...), nil, never
+// take takes out as many claims as a call may have.
+func (c *claimQueue) take() (these []*Request) {
+	if these = c.waiting; len(these) <= claims.MostClaims {
+		c.waiting = nil
+		return these
 	}
-	if c.due = never; len(c.gather) == 0 {
-		return nil
-	}
-	full := len(c.gather)-c.over >= fullCall && c.calls < fewCalls
-	if c.calls > 0 && c.at+nextCall > now && !full || c.calls >= mostCalls {
-		if c.calls < mostCalls {
-			c.due = c.at + nextCall
-		}
-		return nil
-	}
-	taken := 0
-	for _, r := range c.gather {
-		if len(these) == claims.MostClaims {
-			break
-		}
-		if taken++; r.open {
-			r.waits = false
-			these = append(these, r)
+	c.waiting = these[claims.MostClaims:]
+	return these[:claims.MostClaims]
+}
+
+// putAgain lets the claims wait for a call whose pause is over.
+func (c *claimQueue) putAgain(now time.Duration) {
+	later := c.later
+	c.later = nil
+	for _, one := range later {
+		if one.at > now {
+			c.later = append(c.later, one)
 		} else {
-			c.over--
+			c.waiting = append(c.waiting, one.requests...)
 		}
 	}
-	if c.gather = c.gather[taken:]; len(c.gather) == 0 {
-		c.gather = nil
-	}
-	return these
 }
 
-// nextDue is when next is to be called.
-func (c *claimTable) nextDue() time.Duration {
-	if c.retryAt < c.due {
-		return c.retryAt
+// due is when a call is to go out next, where claims wait.
+func (c *claimQueue) due() time.Duration {
+	due := never
+	if len(c.waiting) > 0 {
+		if at, any := c.pacing.Due(); any {
+			due = at
+		}
 	}
-	return c.due
+	for _, one := range c.later {
+		if one.at < due {
+			due = one.at
+		}
+	}
+	return due
 }
 
-// finish takes a claim away whose outcome is there.
-func (c *claimTable) finish(r *Request) {
-	r.open = false
-	delete(c.open, r.Accepted.Use.Key)
-	if !r.waits {
+// openClaim lets the claim of a request wait for a call, unless the store has answered the same claim before: another's stays that.
+func (m *Machine) openClaim(r *Request, use svid.Use) {
+	r.claim = claims.Claim{Key: use.Key, Owner: svid.OwnerOfLife(m.ValidatorID, m.Life, use.Expires), Expires: use.Expires}
+	if found, lost := m.claims.lost.find(&r.claim); lost {
+		m.found(r, found)
 		return
 	}
-	if c.over++; c.over > 64 && c.over > (len(c.gather)+len(c.again))/2 {
-		c.gather, c.again, c.over = openOnes(c.gather), openOnes(c.again), 0
-	}
-}
-
-// openOnes are those whose claim has no outcome yet.
-func openOnes(all []*Request) (left []*Request) {
-	for _, r := range all {
-		if r.open {
-			left = append(left, r)
-		}
-	}
-	return left
-}
-
-// retry lets claims that had no answer be put again.
-func (c *claimTable) retry(now time.Duration, these []*Request) {
-	if len(these) == 0 {
-		return
-	}
-	c.again = append(c.again, these...)
-	if c.retryAt == never {
-		c.retryAt = now + c.pause
-		if c.pause *= 2; c.pause > lastRetry {
-			c.pause = lastRetry
-		}
-	}
+	r.stage = claiming
+	m.claims.waiting = append(m.claims.waiting, r)
 }
 
 // sendClaims puts the claims that are to go out now.
 func (m *Machine) sendClaims() {
-	for {
-		these := m.claims.next(m.now.Up)
-		if len(these) == 0 {
-			return
+	c := &m.claims
+	if len(c.later) > 0 {
+		c.putAgain(m.now.Up)
+	}
+	for len(c.waiting) > 0 && c.pacing.MaySend(m.now.Up, len(c.waiting)) {
+		b := &Batch{Within: m.Wait}
+		for _, r := range c.take() {
+			if deed, _ := m.validator.Send(m.now.Up, r.number); deed.Kind != svid.DeedClaim { // It is answered, or is now.
+				m.carryOut(deed)
+				continue
+			}
+			b.Claims, b.requests = append(b.Claims, r.claim), append(b.requests, r)
 		}
-		m.claims.calls++
-		m.claims.at = m.now.Up
-		b := &Batch{Claims: make([]claims.Claim, len(these)), Found: make([]claims.Found, len(these)), Within: m.Wait, requests: these}
-		for i, r := range these {
-			use := &r.Accepted.Use
-			b.Claims[i] = claims.Claim{Key: use.Key, Owner: svid.OwnerOfLife(m.ValidatorID, m.Life, use.Expires), Expires: use.Expires}
+		if b.Found = make([]claims.Found, len(b.Claims)); len(b.Claims) > 0 {
+			c.pacing.Sent(m.now.Up)
+			m.do(PutClaims{b})
 		}
-		m.do(PutClaims{b})
 	}
 }
 
-// Claims were answered, or not. Each answer ends a claim that is still open; whoever was late, or left, has its answer already.
+// Claims were answered, or not. Whoever was late, or left, has its answer already.
 func (b Claimed) happen(m *Machine) {
-	m.claims.calls--
-	var again []*Request
+	answered, again := false, []*Request(nil)
 	for i, r := range b.requests {
-		if !r.open {
-			continue
-		}
-		if b.Found[i].Err == nil {
-			m.claims.pause = firstRetry
-			m.claimed(r, &b.Claims[i], &b.Found[i])
-		} else {
-			r.fault, r.waits = b.Found[i].Err, true
+		found := &b.Found[i]
+		answered = answered || found.Err == nil
+		switch {
+		case r.answered:
+		case found.Err == nil:
+			m.found(r, svid.Found{Owner: found.Owner, Time: found.Time, Deaf: found.Deaf})
+		default:
+			r.fault = found.Err
 			again = append(again, r)
 		}
 	}
-	m.claims.retry(m.now.Up, again)
-	m.sendClaims()
-}
-
-// claimed ends the claim of a request by what the store answered to it.
-func (m *Machine) claimed(r *Request, mine *claims.Claim, found *claims.Found) {
-	if m.isOutdated(r) { // Its caller was admitted by the rules of before. It comes again, and finds its own claim.
-		m.outcome(r, errOtherRules)
-		return
+	end := m.claims.pacing.Unanswered
+	if answered {
+		end = m.claims.pacing.Answered
 	}
-	moment := svid.ClaimMoment(m.now.Wall, found.Time, m.Ahead)
-	outcome := svid.Claim{Owner: mine.Owner, Expires: mine.Expires}.Outcome(
-		svid.Found{Owner: found.Owner, Time: found.Time, Deaf: found.Deaf}, m.Terms.Lasts, moment)
-	err := m.ofOutcome(r, outcome, found.Owner)
-	m.count(err)
-	m.outcome(r, err)
-}
-
-// ofOutcome is the answer to a request by the outcome of its claim. A claim that is the request's own is judged once more, and the
-// record gains its use: so of all requests with the token one is accepted.
-func (m *Machine) ofOutcome(r *Request, outcome svid.ClaimOutcome, owner claims.Owner) error {
-	use := &r.Accepted.Use
-	switch outcome {
-	case svid.ClaimMine:
-		accepted, err := m.validator.CheckToken(m.now.Wall, &r.read)
-		if err == nil {
-			r.Accepted = accepted
-			m.keepSoon(accepted.Use)
-		}
-		return err
-	case svid.ClaimTaken:
-		r.Owner = owner.ValidatorID()
-		m.claims.lost.add(m.now.Up, *use, r.Owner)
-		return svid.Replayed
-	case svid.ClaimWithdrawn:
-		m.hear([]claims.Withdrawal{{Key: use.Key, Expires: use.Expires}})
-		return svid.Withdrawn
-	case svid.ClaimExpired:
-		return svid.Expired
-	case svid.ClaimDeaf:
-		return ErrLost
-	case svid.ClaimFar:
-		return errFar
+	if pause := end(); len(again) > 0 {
+		m.claims.later = append(m.claims.later, retry{m.now.Up + pause, again})
 	}
-	return fmt.Errorf("the claim has the outcome %v", outcome)
 }
 
-// count counts the outcome of a claim.
+// found tells the member what the store answered to the claim of a request.
+func (m *Machine) found(r *Request, found svid.Found) {
+	accepted, deed, err := m.validator.Found(m.now.Wall, m.now.Up, r.number, [32]byte{}, found, &r.read)
+	if err == svid.Replayed && found.Owner != r.claim.Owner {
+		r.Owner = found.Owner.ValidatorID()
+		m.claims.lost.add(m.now.Up, &r.claim, found)
+	}
+	m.judged(r, accepted, deed, err)
+}
+
+// count counts a claim that has ended.
 func (m *Machine) count(err error) {
 	switch _, refused := refusalOf(err); {
 	case err == nil:
 		m.metrics.ClaimsWon.Add(1)
-	case refused:
+	case refused, err == ErrNotAllowed:
 		m.metrics.ClaimsLost.Add(1)
 	default:
 		m.metrics.ClaimsFailed.Add(1)
 	}
 }
 
-// failed is why a claim has no outcome.
-func (r *Request) failed(why error) error {
-	if r.fault != nil && errors.Is(why, context.DeadlineExceeded) {
-		return fmt.Errorf("the token could not be claimed: %w; the store's last answer: %v", why, r.fault)
-	}
-	return fmt.Errorf("the token could not be claimed: %w", why)
-}
-
-// lostClaims are tokens that others have claimed, until they expire: the next try of one asks no store. There are two generations, so
-// that dropping the old ones takes one step.
+// lostClaims are what the store answered to claims of tokens that others have claimed: the next try of one asks no store. There are two
+// generations, so that dropping the old ones takes one step.
 type lostClaims struct {
 	young, old map[svid.TokenKey]lostClaim
 	turned     time.Duration
@@ -270,28 +174,31 @@ type lostClaims struct {
 
 type lostClaim struct {
 	expires uint64
-	owner   svid.ValidatorID
+	found   svid.Found
 }
 
-// mostLost is how many there are in a generation.
-const mostLost = 1 << 16
+const (
+	// mostLost is how many there are in a generation.
+	mostLost = 1 << 16
+	// lostLook is how often expired tokens of other owners are dropped.
+	lostLook = time.Minute
+)
 
 func newLostClaims(now time.Duration) lostClaims {
 	return lostClaims{young: map[svid.TokenKey]lostClaim{}, turned: now}
 }
 
-func (l *lostClaims) add(now time.Duration, use svid.Use, owner svid.ValidatorID) {
+func (l *lostClaims) add(now time.Duration, claim *claims.Claim, found svid.Found) {
 	if len(l.young) >= mostLost || now-l.turned > lostLook && len(l.young) > 0 {
 		l.young, l.old, l.turned = map[svid.TokenKey]lostClaim{}, l.young, now
 	}
-	l.young[use.Key] = lostClaim{use.Expires, owner}
+	l.young[claim.Key] = lostClaim{claim.Expires, found}
 }
 
-// owner is whose claim this token is. (One that has expired is refused by its judgment.)
-func (l *lostClaims) owner(use *svid.Use) (owner svid.ValidatorID, lost bool) {
-	is, lost := l.young[use.Key]
+func (l *lostClaims) find(claim *claims.Claim) (found svid.Found, lost bool) {
+	is, lost := l.young[claim.Key]
 	if !lost {
-		is, lost = l.old[use.Key]
+		is, lost = l.old[claim.Key]
 	}
-	return is.owner, lost && is.expires == use.Expires
+	return is.found, lost && is.expires == claim.Expires
 }

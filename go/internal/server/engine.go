@@ -91,11 +91,9 @@ type Engine struct {
 	validator *svid.Validator
 	group     atomic.Pointer[joined]
 	store     atomic.Pointer[reached]
-	caughtUp  atomic.Bool           // the machine knows that the group's bucket is read
-	renewing  sync.Mutex            // held while bundles are replaced
-	ruling    sync.Mutex            // held while the rules are
-	rules     atomic.Pointer[Rules] // by which requests come
-	start     time.Time             // when Time.Up is 0
+	caughtUp  atomic.Bool // the machine knows that the group's bucket is read
+	renewing  sync.Mutex  // held while bundles are replaced
+	start     time.Time   // when Time.Up is 0
 	outlook   outlook
 	pulse     pulse
 	verified  *verified                // in mode reuse
@@ -155,8 +153,12 @@ func NewEngine(o Options) (*Engine, error) {
 	e := &Engine{Options: o, keyring: keyring, validator: validator, start: time.Now(), isReal: isReal, armed: never,
 		verified: newVerified(), ending: make(chan struct{}), ended: make(chan struct{})}
 	e.life, e.end = context.WithCancel(context.Background())
-	e.machine = newMachine(&e.Options, &e.Metrics, validator, e.time())
-	e.rules.Store(e.machine.rules)
+	if e.machine, err = newMachine(&e.Options, &e.Metrics, validator, e.time()); err != nil {
+		e.end()
+		keyring.Close()
+		validator.Close()
+		return nil, err
+	}
 	e.alarm = time.AfterFunc(never, e.tick)
 	return e, nil
 }
@@ -405,11 +407,16 @@ func (e *Engine) SetBundles(domains map[string]json.RawMessage) error {
 	}
 	e.renewing.Lock()
 	defer e.renewing.Unlock()
-	e.step(Renewing{Empty: len(domains) == 0})
-	if err = e.validator.Renew(e.keyring, bundles); err == nil {
+	before, after := e.isBundled(), len(domains) > 0
+	if !after {
+		e.step(Bundled(false)) // No token can be accepted from here on, and it is not the tokens' fault.
+	}
+	if err = e.validator.Renew(e.keyring, bundles); err != nil {
+		after = before
+	} else {
 		e.verified.clear()
 	}
-	e.step(Renewed{Domains: len(domains), Err: err})
+	e.step(Bundled(after))
 	return err
 }
 
@@ -420,11 +427,7 @@ func (e *Engine) SetRules(audiences, allow []string) error {
 		return err
 	}
 	r := &Ruling{Rules: &Rules{Audiences: append([]string(nil), audiences...), Allow: append([]string(nil), allow...)}}
-	e.ruling.Lock()
-	defer e.ruling.Unlock()
-	if e.step(r); r.Err == nil {
-		e.rules.Store(r.Rules)
-	}
+	e.step(r)
 	return r.Err
 }
 
@@ -463,26 +466,30 @@ func (e *Engine) Ready() error {
 	}
 	now := e.time()
 	e.mu.Lock()
-	err := e.machine.Ready(now)
-	e.mu.Unlock()
-	if err != nil {
-		return err
-	}
-	return e.canKeep()
+	defer e.mu.Unlock()
+	return e.machine.Ready(now, e.outlook.noRoom.Load(), e.isAway())
+}
+
+// withMachine looks at the machine of an engine.
+func withMachine[A any](e *Engine, look func(m *Machine) A) A {
+	e.mu.Lock()
+	defer e.mu.Unlock()
+	return look(e.machine)
 }
 
 // untold is how many uses wait to be told to the group.
 func (e *Engine) untold() int {
-	e.mu.Lock()
-	defer e.mu.Unlock()
-	return len(e.machine.tale.untold)
+	return withMachine(e, func(m *Machine) int { return len(m.tale.untold) })
 }
 
 // isBundled says whether there is a trust bundle.
 func (e *Engine) isBundled() bool {
-	e.mu.Lock()
-	defer e.mu.Unlock()
-	return e.machine.bundled
+	return withMachine(e, func(m *Machine) bool { return m.known.Bundled })
+}
+
+// audiences are those that count.
+func (e *Engine) audiences() []string {
+	return withMachine(e, func(m *Machine) []string { return m.rules.Audiences })
 }
 
 // Check judges a token, and makes an acceptance last as the mode says. The error
@@ -494,29 +501,17 @@ func (e *Engine) Check(ctx context.Context, token string) (svid.Accepted, error)
 	return v.accepted, v.err
 }
 
-// checkBy judges a token, and returns the rules by which it did.
-func (e *Engine) checkBy(ctx context.Context, v *verdict) (rules *Rules) {
-	e.look()
-	for rules = e.rules.Load(); ; {
-		if v.err = e.admit(rules, v.token); v.err != nil {
-			return rules
-		}
-		if rules = e.judge(ctx, rules, v); v.err != errOtherRules {
-			return rules
-		}
-	}
-}
-
 // mostTries is how often a token is judged if the bundles are replaced each time between its verification and its judgment. That happens
 // next to never even once, so the bound is for faults.
 const mostTries = 16
 
-// judge lets the machine judge the token of an admitted caller. Where it answers errOtherRules, it returns these.
-func (e *Engine) judge(ctx context.Context, rules *Rules, v *verdict) *Rules {
-	r := e.judgeOnce(ctx, rules, v.token)
+// judge lets the machine judge a token. It returns the rules by which an accepted one was judged.
+func (e *Engine) judge(ctx context.Context, v *verdict) *Rules {
+	e.look()
+	r := e.judgeOnce(ctx, v.token)
 	for tries := 1; tries < mostTries && r.isOfOldBundles(); tries++ {
 		e.verified.forget(r.recalled)
-		r = e.judgeOnce(ctx, rules, v.token)
+		r = e.judgeOnce(ctx, v.token)
 	}
 	if e.Mode == Reuse && r.Err == nil {
 		e.verified.keep(r.recalled, v.token, r.Key)
@@ -525,17 +520,13 @@ func (e *Engine) judge(ctx context.Context, rules *Rules, v *verdict) *Rules {
 	return r.rules
 }
 
-func (e *Engine) judgeOnce(ctx context.Context, rules *Rules, token string) *Request {
+func (e *Engine) judgeOnce(ctx context.Context, token string) *Request {
 	r := NewRequest(token)
-	r.rules, r.patient = rules, isPatient(ctx)
-	if e.Mode != Reuse { // (there the answer comes at once)
-		r.done = make(chan struct{})
-	}
+	r.patient, r.done = isPatient(ctx), make(chan struct{})
 	e.stepFor(r, r)
-	switch e.Mode {
-	case Strict:
+	if e.Mode == Strict {
 		e.awaitClaim(ctx, r)
-	case Once:
+	} else {
 		<-r.done
 	}
 	return r
@@ -543,33 +534,6 @@ func (e *Engine) judgeOnce(ctx context.Context, rules *Rules, token string) *Req
 
 // ErrNotAllowed: none of Options.Allow allows the token's subject. The token is good, and it is not used up.
 var ErrNotAllowed = svidhttp.ErrNotAllowed
-
-// admit returns nil if a pattern of the rules allows whom the token says it is of. Else the token is judged, and nothing is kept of it: only
-// a good one gets ErrNotAllowed.
-func (e *Engine) admit(rules *Rules, token string) error {
-	if rules.Allow == nil {
-		return nil
-	}
-	said, err := svid.Read(token)
-	if _, refused := refusalOf(err); refused {
-		return nil // Its check says so, too.
-	} else if err != nil {
-		return err
-	}
-	for _, pattern := range rules.Allow {
-		if allows, err := svid.Allows(pattern, said.Subject); allows || err != nil {
-			return err
-		}
-	}
-	yes, err := e.verify(token)
-	if err == nil {
-		_, err = e.validator.Judge(e.Now(), token, yes)
-	}
-	if err != nil {
-		return e.ofBundles(token, err)
-	}
-	return ErrNotAllowed
-}
 
 // ofBundles is ErrNoBundle in the place of UnknownDomain, where the token's trust domain is to have a bundle.
 func (e *Engine) ofBundles(token string, err error) error {
@@ -616,21 +580,12 @@ func (e *Engine) Find(token string) (svid.Use, error) {
 	if !e.isBundled() {
 		return svid.Use{}, ErrNotReady
 	}
-	yes, err := e.verify(token)
-	if err != nil {
-		return svid.Use{}, err
-	}
-	judged, err := e.keyring.Judge(svid.Judgment{Audiences: e.rules.Load().Audiences, Longest: svid.NoLimit, ValidatorID: e.ValidatorID}, e.Now(), token, yes)
-	return judged.Use, err
-}
-
-// verify returns the question that the token's signature answers, or none where the keyring refuses it.
-func (e *Engine) verify(token string) ([]svid.Question, error) {
 	yes, err := e.keyring.Verify(token)
 	if _, refused := refusalOf(err); err != nil && !refused {
-		return nil, err
+		return svid.Use{}, err
 	}
-	return yes, nil
+	judged, err := e.keyring.Judge(svid.Judgment{Audiences: e.audiences(), Longest: svid.NoLimit, ValidatorID: e.ValidatorID}, e.Now(), token, yes)
+	return judged.Use, err
 }
 
 // Feed gives the record a part of the messages of the state folder, as the journal reads them. Load follows with the last

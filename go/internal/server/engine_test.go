@@ -58,7 +58,7 @@ func TestNothingIsJudgedWhileTheRecordIsRead(t *testing.T) {
 	// The clock jumps ahead behind the last message.
 	now := uint64(moment)
 	far := engine(t, Options{Mode: Once, Step: 600, Now: func() uint64 { now += 1000; return now }})
-	if err := far.Load(messages); err != svid.ErrJump || far.machine.loaded {
+	if err := far.Load(messages); err != svid.ErrJump || far.machine.known.Loaded {
 		t.Errorf("a clock that jumps: %v", err)
 	}
 }

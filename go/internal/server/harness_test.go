@@ -323,10 +323,16 @@ func inStrict(o Options) Options {
 // strict returns engines of one group in mode strict.
 func strict(t testing.TB, n int) ([]*Engine, *shop) {
 	t.Helper()
+	return strictWithin(t, n, 0)
+}
+
+// strictWithin returns such whose requests wait for so long.
+func strictWithin(t testing.TB, n int, wait time.Duration) ([]*Engine, *shop) {
+	t.Helper()
 	s := newShop()
 	var all []*Engine
 	for i := 0; i < n; i++ {
-		all = append(all, s.use(t, ready(t, engine(t, inStrict(Options{ValidatorID: svid.ValidatorID{byte(i + 1)}})))))
+		all = append(all, s.use(t, ready(t, engine(t, inStrict(Options{ValidatorID: svid.ValidatorID{byte(i + 1)}, Wait: wait})))))
 	}
 	return all, s
 }
@@ -380,7 +386,7 @@ func wantClaims(t *testing.T, e *Engine, won, lost, failed uint64) {
 	if w, l, f := m.ClaimsWon.Load(), m.ClaimsLost.Load(), m.ClaimsFailed.Load(); w != won || l != lost || f != failed {
 		t.Errorf("%d claims won, %d lost, %d failed; want %d, %d, %d", w, l, f, won, lost, failed)
 	}
-	if n := withClaims(e, keptOf); n != 0 {
+	if n := withMachine(e, keptOf); n != 0 {
 		t.Errorf("%d claims are kept", n)
 	}
 }
@@ -441,15 +447,30 @@ func kept(t testing.TB, e *Engine) {
 	}
 }
 
-// withClaims looks at the claims of an engine.
-func withClaims[A any](e *Engine, look func(c *claimTable) A) A {
-	e.mu.Lock()
-	defer e.mu.Unlock()
-	return look(&e.machine.claims)
+// keptOf is how many requests and claims are kept. (What was answered goes when its claim would be put.)
+func keptOf(m *Machine) int {
+	kept := len(m.requests)
+	for _, one := range append(m.claims.later, retry{0, m.claims.waiting}) {
+		for _, r := range one.requests {
+			if !r.answered {
+				kept++
+			}
+		}
+	}
+	return kept
 }
 
-// keptOf is how many claims are kept.
-func keptOf(c *claimTable) int { return len(c.open) + len(c.gather) + len(c.again) - c.over }
+// at counts the requests that are so far.
+func at(is stage) func(m *Machine) int {
+	return func(m *Machine) (n int) {
+		for _, r := range m.requests {
+			if r.stage == is {
+				n++
+			}
+		}
+		return n
+	}
+}
 
 // again lets an engine give the disk once more what it did not take, and waits for that.
 func again(t testing.TB, e *Engine) {

@@ -101,7 +101,7 @@ func (e *Engine) judgeBearer(ctx context.Context, who caller, authorization []st
 // judgeToken judges a token, counts that, and logs it.
 func (e *Engine) judgeToken(ctx context.Context, who caller, token string) verdict {
 	from, v := time.Now(), verdict{token: token}
-	if rules := e.checkBy(ctx, &v); v.err == nil {
+	if rules := e.judge(ctx, &v); v.err == nil {
 		v.audience = rules.audience(token)
 	}
 	e.note(from, who, v)

@@ -26,7 +26,7 @@ func TestAClockThatJumpsAhead(t *testing.T) {
 	if r := b.asks("b"); !errors.Is(r.Err, svid.ErrJump) {
 		t.Errorf("a token while the clock is wrong: %v", r.Err)
 	}
-	if err := b.machine.Ready(b.now); err == nil || !strings.Contains(err.Error(), "clock") {
+	if err := b.machine.Ready(b.now, false, false); err == nil || !strings.Contains(err.Error(), "clock") {
 		t.Errorf("ready: %v", err)
 	}
 	if n := strings.Count(log.String(), "\n"); n != 1 || b.count(JumpedAhead{}) != 0 {
@@ -34,7 +34,7 @@ func TestAClockThatJumpsAhead(t *testing.T) {
 	}
 	b.now.Wall -= 100_000
 	b.pass(time.Second)
-	if err := b.machine.Ready(b.now); err != nil {
+	if err := b.machine.Ready(b.now, false, false); err != nil {
 		t.Error(err)
 	}
 	for id, want := range map[string]error{"a": svid.Replayed, "b": nil} {

@@ -24,6 +24,8 @@ var errUnkept = errors.New("the state folder is too slow: uses are kept by the g
 // errMoved: in mode once every token would be answered 503, until a restart.
 var errMoved = errors.New("the state folder is no longer at its path: the log says why")
 
+var errDisk = fmt.Errorf("the disk did not answer in time: %w", context.DeadlineExceeded)
+
 // folderMoved says whether the path of the state folder leads elsewhere, so that it takes nothing any more.
 func (e *Engine) folderMoved() bool {
 	j, ok := e.Journal.(interface{ Moved() bool })
@@ -39,23 +41,30 @@ type Write struct {
 	Err  error // why it is not on the disk. It may be there all the same, or come there later
 	Size int64 // how many bytes the state folder has beside its snapshot
 
-	by   writer // nil once it is done, or too late
-	late timer
+	number uint64    // of the request that it is for
+	asked  bool      // it is for a request
+	by     *Withdraw // that it is for, or nil
+	missed bool      // it is counted as one that the disk did not take
 }
 
-// writeOf is a write of one use. A disk that hangs may keep it for long, so nothing but the use belongs to it.
-func writeOf(use svid.Use) *Write {
+// writeOf is the write of a request. A disk that hangs may keep it for long, so nothing but the use belongs to it.
+func writeOf(deed svid.Deed) *Write {
 	w := new(struct {
 		Write
 		use [1]svid.Use
 	})
-	w.use[0] = use
-	w.Uses = w.use[:]
+	w.use[0] = deed.Used
+	w.Uses, w.number, w.asked = w.use[:], deed.Number, true
 	return &w.Write
 }
 
-// A writer waits for a Write.
-type writer interface{ written(m *Machine, err error) }
+// request is the number of the request that a write is for, if it is for one.
+func (w *Write) request() uint64 {
+	if w.asked {
+		return w.number
+	}
+	return svid.NoRequest
+}
 
 // Kept: the effect Append is done.
 type Kept struct{ *Write }
@@ -63,56 +72,64 @@ type Kept struct{ *Write }
 // A keeper is what is to come to the disk.
 type keeper struct {
 	uses   []svid.Use    // for which no answer waits
-	busy   bool          // some of them are on their way
+	busy   *Write        // some of them, on their way
 	due    time.Duration // when the next ones are to be brought there
 	faults seldom
 
 	unkept *Write // what the state folder did not take last, nil where it takes all
-	again  *Write // that, on its way once more
+	again  *Write // on its way once more
+	of     *Write // what that was before
 
 	size   int64 // bytes that the state folder has beside the snapshot
 	saved  int64 // the length of the last snapshot
 	saving bool  // a snapshot is being taken
 }
 
-// keep brings uses to the disk, where there is a state folder, and lets by go on once they are there, or after
-// Options.Wait at the latest.
-func (m *Machine) keep(w *Write, by writer) {
-	if m.Journal == nil {
-		by.written(m, nil)
-		return
-	}
-	w.by, w.Within = by, m.Wait
-	m.timers.set(&w.late, m.now.Up+m.Wait, w)
+// keep brings uses to the disk.
+func (m *Machine) keep(w *Write) {
+	w.Within = m.Wait
 	m.do(Append{w})
 }
 
+// The member hears of each write, whose request may be answered meanwhile.
 func (k Kept) happen(m *Machine) {
-	m.keeper.size = k.Size
-	m.timers.stop(&k.late)
-	k.end(m, k.Err)
+	w := k.Write
+	m.keeper.size = w.Size
+	switch {
+	case w == m.keeper.again:
+		m.keptAgain(w)
+		return
+	case w.Err != nil:
+		m.untaken(w)
+	default:
+		m.keeper.unkept = nil
+		m.wrote(w, true)
+	}
+	switch {
+	case w == m.keeper.busy:
+		m.keptSoon(w.Err)
+	case w.by != nil && w.Err != nil:
+		w.by.taken(m, svid.KeeperDisk, faultAt(svid.KeeperDisk, w.Err))
+	case w.by != nil:
+		w.by.taken(m, svid.KeeperDisk, nil)
+	}
 }
 
-var errDisk = fmt.Errorf("the disk did not answer in time: %w", context.DeadlineExceeded)
-
-func (w *Write) isLate(m *Machine) { w.end(m, errDisk) }
-
-// end ends the wait for a write. Who comes first counts: the disk, or the end of the time.
-func (w *Write) end(m *Machine, err error) {
-	by := w.by
-	if by == nil {
-		return
-	}
-	w.by = nil
-	if err != nil && w != m.keeper.again {
+// untaken: the disk did not take a write, or not in time.
+func (m *Machine) untaken(w *Write) {
+	if !w.missed {
+		w.missed = true
 		m.metrics.JournalFailures.Add(1)
 	}
-	if w != m.keeper.again {
-		if m.keeper.unkept = nil; err != nil {
-			m.keeper.unkept = w
-		}
+	m.keeper.unkept = w
+	m.wrote(w, false)
+}
+
+// wrote tells the member what became of a write.
+func (m *Machine) wrote(w *Write, ok bool) {
+	if deed, err := m.validator.Wrote(m.now.Up, w.request(), ok); err == nil {
+		m.carryOut(deed)
 	}
-	by.written(m, err)
 }
 
 // keepAgain gives the state folder once more what it did not take. So Ready answers yes again once it takes all, though
@@ -120,18 +137,19 @@ func (w *Write) end(m *Machine, err error) {
 func (m *Machine) keepAgain() {
 	k := &m.keeper
 	if k.unkept != nil && k.again == nil {
-		k.again = &Write{Uses: k.unkept.Uses}
-		m.keep(k.again, retry{k.unkept})
+		k.of = k.unkept
+		k.again = &Write{Uses: k.of.Uses, number: k.of.number, asked: k.of.asked}
+		m.keep(k.again)
 	}
 }
 
-// A retry is a write that is tried once more.
-type retry struct{ of *Write }
-
-func (r retry) written(m *Machine, err error) {
-	if m.keeper.again = nil; err == nil && m.keeper.unkept == r.of {
-		m.keeper.unkept = nil
+func (m *Machine) keptAgain(w *Write) {
+	k := &m.keeper
+	if k.again = nil; w.Err == nil && k.unkept == k.of {
+		k.unkept = nil
+		m.wrote(w, true)
 	}
+	k.of = nil
 }
 
 // keepSoon brings uses to the disk, where there is a state folder, and no answer waits for that. Those that come while
@@ -156,7 +174,7 @@ func (m *Machine) keepSoon(uses ...svid.Use) {
 func (m *Machine) keepNext() {
 	k := &m.keeper
 	k.due = never
-	if k.busy || len(k.uses) == 0 {
+	if k.busy != nil || len(k.uses) == 0 {
 		return
 	}
 	uses := k.uses
@@ -166,18 +184,16 @@ func (m *Machine) keepNext() {
 	if k.uses = k.uses[len(uses):]; len(k.uses) == 0 {
 		k.uses = nil
 	}
-	k.busy = true
-	m.keep(&Write{Uses: uses}, behind{})
+	k.busy = &Write{Uses: uses}
+	m.keep(k.busy)
 }
 
-// behind is a write for which no answer waits.
-type behind struct{}
-
-func (behind) written(m *Machine, err error) {
+// keptSoon ends a write for which no answer waits.
+func (m *Machine) keptSoon(err error) {
 	if err != nil {
 		m.seldom("journal", &notKept{"acceptance", err})
 	}
-	m.keeper.busy, m.keeper.due = false, m.now.Up+keepPause
+	m.keeper.busy, m.keeper.due = nil, m.now.Up+keepPause
 }
 
 // seldom logs an error of what is tried again and again.
@@ -188,5 +204,5 @@ func (m *Machine) seldom(event string, err error) {
 // isKeeping says whether something is on its way to the disk for which nobody waits.
 func (m *Machine) isKeeping() bool {
 	k := &m.keeper
-	return k.busy || len(k.uses) > 0
+	return k.busy != nil || len(k.uses) > 0
 }

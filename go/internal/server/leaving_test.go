@@ -45,9 +45,8 @@ func occupied(t *testing.T, store *shop, e *Engine) (answers []chan error) {
 
 // While a claim waits for a call, it is looked now and then whether its client has left. It ends soon after that.
 func TestAClientThatLeavesIsFound(t *testing.T) {
-	all, store := strict(t, 1)
+	all, store := strictWithin(t, 1, time.Minute)
 	e := all[0]
-	e.Wait = time.Minute
 	release := store.hold()
 	first := occupied(t, store, e)
 	looks, left, answer := checkLooking(e, token("a"))
@@ -63,9 +62,8 @@ func TestAClientThatLeavesIsFound(t *testing.T) {
 
 // A client that waits gets its answer, however often it was looked.
 func TestAClientThatWaitsIsAnswered(t *testing.T) {
-	all, store := strict(t, 1)
+	all, store := strictWithin(t, 1, time.Minute)
 	e := all[0]
-	e.Wait = time.Minute
 	release := store.hold()
 	first := occupied(t, store, e)
 	looks, _, answer := checkLooking(e, token("a"))

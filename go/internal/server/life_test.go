@@ -103,7 +103,7 @@ func TestNothingGoesOnBehindTheEnd(t *testing.T) {
 			t.Error("a token was accepted that nobody won")
 		}
 	}
-	if n := withClaims(e, func(c *claimTable) int { return len(c.open) }); n != 0 {
+	if n := withMachine(e, keptOf); n != 0 {
 		t.Errorf("%d claims are open", n)
 	}
 	cancel()

@@ -23,21 +23,18 @@ func TestAClaimIsHandedOn(t *testing.T) {
 	b.step(Gone{all[3], context.Canceled})
 	holds := func(r *Request) {
 		t.Helper()
-		if len(b.machine.again) > 0 || len(b.machine.claims.open) != 1 || !r.open {
-			t.Fatalf("%d go on, %d claims are open", len(b.machine.again), len(b.machine.claims.open))
+		if n := at(claiming)(b.machine); len(b.machine.again) > 0 || n != 1 || r.stage != claiming {
+			t.Fatalf("%d go on, %d claims are open", len(b.machine.again), n)
 		}
 	}
 	for i, gone := range []*Request{all[0], all[1], all[2]} {
 		b.step(Gone{gone, context.Canceled})
 		next := all[i+1+i/2]
-		if holds(next); b.machine.Due() > b.now.Up+nextCall {
-			t.Errorf("the claim of request %d is put in %v", i+1, b.machine.Due()-b.now.Up)
+		holds(next)
+		b.pass(nextCall)
+		if last := b.batches[len(b.batches)-1]; len(last.requests) != 1 || last.requests[0] != next {
+			t.Errorf("the last call is not of the request that holds the claim behind %d", i)
 		}
-	}
-	b.pass(nextCall)
-	last := b.batches[len(b.batches)-1]
-	if len(last.requests) != 1 || last.requests[0] != all[4] {
-		t.Errorf("the last call is not of the request that holds the claim")
 	}
 	b.now.Up = time.Hour + time.Minute + 50*5*nextCall
 	if b.pass(0); !errors.Is(all[50].Err, context.DeadlineExceeded) || all[51].answered {
@@ -90,37 +87,34 @@ func TestEachRequestHearsOfALoss(t *testing.T) {
 // Where a token comes for hours while the store is away, what is kept of it is no more than those that wait.
 func TestALineStaysShort(t *testing.T) {
 	b := newBench(t)
-	var r *Request
 	for i := 0; i < 4000; i++ {
 		b.now.Up += time.Minute / 100
 		b.pass(0)
-		r = b.asks("1")
+		b.asks("1")
+		for ; len(b.batches) > 0; b.batches = b.batches[1:] {
+			b.answers(0, errors.New("no servers"))
+		}
 	}
-	if n := len(r.line.requests); n > 400 {
-		t.Errorf("the line has room for %d requests, where 100 wait", n)
+	if n := b.machine.Backlog(); n > 105 {
+		t.Errorf("%d things are under way, where 100 requests wait", n)
 	}
-	if n := len(b.machine.claims.open); n != 1 {
+	if n := at(claiming)(b.machine); n != 1 {
 		t.Errorf("%d claims are open", n)
 	}
 }
 
-// Where the rules change while requests wait for a claim, none of them claims the token by the rules of before: all come again.
-func TestWhoWaitsComesAgainByOtherRules(t *testing.T) {
+// Where the rules change while requests wait for a claim, none of them claims the token by the rules of before.
+func TestWhoWaitsIsJudgedByOtherRules(t *testing.T) {
 	b := newBench(t)
 	var all []*Request
 	for i := 0; i < 4; i++ {
-		r := NewRequest(token("1"))
-		r.rules = b.machine.rules
-		b.step(r)
-		r.Key, r.Fault = b.keyring.VerifyToken(&r.read)
-		b.step(Verified{r})
-		all = append(all, r)
+		all = append(all, b.asks("1"))
 	}
 	b.step(&Ruling{Rules: &Rules{Audiences: b.machine.rules.Audiences, Allow: []string{"spiffe://example.org/job"}}})
 	b.answers(0, nil)
 	b.pass(0)
 	for i, r := range all {
-		if r.Err != errOtherRules || r.rules != b.machine.rules {
+		if r.Err != ErrNotAllowed {
 			t.Errorf("request %d: %v", i, r.Err)
 		}
 	}

@@ -141,9 +141,8 @@ func TestStrictReadsNoWithdrawals(t *testing.T) {
 
 // A request that puts its own claim holds up no answer of another one, however long the store takes.
 func TestAnOwnClaimHoldsUpNobody(t *testing.T) {
-	all, store := strict(t, 1)
+	all, store := strictWithin(t, 1, patience.Long)
 	e := all[0]
-	e.Wait = patience.Long
 	release := store.hold()
 	first := claimed(t, store, e, token("a"))
 	const many = mostAgain + 8
@@ -151,15 +150,7 @@ func TestAnOwnClaimHoldsUpNobody(t *testing.T) {
 	for i := 0; i < many; i++ {
 		go func() { answers <- check(e, token("a")) }()
 	}
-	waiting := func(c *claimTable) (n int) {
-		for _, r := range c.open {
-			if r.line != nil {
-				n += len(r.line.requests)
-			}
-		}
-		return n
-	}
-	await(t, "those that wait", func() bool { return withClaims(e, waiting) == many })
+	await(t, "those that wait", func() bool { return withMachine(e, at(waiting)) == many })
 	arm := func(at time.Duration) {
 		e.mu.Lock()
 		defer e.mu.Unlock()
@@ -194,15 +185,14 @@ func TestAnOwnClaimHoldsUpNobody(t *testing.T) {
 
 // An answer that comes in time, and then waits for the machine until the request is late, makes no 200.
 func TestAnAnswerThatWaitsForTheMachineIsLate(t *testing.T) {
-	all, store := strict(t, 1)
+	all, store := strictWithin(t, 1, 50*time.Millisecond)
 	e := all[0]
-	e.Wait = 50 * time.Millisecond
 	answer := make(chan error, 1)
 	release := store.hold()
 	go func() { answer <- check(e, token("a")) }()
 	await(t, "the claim", func() bool { return store.puts() == 1 })
 	e.mu.Lock()
-	due := e.machine.timers.next()
+	due := e.machine.due
 	release()
 	if due != never { // (else it is late already)
 		time.Sleep(due + 10*time.Millisecond - time.Since(e.start)) // What follows Put waits for the lock, past the deadline.

@@ -5,15 +5,16 @@ import (
 	"fmt"
 	"time"
 
+	"svid.example/go/v2/claims"
 	"svid.example/go/v2/svid"
 )
 
-// A Machine decides what a sidecar does. It has no goroutine, no lock, no clock and no chance: what happens goes in by Step
-// and Tick, and what is to be done comes out by Effects. So the same events at the same moments have the same effects, and a
+// A Machine carries out what the proved member of package svid says: what happens goes in by Step and Tick, and what is to be done comes out by
+// Effects. It has no goroutine, no lock, no clock and no chance. So the same events at the same moments have the same effects, and a
 // simulation can have many machines in one goroutine (package sim). An Engine runs one with goroutines, sockets and files.
 //
-// What is accepted is for the validator to say. The machine sees to it that nothing is answered before it is there to stay:
-// the walk of a request stands in walk.go.
+// The member decides which request is answered 200, when, and what must be done before. The machine knows who waits for which number, and how
+// far what was asked for is (walk.go).
 //
 // Its methods may be called by one goroutine at a time, except for Save, Mark, Summary and Answer, which only ask the validator.
 type Machine struct {
@@ -23,33 +24,28 @@ type Machine struct {
 
 	now     Time
 	effects []Effect
-	timers  timers
+	due     time.Duration // when the member has something that is over; never where it has nothing
 
-	bundled    bool   // there is a trust bundle
-	wasBundled bool   // the same before bundles were being replaced
-	loaded     bool   // the state folder's record is in the validator
-	joined     bool   // there is a group
-	caughtUp   bool   // and what it had is read
-	draining   bool   // no more tokens are to be sent here
-	began      uint64 // when the machine was made
+	known svid.Known // that the member was told
+	began uint64     // when the machine was made
 
-	rules  *Rules     // that count
-	claims claimTable // in mode strict
-	again  []*Request // these begin again with their claims
-	store  storeView  // where there is a store
+	rules       *Rules               // that count now
+	requests    map[uint64]*Request  // without an answer, by their numbers
+	withdrawals map[uint64]*Withdraw // the same
+	again       []uint64             // numbers of requests whose tokens are to be judged again
+	claims      claimQueue           // in mode strict
+	state       claims.State         // of the store, as it was when it was looked at last
 
 	keeper keeper // what the disk is to have
 	tale   tale   // what the group is to be told
 	late   late   // messages for a clock that is right
 
-	jumped   bool          // the clock is further ahead than Options.Step
-	jumpedAt time.Duration // since then
+	jumpedAt time.Duration // since then the clock is further ahead than Options.Step
 	mixedAt  time.Duration // when it was last logged that the group's modes differ
 
 	runs   bool
 	second time.Duration // when the machine looks after itself next
 	ending bool
-	ended  bool
 	giveUp time.Duration // when the end waits no longer for the group
 	last   bool          // the last snapshot is taken, or being taken
 }
@@ -63,14 +59,14 @@ type Time struct {
 // An Event is something that happened.
 type Event interface{ happen(m *Machine) }
 
-// An Effect is something that is to be done. The order of effects says nothing: all of a step may be done at once.
-type Effect interface{ isEffect() }
+// An Effect is something that is to be done: one of those below. Their order says nothing: all of a step may be done at once.
+type Effect any
 
-// The effects. What each refers to belongs to who does it, until the event that it wants.
+// The effects. The executor owns what an effect points to until it posts the event that the effect wants.
 type (
 	// Verify: find the key that made the signature of the request's token. Set Key or Fault, and then Verified.
 	Verify struct{ *Request }
-	// Append: bring the uses to the disk. Set Err and Size, and then Kept.
+	// Append: bring the uses to the disk. Set Err and Size, and then Kept. Where nobody waits for it, within Within.
 	Append struct{ *Write }
 	// PutClaims: put the claims into the store, within Within. Set Found, and then Claimed.
 	PutClaims struct{ *Batch }
@@ -88,16 +84,6 @@ type (
 	Ended struct{}
 )
 
-func (Verify) isEffect()          {}
-func (Append) isEffect()          {}
-func (PutClaims) isEffect()       {}
-func (WithdrawAtStore) isEffect() {}
-func (Send) isEffect()            {}
-func (Answer) isEffect()          {}
-func (Snapshot) isEffect()        {}
-func (JumpedAhead) isEffect()     {}
-func (Ended) isEffect()           {}
-
 // A Call is something that waits for an Answer.
 type Call struct {
 	Err      error // why it was not done
@@ -105,24 +91,38 @@ type Call struct {
 	answered bool
 }
 
-// NewMachine returns a machine that is not ready, whose validator has an empty record. It wants Renewed and Load, where
+// memberModes are the modes as the member has them.
+var memberModes = map[Mode]svid.MemberMode{Once: svid.MemberOnce, Strict: svid.MemberStrict, Reuse: svid.MemberReuse}
+
+// NewMachine returns a machine that is not ready, whose validator has an empty record and no member. It wants Renewed and Load, where
 // Options.Grouped is set Joined and CaughtUp, and where Options.Stored is set StoreOpened and Looked. It uses the validator until Ended.
-func NewMachine(o Options, validator *svid.Validator, now Time) *Machine {
+func NewMachine(o Options, validator *svid.Validator, now Time) (*Machine, error) {
 	return newMachine(&o, new(Metrics), validator, now)
 }
 
-func newMachine(o *Options, metrics *Metrics, validator *svid.Validator, now Time) *Machine {
+func newMachine(o *Options, metrics *Metrics, validator *svid.Validator, now Time) (*Machine, error) {
 	o.Stored = o.Stored || o.Mode == Strict
-	m := &Machine{Options: o, metrics: metrics, validator: validator, now: now, began: now.Wall, second: never}
-	m.claims = newClaims(now.Up)
-	m.keeper.due, m.tale.due = never, never
-	m.mixedAt = now.Up - seldomTime
-	m.rules = o.firstRules()
-	return m
+	mode, ok := memberModes[o.Mode]
+	if !ok {
+		return nil, fmt.Errorf("%q is no mode", o.Mode)
+	}
+	if err := validator.OpenMember(svid.MemberTerms{Mode: mode, Disk: o.Journal != nil, Store: o.Stored, Log: o.Grouped,
+		Wait: o.Wait, Ahead: o.Ahead, Lasts: o.Terms.Lasts, Life: o.Life}); err != nil {
+		return nil, err
+	}
+	m := &Machine{Options: o, metrics: metrics, validator: validator, now: now, began: now.Wall, due: never, second: never,
+		requests: map[uint64]*Request{}, withdrawals: map[uint64]*Withdraw{}, claims: newClaimQueue(now.Up), rules: &Rules{o.Audiences, nil},
+		known: svid.Known{Opened: !o.Stored, Heard: !o.Stored, Joined: !o.Grouped, CaughtUp: !o.Grouped}}
+	m.keeper.due, m.tale.due, m.mixedAt = never, never, now.Up-seldomTime
+	if o.Allow == nil {
+		return m, nil
+	}
+	ruling := Ruling{Rules: &Rules{o.Audiences, o.Allow}}
+	ruling.happen(m)
+	return m, ruling.Err
 }
 
-// Step lets an event happen. now is not before the last one by Up, or counts as that. Whatever is late by then is late before the
-// event: no answer that comes after a request's deadline makes it a 200.
+// Step lets an event happen. now is not before the last one by Up, or counts as that. Whatever is late by then is answered before the event.
 func (m *Machine) Step(now Time, event Event) {
 	m.goTo(now)
 	m.overdue()
@@ -130,22 +130,10 @@ func (m *Machine) Step(now Time, event Event) {
 	m.settle()
 }
 
-// overdue lets happen what is late.
-func (m *Machine) overdue() {
-	for one := m.timers.due(m.now.Up); one != nil; one = m.timers.due(m.now.Up) {
-		what := one.what
-		m.timers.stop(one)
-		what.isLate(m)
-	}
-}
-
 // Tick lets happen what is due by now. To be called at Due, or any time.
 func (m *Machine) Tick(now Time) {
 	m.goTo(now)
 	m.overdue()
-	if m.claims.nextDue() <= m.now.Up {
-		m.sendClaims()
-	}
 	if m.keeper.due <= m.now.Up {
 		m.keepNext()
 	}
@@ -165,13 +153,13 @@ func (m *Machine) Due() time.Duration {
 	if len(m.again) > 0 {
 		return m.now.Up
 	}
-	due := m.timers.next()
-	for _, other := range [...]time.Duration{m.claims.nextDue(), m.keeper.due, m.tale.due, m.tale.nextLater(), m.second} {
+	due := m.due
+	for _, other := range [...]time.Duration{m.claims.due(), m.keeper.due, m.tale.due, m.tale.nextLater(), m.second} {
 		if other < due {
 			due = other
 		}
 	}
-	if m.ending && !m.ended && m.giveUp < due && m.giveUp > m.now.Up {
+	if m.ending && !m.known.Ended && m.giveUp < due && m.giveUp > m.now.Up {
 		due = m.giveUp
 	}
 	return due
@@ -203,21 +191,53 @@ func (m *Machine) answer(c *Call, err error) {
 	m.do(Answer{c})
 }
 
+// overdue answers what is late.
+func (m *Machine) overdue() {
+	if m.due > m.now.Up {
+		return
+	}
+	for {
+		deed, err := m.validator.Overdue(m.now.Up)
+		if err != nil || deed.Kind == svid.DeedNothing {
+			break
+		}
+		m.carryOut(deed)
+	}
+	for {
+		made, ended, err := m.validator.WithdrawalOverdue(m.now.Up)
+		if err != nil || !ended {
+			break
+		}
+		m.withdrawalEnded(made)
+	}
+	m.due = m.nextDue()
+}
+
+// comes takes note that the member has another request, or another withdrawal. All wait for the same time, so a later one is due later.
+func (m *Machine) comes() {
+	if m.due == never {
+		m.due = m.nextDue()
+	}
+}
+
+func (m *Machine) nextDue() time.Duration {
+	if at, any, err := m.validator.Due(); err == nil && any {
+		return at
+	}
+	return never
+}
+
 // settle does what a step leaves to be done behind it.
 func (m *Machine) settle() {
 	m.goOn()
+	m.sendClaims()
 	m.end()
 }
 
 // What happens to a machine as a whole.
 type (
-	// Renewing: the trust bundles are about to be replaced, by none where Empty is set.
-	Renewing struct{ Empty bool }
-	// Renewed: the validator has other trust bundles, or Err says why it has not.
-	Renewed struct {
-		Domains int // how many
-		Err     error
-	}
+	// Bundled: the validator has a trust bundle, or none.
+	Bundled bool
 	// Joined: there is a group.
 	Joined struct{}
 	// CaughtUp: what the group had is read.
@@ -230,24 +250,16 @@ type (
 	End struct{}
 )
 
-func (r Renewing) happen(m *Machine) {
-	m.wasBundled = m.bundled
-	if r.Empty {
-		m.bundled = false // No token can be accepted from here on, and it is not the tokens' fault.
-	}
-}
+func (b Bundled) happen(m *Machine) { m.known.Bundled = bool(b); m.know() }
+func (Joined) happen(m *Machine)    { m.known.Joined = true; m.know() }
+func (CaughtUp) happen(m *Machine)  { m.known.CaughtUp = true; m.know() }
+func (Drain) happen(m *Machine)     { m.known.Draining = true; m.know() }
 
-func (r Renewed) happen(m *Machine) {
-	if r.Err != nil {
-		m.bundled = m.wasBundled
-		return
-	}
-	m.bundled = r.Domains > 0
+// know tells the member what the machine knows. (A validator that is closed says so when it is asked.)
+func (m *Machine) know() {
+	m.known.Deaf = m.state.Deaf > 0 && m.state.Deaf >= svid.StaysUntil(m.now.Wall, m.Longest)
+	_ = m.validator.Know(m.known)
 }
-
-func (Joined) happen(m *Machine)   { m.joined = true }
-func (CaughtUp) happen(m *Machine) { m.caughtUp = true }
-func (Drain) happen(m *Machine)    { m.draining = true }
 
 func (Run) happen(m *Machine) {
 	m.runs = true
@@ -265,75 +277,81 @@ func (End) happen(m *Machine) {
 // end ends the machine once nothing is under way: what waits for the group is told or given up, and what waits for the disk
 // is there or could not be kept. Then comes the last snapshot.
 func (m *Machine) end() {
-	if !m.ending || m.ended {
+	if !m.ending || m.known.Ended {
 		return
 	}
 	if m.giveUp <= m.now.Up {
 		m.dropTale()
 	}
-	if m.isTelling() || m.isKeeping() || m.claims.calls > 0 || m.keeper.saving {
+	if m.isTelling() || m.isKeeping() || m.claims.pacing.Calls() > 0 || m.keeper.saving {
 		return
 	}
-	if m.Journal != nil && m.loaded && !m.last {
+	if m.Journal != nil && m.known.Loaded && !m.last {
 		m.last = true
 		m.save()
 		return
 	}
-	m.ended, m.runs = true, false
+	m.known.Ended, m.runs = true, false
+	m.know()
 	m.do(Ended{})
 }
 
-// Ready returns nil if tokens are to be sent here: the machine can judge them, and does not drain.
-func (m *Machine) Ready(now Time) error {
+// Ready returns nil if tokens are to be sent here: the machine can judge them, and does not drain. full says that the state folder has no room for
+// another acceptance, and away that the store has not answered for longer than a request waits.
+func (m *Machine) Ready(now Time, full, away bool) error {
 	m.goTo(now)
-	if m.draining {
-		return errors.New("draining")
-	}
-	if m.jumped {
-		return fmt.Errorf("the clock went ahead by more than %d seconds at once", m.Options.Step)
-	}
-	if m.Mode == Once && m.keeper.unkept != nil {
-		return errKeepsNothing
-	}
-	if m.Mode == Strict && m.isDeaf() {
-		return fmt.Errorf("the store has lost entries: no token is accepted that expires before %d, and so none at the moment", m.store.state.Deaf)
-	}
-	return m.canJudge()
+	m.known.Full, m.known.Away = full, away
+	m.know()
+	return m.inWords(m.validator.Ready())
 }
 
-// errKeepsNothing: in mode once a token would be answered 503, and be burnt.
-var errKeepsNothing = errors.New("the state folder takes no acceptances: the log says why")
+var (
+	// errKeepsNothing: in mode once a token would be answered 503, and be burnt.
+	errKeepsNothing = errors.New("the state folder takes no acceptances: the log says why")
+	// errAway: in mode strict a token would be answered 503.
+	errAway = errors.New("the group's store does not answer, so no token can be claimed")
+)
 
-// canJudge returns nil once bundles, the machine's own record and the group's are read.
-func (m *Machine) canJudge() error {
-	switch {
-	case m.ended:
-		return errors.New("the sidecar has ended")
-	case !m.bundled:
-		return errors.New("there is no trust bundle")
-	case !m.loaded:
-		return errors.New("the state folder is being read")
-	case m.Stored && !m.store.opened:
-		return errors.New("the group's store was not reached yet")
-	case m.Stored && m.Mode != Strict && !m.store.heard:
-		return errors.New("the store's withdrawals are being read")
-	case !m.Grouped:
-		return nil
-	case !m.joined:
-		return errors.New("the group's broker was not reached yet")
-	case !m.caughtUp:
-		return errors.New("the group's bucket is being read")
+// inWords says why no token is judged, or none is to be sent here, in an operator's words.
+func (m *Machine) inWords(err error) error {
+	why, ok := err.(svid.Unready)
+	if !ok {
+		return err
 	}
-	return nil
+	switch why {
+	case svid.UnreadyEnded:
+		return errors.New("the sidecar has ended")
+	case svid.UnreadyGroupUnread:
+		return errors.New("the group's bucket is being read")
+	case svid.UnreadyDraining:
+		return errors.New("draining")
+	case svid.UnreadyJumped:
+		return fmt.Errorf("the clock went ahead by more than %d seconds at once", m.Options.Step)
+	case svid.UnreadyKeepsNothing:
+		return errKeepsNothing
+	case svid.UnreadyStoreAway:
+		return errAway
+	case svid.UnreadyDeaf:
+		return fmt.Errorf("the store has lost entries: no token is accepted that expires before %d, and so none at the moment", m.state.Deaf)
+	}
+	return errors.New(why.Words())
+}
+
+// notReady is why nothing is judged, or withdrawn, yet.
+func (m *Machine) notReady(err error) error {
+	if _, ok := err.(svid.Unready); ok {
+		return fmt.Errorf("%w: %v", ErrNotReady, m.inWords(err))
+	}
+	return err
 }
 
 // Backlog is how many things are under way: requests, claims, values, writes, and what waits to be told. Where nothing happens
 // it is 0.
 func (m *Machine) Backlog() int {
 	c, k, t := &m.claims, &m.keeper, &m.tale
-	n := c.requests + len(c.open) + len(c.gather) + len(c.again) - c.over + c.calls + len(m.again)
+	n := len(m.requests) + len(m.withdrawals) + len(m.again) + len(c.waiting) + len(c.later) + c.pacing.Calls()
 	n += len(k.uses) + len(t.untold) + len(t.later) + len(m.late.messages)
-	for one := m.timers.first; one != nil; one = one.next {
+	if k.busy != nil || t.told != nil {
 		n++
 	}
 	return n

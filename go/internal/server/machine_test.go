@@ -4,13 +4,22 @@ import (
 	"context"
 	"errors"
 	"fmt"
-	"math/rand"
 	"strings"
 	"testing"
 	"time"
 
 	"svid.example/go/v2/claims"
 	"svid.example/go/v2/svid"
+)
+
+// As the library paces claims (svid_pacing).
+const (
+	nextCall   = 20 * time.Millisecond
+	mostCalls  = 64
+	fullCall   = 32
+	fewCalls   = 4
+	firstRetry = 10 * time.Millisecond
+	lastRetry  = 250 * time.Millisecond
 )
 
 // A bench is a machine in mode strict by itself: a test does by hand what the machine wants to be done.
@@ -31,8 +40,8 @@ func newBench(t testing.TB) *bench {
 // benchOf is one with other options.
 func benchOf(t testing.TB, of Options) *bench {
 	t.Helper()
-	of.Longest, of.Ahead, of.Step, of.ValidatorID, of.Wait = 3600, 30, 600, svid.ValidatorID{1}, time.Minute
-	o := svid.Options{Audiences: []string{"ledger"}, Bundles: example.Bundles(), Longest: of.Longest, Ahead: of.Ahead, Step: of.Step, ValidatorID: of.ValidatorID}
+	of.Longest, of.Ahead, of.Step, of.ValidatorID, of.Wait, of.Audiences = 3600, 30, 600, svid.ValidatorID{1}, time.Minute, []string{"ledger"}
+	o := svid.Options{Audiences: of.Audiences, Bundles: example.Bundles(), Longest: of.Longest, Ahead: of.Ahead, Step: of.Step, ValidatorID: of.ValidatorID}
 	validator, err := svid.Open(o)
 	if err != nil {
 		t.Fatal(err)
@@ -43,8 +52,10 @@ func benchOf(t testing.TB, of Options) *bench {
 		t.Fatal(err)
 	}
 	t.Cleanup(b.keyring.Close)
-	b.machine = NewMachine(of, validator, b.now)
-	b.step(Renewed{Domains: 1}, &Load{}, StoreOpened{claims.State{Epoch: "one", Time: moment}})
+	if b.machine, err = NewMachine(of, validator, b.now); err != nil {
+		t.Fatal(err)
+	}
+	b.step(Bundled(true), &Load{}, StoreOpened{claims.State{Epoch: "one", Time: moment}})
 	return b
 }
 
@@ -326,35 +337,89 @@ func TestOneTokenThatIsSentVeryOften(t *testing.T) {
 	b.want(1, 0, 0)
 }
 
-// Timers are due in their order, whatever the order is in which they were set, and stopped ones never are.
-func TestTimers(t *testing.T) {
-	r := rand.New(rand.NewSource(1))
-	for round := 0; round < 200; round++ {
-		var all timers
-		set := map[*timer]time.Duration{}
-		some := make([]timer, 8)
+// Each request is answered when its time is over, whatever it waits for, and no later than the machine says that it is due. One that has an answer
+// has no time.
+func TestEachRequestIsAnsweredAtItsTime(t *testing.T) {
+	for what, make := range map[string]func(b *bench, id string) *Request{
+		"its signature":       (*bench).comes,
+		"its claim":           (*bench).asks,
+		"the claim of others": func(b *bench, _ string) *Request { return b.asks("one") },
+	} {
+		b := newBench(t)
+		wall := b.now.Wall
+		var all []*Request
 		for i := 0; i < 40; i++ {
-			one := &some[r.Intn(len(some))]
-			if all.stop(one); r.Intn(3) == 0 {
-				delete(set, one)
-				continue
+			b.now.Up += time.Second
+			all = append(all, make(b, fmt.Sprint(i)))
+		}
+		for i := 0; i < len(all); i += 3 {
+			b.step(Gone{all[i], context.Canceled})
+		}
+		for i, r := range all {
+			at := time.Hour + time.Duration(i+1)*time.Second + time.Minute
+			for b.machine.Due() < at {
+				if b.now.Up = b.machine.Due(); r.answered && i%3 > 0 {
+					t.Fatalf("%s: request %d is answered too early: %v", what, i, r.Err)
+				}
+				b.pass(0)
 			}
-			set[one] = time.Duration(r.Intn(9))
-			all.set(one, set[one], &Write{})
-		}
-		before := time.Duration(0)
-		for len(set) > 0 {
-			one := all.due(100)
-			if one == nil || set[one] != one.at || one.at < before || all.next() != one.at || all.due(one.at-1) != nil {
-				t.Fatalf("round %d: %v", round, one)
+			if b.now.Up = at; i%3 > 0 && b.machine.Due() != at {
+				t.Errorf("%s: the next is due at %v, and not at %v", what, b.machine.Due(), at)
 			}
-			before = one.at
-			all.stop(one)
-			delete(set, one)
+			want := context.DeadlineExceeded
+			if i%3 == 0 {
+				want = context.Canceled
+			}
+			if b.pass(0); !r.answered || !errors.Is(r.Err, want) {
+				t.Errorf("%s: request %d: %v", what, i, r.Err)
+			}
 		}
-		if all.first != nil || all.last != nil || all.next() != never {
-			t.Fatalf("round %d: timers are left", round)
+		for call := range b.batches {
+			b.answers(call, errors.New("too late"))
 		}
+		b.pass(lastRetry)
+		for _, r := range all {
+			if what == "its signature" {
+				b.step(Verified{r})
+			}
+		}
+		if n := b.machine.Backlog(); n != 0 || b.machine.Due() != never || b.now.Wall != wall {
+			t.Errorf("%s: %d things are under way, due at %v", what, n, b.machine.Due())
+		}
+	}
+}
+
+// A request that is answered while its signature is verified is answered once, and nothing is kept of it.
+func TestAVerificationThatTakesTooLong(t *testing.T) {
+	for mode, o := range map[Mode]Options{Once: {Mode: Once, Journal: &disk{}}, Reuse: {Mode: Reuse}, Strict: inStrict(Options{})} {
+		b := benchOf(t, o)
+		r := b.comes("1")
+		b.pass(time.Minute)
+		if !errors.Is(r.Err, context.DeadlineExceeded) || b.count(Answer{}) != 1 {
+			t.Errorf("%s: %v, answered %d times", mode, r.Err, b.count(Answer{}))
+		}
+		r.Key, r.Fault = b.keyring.VerifyToken(&r.read)
+		b.step(Verified{r})
+		if b.count(Answer{}) != 1 || b.machine.Backlog() != 0 || len(b.batches) != 0 {
+			t.Errorf("%s: answered %d times, and %d things are under way", mode, b.count(Answer{}), b.machine.Backlog())
+		}
+		if r := b.asks("1"); mode == Reuse && r.Err != nil {
+			t.Errorf("%s: its token is used up: %v", mode, r.Err)
+		}
+	}
+}
+
+// A request whose signature nobody could verify is answered so, and its token is not used up.
+func TestAVerificationThatFails(t *testing.T) {
+	b := benchOf(t, Options{Mode: Once, Journal: &disk{}})
+	r := b.comes("1")
+	r.Fault = svid.ErrNoMemory
+	if b.step(Verified{r}); r.Err != svid.ErrNoMemory || b.machine.Backlog() != 0 {
+		t.Errorf("%v, and %d things are under way", r.Err, b.machine.Backlog())
+	}
+	other := b.asks("1")
+	if b.step(Kept{other.write}); other.Err != nil {
+		t.Error(other.Err)
 	}
 }
 
@@ -397,30 +462,41 @@ func TestClaimsWithoutRoomGoOutByThemselves(t *testing.T) {
 	}
 }
 
-// A claim of who was admitted by rules that count no more is not accepted: it comes again.
+// A claim of who may not call any more is not accepted.
 func TestAClaimOfACallerWhoMayNotCallAnyMore(t *testing.T) {
 	b := newBench(t)
-	r := NewRequest(token("1"))
-	r.rules = b.machine.rules
-	b.step(r)
-	r.Key, r.Fault = b.keyring.VerifyToken(&r.read)
-	b.step(Verified{r})
+	r := b.asks("1")
 	b.step(&Ruling{Rules: &Rules{Audiences: b.machine.rules.Audiences, Allow: []string{"spiffe://example.org/job"}}})
-	if b.answers(0, nil); r.Err != errOtherRules || r.rules != b.machine.rules {
+	if b.answers(0, nil); r.Err != ErrNotAllowed {
 		t.Errorf("%v", r.Err)
 	}
+	b.want(0, 1, 0)
+}
+
+// What another's claim was is asked once, and told each time.
+func TestALostClaimIsToldAgain(t *testing.T) {
+	b := newBench(t)
+	other := svid.OwnerOfLife(svid.ValidatorID{7}, svid.Life{7}, moment+300)
+	b.asks("1")
+	b.batches[0].Found[0] = claims.Found{Owner: other, Time: moment}
+	b.step(Claimed{b.batches[0]})
+	r := b.asks("1")
+	if r.Err != svid.Replayed || r.Owner != (svid.ValidatorID{7}) || len(b.batches) != 1 {
+		t.Errorf("%v, by %v, after %d calls", r.Err, r.Owner, len(b.batches))
+	}
+	b.want(0, 1, 0)
 }
 
 // Another token of a key is no lost one: it may be accepted once the first one has expired.
 func TestALostTokenIsThatAlone(t *testing.T) {
 	l := newLostClaims(0)
-	use := svid.Use{Key: svid.TokenKey{1}, Expires: moment + 10}
-	l.add(0, use, svid.ValidatorID{7})
-	if owner, lost := l.owner(&use); !lost || owner != (svid.ValidatorID{7}) {
-		t.Errorf("%v %v", owner, lost)
+	claim, of := claims.Claim{Key: svid.TokenKey{1}, Expires: moment + 10}, svid.Found{Owner: svid.Owner{7}, Time: moment}
+	l.add(0, &claim, of)
+	if found, lost := l.find(&claim); !lost || found != of {
+		t.Errorf("%v %v", found, lost)
 	}
-	use.Expires++
-	if _, lost := l.owner(&use); lost {
+	claim.Expires++
+	if _, lost := l.find(&claim); lost {
 		t.Error("a later token of the key is lost")
 	}
 }
@@ -428,19 +504,19 @@ func TestALostTokenIsThatAlone(t *testing.T) {
 // Tokens of others are kept for a while, and not more than so many.
 func TestLostTokensHaveABound(t *testing.T) {
 	l := newLostClaims(0)
-	one := svid.Use{Expires: moment}
-	l.add(0, one, svid.ValidatorID{7})
+	one := claims.Claim{Expires: moment}
+	l.add(0, &one, svid.Found{})
 	for i := 0; i < 3*mostLost; i++ {
-		l.add(time.Duration(i), svid.Use{Key: svid.TokenKey{1, byte(i), byte(i >> 8), byte(i >> 16)}}, svid.ValidatorID{})
+		l.add(time.Duration(i), &claims.Claim{Key: svid.TokenKey{1, byte(i), byte(i >> 8), byte(i >> 16)}}, svid.Found{})
 	}
 	if n := len(l.young) + len(l.old); n > 2*mostLost {
 		t.Errorf("%d are kept", n)
 	}
-	if _, lost := l.owner(&one); lost {
+	if _, lost := l.find(&one); lost {
 		t.Error("one of long ago is kept")
 	}
 	for i := 1; i < 3; i++ { // and each for two minutes at the least, where few come
-		l.add(time.Duration(i)*2*lostLook, svid.Use{Key: svid.TokenKey{2, byte(i)}}, svid.ValidatorID{})
+		l.add(time.Duration(i)*2*lostLook, &claims.Claim{Key: svid.TokenKey{2, byte(i)}}, svid.Found{})
 	}
 	if n := len(l.young) + len(l.old); n > 2 {
 		t.Errorf("%d are kept though few come", n)

@@ -141,9 +141,7 @@ func (e *Engine) WriteMetrics(w io.Writer) error {
 
 // storeState is what the store was when it was looked at last.
 func (e *Engine) storeState() claims.State {
-	e.mu.Lock()
-	defer e.mu.Unlock()
-	return e.machine.store.state
+	return withMachine(e, func(m *Machine) claims.State { return m.state })
 }
 
 // never is the age of a bundle that was not read yet.

@@ -2,7 +2,6 @@ package server
 
 import (
 	"context"
-	"errors"
 	"net/http"
 	"sync"
 	"sync/atomic"
@@ -23,21 +22,6 @@ type outlook struct {
 // A roomy journal can say whether it takes the next acceptance.
 type roomy interface {
 	Room(ctx context.Context) error
-}
-
-// errAway: in mode strict a token would be answered 503.
-var errAway = errors.New("the group's store does not answer, so no token can be claimed")
-
-// canKeep returns nil if an acceptance could be kept, as the engine saw it last. A store that was away for less than Options.Wait is
-// no reason: requests wait for it.
-func (e *Engine) canKeep() error {
-	switch {
-	case e.Mode == Once && e.outlook.noRoom.Load():
-		return errKeepsNothing
-	case e.Mode == Strict && e.isAway():
-		return errAway
-	}
-	return nil
 }
 
 // isAway says whether the store has been away for longer than a request waits.

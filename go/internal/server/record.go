@@ -58,7 +58,8 @@ func (l *Load) happen(m *Machine) {
 	if l.Err = m.validator.Tick(m.now.Wall); l.Err != nil {
 		return
 	}
-	m.loaded, m.keeper.size = true, l.Size
+	m.known.Loaded, m.keeper.size = true, l.Size
+	m.know()
 }
 
 // A Taking gives the record values of the group, in their order. Errs is nil, or has one for each value: it
@@ -197,7 +198,7 @@ func (m *Machine) lookAfterAll() {
 	m.tick()
 	m.keepAgain()
 	m.measure()
-	if m.Journal != nil && m.loaded && !m.keeper.saving && m.keeper.size > max(m.keeper.saved, smallJournal) {
+	if m.Journal != nil && m.known.Loaded && !m.keeper.saving && m.keeper.size > max(m.keeper.saved, smallJournal) {
 		m.save()
 	}
 }
@@ -209,8 +210,9 @@ func (m *Machine) lookAfterAll() {
 func (m *Machine) tick() {
 	now := m.now.Wall
 	err := m.validator.Tick(now)
-	before, jumped := m.jumped, errors.Is(err, svid.ErrJump)
-	m.jumped = jumped
+	before, jumped := m.known.Jumped, errors.Is(err, svid.ErrJump)
+	m.known.Jumped = jumped
+	m.know()
 	switch {
 	case jumped && !before:
 		m.jumpedAt = m.now.Up

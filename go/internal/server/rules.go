@@ -6,8 +6,7 @@ import (
 	"svid.example/go/v2/svid"
 )
 
-// Rules say for whom a token must be, and of whom. A request is judged by one pair from its coming to its acceptance: never by the
-// audiences of one and the callers of another. Nobody may change a pair.
+// Rules say for whom a token must be, and of whom. The member counts them together. Nobody may change a pair.
 type Rules struct {
 	Audiences []string
 	Allow     []string // patterns of the SPIFFE IDs that may call; nil allows all
@@ -35,37 +34,7 @@ type Ruling struct {
 }
 
 func (r *Ruling) happen(m *Machine) {
-	if !sameTexts(r.Rules.Audiences, m.rules.Audiences) {
-		if r.Err = m.validator.SetAudiences(r.Rules.Audiences); r.Err != nil {
-			return
-		}
+	if r.Err = m.validator.SetRules(r.Rules.Audiences, r.Rules.Allow); r.Err == nil {
+		m.rules = r.Rules
 	}
-	m.rules = r.Rules
-}
-
-// errOtherRules: the rules that a request came by count no more. It is to come again.
-var errOtherRules = errors.New("the audiences or the callers have changed")
-
-// isOutdated says whether other rules count than those that a request came by. It gives the request those that do.
-func (m *Machine) isOutdated(r *Request) bool {
-	if r.rules == nil || r.rules == m.rules {
-		return false
-	}
-	r.rules = m.rules
-	return true
-}
-
-// rules are those that count at first.
-func (o *Options) firstRules() *Rules { return &Rules{Audiences: o.Audiences, Allow: o.Allow} }
-
-func sameTexts(a, b []string) bool {
-	if len(a) != len(b) {
-		return false
-	}
-	for i := range a {
-		if a[i] != b[i] {
-			return false
-		}
-	}
-	return true
 }

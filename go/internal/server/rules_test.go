@@ -71,39 +71,29 @@ func TestRulesAreReplaced(t *testing.T) {
 
 // Who may call under one audience is not let in under another one: while both change, no request is judged by one of each.
 func TestRulesCountTogether(t *testing.T) {
-	e := ready(t, engine(t, Options{Mode: Once, Journal: &disk{}, Allow: []string{"spiffe://example.org/web"}}))
-	r := NewRequest(ofAudience("admin", "web", "a"))
-	r.rules, r.done = e.rules.Load(), make(chan struct{})
-	if err := e.admit(r.rules, r.Token); err != nil {
-		t.Fatal(err)
-	}
-	if err := e.SetRules([]string{"admin"}, []string{"spiffe://example.org/job"}); err != nil {
-		t.Fatal(err)
-	}
-	if r.Key, r.Fault = e.keyring.VerifyToken(&r.read); r.Key == nil || r.Fault != nil {
-		t.Fatal(r.Key, r.Fault)
-	}
-	e.step(Verified{r})
-	if <-r.done; r.Err != errOtherRules || r.rules != e.rules.Load() {
-		t.Errorf("admitted by the rules of before: %v", r.Err)
-	}
-	// In mode reuse too, where it need not be verified.
-	e = ready(t, engine(t, Options{Mode: Reuse}))
-	if err := e.SetRules([]string{"admin"}, nil); err != nil {
-		t.Fatal(err)
-	}
-	late := NewRequest(ofAudience("admin", "web", "b"))
-	late.rules = e.rules.Load()
-	for i := 0; i < 2; i++ {
-		if err := check(e, late.Token); err != nil {
-			t.Fatal(err)
+	for mode, o := range map[Mode]Options{Once: {Mode: Once, Journal: &disk{}}, Reuse: {Mode: Reuse}, Strict: inStrict(Options{})} {
+		o.Allow = []string{"spiffe://example.org/web"}
+		b := benchOf(t, o)
+		r := NewRequest(ofAudience("admin", "web", "a"))
+		b.step(r) // It comes by the rules of before.
+		r.Key, r.Fault = b.keyring.VerifyToken(&r.read)
+		ruling := &Ruling{Rules: &Rules{Audiences: []string{"admin"}, Allow: []string{"spiffe://example.org/job"}}}
+		if b.step(ruling); ruling.Err != nil {
+			t.Fatal(ruling.Err)
+		}
+		if b.step(Verified{r}); r.Err != ErrNotAllowed {
+			t.Errorf("%s: %v", mode, r.Err)
 		}
 	}
-	if err := e.SetRules([]string{"admin"}, []string{"spiffe://example.org/job"}); err != nil {
-		t.Fatal(err)
-	}
-	if e.step(late); late.Err != errOtherRules || late.rules != e.rules.Load() {
-		t.Errorf("a request of the rules of before: %v", late.Err)
+}
+
+// The audience of an answer is one of the rules by which its token was judged.
+func TestTheAudienceIsOfTheRulesThatCounted(t *testing.T) {
+	b := benchOf(t, Options{Mode: Once, Journal: &disk{}})
+	r := b.asks("a")
+	b.step(&Ruling{Rules: &Rules{Audiences: []string{"other"}}})
+	if b.step(Kept{r.write}); r.Err != nil || r.rules.audience(r.Token) != "ledger" {
+		t.Errorf("%v: %q", r.Err, r.rules.audience(r.Token))
 	}
 }
 

@@ -70,11 +70,11 @@ func TestTheKeeperDoesNotFillTheLog(t *testing.T) {
 
 	// So it is of what there is no room for.
 	full := func(times int) {
-		e.step(doing(func(m *Machine) { m.keeper.uses, m.keeper.busy = make([]svid.Use, mostUnkept), true }))
+		e.step(doing(func(m *Machine) { m.keeper.uses, m.keeper.busy = make([]svid.Use, mostUnkept), new(Write) }))
 		for i := 0; i < times; i++ {
 			e.step(doing(func(m *Machine) { m.keepSoon(svid.Use{}) }))
 		}
-		e.step(doing(func(m *Machine) { m.keeper.uses, m.keeper.busy = nil, false }))
+		e.step(doing(func(m *Machine) { m.keeper.uses, m.keeper.busy = nil, nil }))
 		keep(1)
 	}
 	full(writes)

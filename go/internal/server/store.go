@@ -1,25 +1,17 @@
 package server
 
 import (
-	"context"
 	"time"
 
 	"svid.example/go/v2/claims"
 	"svid.example/go/v2/svid"
 )
 
-// A storeView is what the machine knows of the group's store.
-type storeView struct {
-	opened bool         // it was reached
-	heard  bool         // its withdrawals were read to the end once
-	state  claims.State // as it was when it was looked at last
-}
-
 // StoreOpened: the group's store was reached, and agrees on the terms.
 type StoreOpened struct{ State claims.State }
 
 func (o StoreOpened) happen(m *Machine) {
-	m.store.opened = true
+	m.known.Opened = true
 	Looked{State: o.State}.happen(m)
 }
 
@@ -27,18 +19,13 @@ func (o StoreOpened) happen(m *Machine) {
 type Looked struct{ State claims.State }
 
 func (l Looked) happen(m *Machine) {
-	before := m.store.state
-	if m.store.state = l.State; before.Epoch != "" && before.Epoch != l.State.Epoch {
+	before := m.state
+	if m.state = l.State; before.Epoch != "" && before.Epoch != l.State.Epoch {
 		m.metrics.Epochs.Add(1)
 		m.Log.Error("epoch", ErrLost, "epoch", l.State.Epoch, "before", before.Epoch, "until", l.State.Deaf,
 			"why", "of tokens that expire by then, none is accepted: one of them may have been used")
 	}
-}
-
-// isDeaf says whether no token can be accepted, since each one that lives for as long as it may could have been used before the store
-// lost entries.
-func (m *Machine) isDeaf() bool {
-	return m.store.state.Deaf > 0 && m.store.state.Deaf >= svid.StaysUntil(m.now.Wall, m.Longest)
+	m.know()
 }
 
 // Heard has withdrawals that the store told of. Whole says that there are no more at the moment.
@@ -50,7 +37,8 @@ type Heard struct {
 
 func (h *Heard) happen(m *Machine) {
 	if h.Err = m.hear(h.These); h.Err == nil && h.Whole {
-		m.store.heard = true
+		m.known.Heard = true
+		m.know()
 	}
 }
 
@@ -78,23 +66,5 @@ type StoreWithdraw struct {
 	Owner claims.Owner // as claims.Store has it
 	Err   error        // why the store does not have it. It may have it all the same
 
-	by   *Withdraw // nil once it is done, or too late
-	late timer
-}
-
-// Stored: the effect WithdrawAtStore is done.
-type Stored struct{ *StoreWithdraw }
-
-func (s Stored) happen(m *Machine) {
-	m.timers.stop(&s.late)
-	s.end(m, s.Err)
-}
-
-func (s *StoreWithdraw) isLate(m *Machine) { s.end(m, context.DeadlineExceeded) }
-
-func (s *StoreWithdraw) end(m *Machine, err error) {
-	if by := s.by; by != nil {
-		s.by = nil
-		by.stored(m, s.Owner, err)
-	}
+	by *Withdraw
 }

@@ -111,8 +111,7 @@ func TestAClaimWithoutAnswerIsPutAgain(t *testing.T) {
 
 // A claim whose outcome is unknown is answered 503. The same life may claim the token again, and nobody else.
 func TestAClaimOfUnknownOutcome(t *testing.T) {
-	all, store := strict(t, 2)
-	all[0].Wait = 30 * time.Millisecond
+	all, store := strictWithin(t, 2, 300*time.Millisecond)
 	lost := errors.New("connection lost")
 	store.fail(lost)
 	err := <-claimed(t, store, all[0], token("a"))
@@ -121,12 +120,17 @@ func TestAClaimOfUnknownOutcome(t *testing.T) {
 	}
 	wantClaims(t, all[0], 0, 0, 1)
 	store.fail(nil)
-	if err := check(all[1], token("a")); err != svid.Replayed {
+	err = check(all[1], token("a"))
+	for ; errors.Is(err, context.DeadlineExceeded); err = check(all[1], token("a")) { // (a busy machine)
+	}
+	if err != svid.Replayed {
 		t.Errorf("at another sidecar: %v", err)
 	}
-	all[0].step(doing(func(m *Machine) { m.Wait = patience.Long }))
 	for _, want := range []error{nil, svid.Replayed} {
-		if err := check(all[0], token("a")); err != want {
+		err := check(all[0], token("a"))
+		for ; errors.Is(err, context.DeadlineExceeded); err = check(all[0], token("a")) { // (a busy machine)
+		}
+		if err != want {
 			t.Errorf("%v, want %v", err, want)
 		}
 	}
@@ -134,9 +138,8 @@ func TestAClaimOfUnknownOutcome(t *testing.T) {
 
 // A claim whose client goes away ends at once. Nobody knows what became of it, which is counted.
 func TestAClientThatGoesAwayDuringAClaim(t *testing.T) {
-	all, store := strict(t, 1)
+	all, store := strictWithin(t, 1, time.Minute)
 	e := all[0]
-	e.Wait = time.Minute
 	defer store.hold()()
 	first := claimed(t, store, e, token("a"))
 	gone, leave := context.WithCancel(context.Background())
@@ -145,7 +148,7 @@ func TestAClientThatGoesAwayDuringAClaim(t *testing.T) {
 		_, err := e.Check(gone, token("b"))
 		answer <- err
 	}()
-	await(t, "the other claim", func() bool { return withClaims(e, func(c *claimTable) int { return len(c.open) }) == 2 })
+	await(t, "the other claim", func() bool { return withMachine(e, at(claiming)) == 2 })
 	leave()
 	wantAnswer(t, answer, context.Canceled)
 	select {
@@ -220,7 +223,11 @@ func TestStrictKeepsWhatItWon(t *testing.T) {
 		t.Errorf("%d failures, log %s", n, &out)
 	}
 	full := func(uses []svid.Use) {
-		own.step(doing(func(m *Machine) { m.keeper.uses, m.keeper.busy = uses, uses != nil }))
+		own.step(doing(func(m *Machine) {
+			if m.keeper.uses, m.keeper.busy = uses, nil; uses != nil {
+				m.keeper.busy = new(Write)
+			}
+		}))
 	}
 	full(make([]svid.Use, mostUnkept))
 	if err := check(own, token("slow")); err != nil {
@@ -236,9 +243,8 @@ func TestStrictKeepsWhatItWon(t *testing.T) {
 // unknown.
 func TestAnotherLifeAcceptsNothingOfAnEarlierOne(t *testing.T) {
 	store := newShop()
-	earlier := store.use(t, ready(t, engine(t, inStrict(Options{}))))
+	earlier := store.use(t, ready(t, engine(t, inStrict(Options{Wait: 30 * time.Millisecond}))))
 	defer store.hold()()
-	earlier.Wait = 30 * time.Millisecond
 	if err := <-claimed(t, store, earlier, token("a")); !errors.Is(err, context.DeadlineExceeded) {
 		t.Fatal(err)
 	}
@@ -406,21 +412,22 @@ func TestAClaimOfOldBundles(t *testing.T) {
 // Claims that come while a call is under way share the next one, of bounded length. A call that has no answer holds up no other for
 // long.
 func TestClaimsShareACall(t *testing.T) {
-	all, store := strict(t, 1)
+	all, store := strictWithin(t, 1, patience.Long)
 	e := all[0]
-	e.Wait = patience.Long
 	release := store.hold()
 	const many = claims.MostClaims + 3
 	answers := make(chan error, many+1)
 	go func() { answers <- check(e, token("first")) }()
 	await(t, "the first call", func() bool { return store.puts() == 1 })
 	const others = fewCalls - 1 // so that a full call has to wait too
-	e.step(doing(func(m *Machine) { m.claims.at, m.claims.calls = m.now.Up+time.Hour, m.claims.calls+others }))
-	defer e.step(doing(func(m *Machine) { m.claims.calls -= others }))
+	for i := 0; i < others; i++ {
+		e.step(doing(func(m *Machine) { m.claims.pacing.Sent(m.now.Up + time.Hour) }))
+		defer e.step(doing(func(m *Machine) { m.claims.pacing.Answered() }))
+	}
 	for i := 0; i < many; i++ {
 		go func(i int) { answers <- check(e, token(fmt.Sprint(i))) }(i)
 	}
-	await(t, "all claims", func() bool { return withClaims(e, func(c *claimTable) int { return len(c.gather) }) == many })
+	await(t, "all claims", func() bool { return withMachine(e, func(m *Machine) int { return len(m.claims.waiting) }) == many })
 	release()
 	for i := 0; i <= many; i++ {
 		if err := <-answers; err != nil {

@@ -3,6 +3,7 @@
 package server
 
 import (
+	"context"
 	"fmt"
 	"testing"
 
@@ -70,33 +71,41 @@ func TestReusedTokensLeaveNothing(t *testing.T) {
 
 // So is the token of a request that waited for the claim of another one.
 func TestRequestsThatWaitLeaveNothing(t *testing.T) {
-	const waiting = 200
+	const many = 200
 	all, store := strict(t, 1)
 	e := all[0]
 	holdsNoMore(t, "200 requests that waited", func(turn int) {
 		release := store.hold()
 		one := token(fmt.Sprint("waits ", turn))
 		first := claimed(t, store, e, one)
-		answers := make(chan error, waiting)
-		for i := 0; i < waiting; i++ {
+		answers := make(chan error, many)
+		for i := 0; i < many; i++ {
 			go func() { answers <- check(e, one) }()
 		}
-		await(t, "all to wait", func() bool {
-			e.mu.Lock()
-			defer e.mu.Unlock()
-			for _, r := range e.machine.claims.open {
-				return r.line != nil && len(r.line.requests) == waiting
-			}
-			return false
-		})
+		await(t, "all to wait", func() bool { return withMachine(e, at(waiting)) == many })
 		release()
 		if err := <-first; err != nil {
 			t.Fatal(err)
 		}
-		for i := 0; i < waiting; i++ {
+		for i := 0; i < many; i++ {
 			if err := <-answers; err != svid.Replayed {
 				t.Fatal(err)
 			}
+		}
+	})
+}
+
+// So is one whose request was answered while its signature was verified.
+func TestTokensThatAreVerifiedTooLateLeaveNothing(t *testing.T) {
+	b := benchOf(t, Options{Mode: Reuse})
+	holdsNoMore(t, "200 requests that were late", func(turn int) {
+		for i := 0; i < 200; i++ {
+			r := b.comes(fmt.Sprint("late ", i))
+			b.step(Gone{r, context.Canceled})
+			if r.Key, r.Fault = b.keyring.VerifyToken(&r.read); r.Key == nil {
+				t.Fatal(r.Fault)
+			}
+			b.step(Verified{r})
 		}
 	})
 }

@@ -1,7 +1,6 @@
 package server
 
 import (
-	"context"
 	"fmt"
 	"sort"
 	"time"
@@ -37,40 +36,24 @@ type Put struct {
 	At    uint64 // when it was stored, by the server's clock, in seconds
 	AtErr error  // why that is unknown
 
-	by   putter // nil once it is done, or too late
-	late timer
+	by *Withdraw // that it is for; nil where it tells of uses
 }
-
-// A putter waits for a Put.
-type putter interface{ landed(m *Machine, err error) }
 
 // Landed: the effect Send is done.
 type Landed struct{ *Put }
 
-// put sends a value with a number of its own, and lets by go on once it is stored, or when it is due at the latest.
-func (m *Machine) put(p *Put, due time.Duration, by putter) {
+// put sends a value with a number of its own.
+func (m *Machine) put(p *Put) {
 	m.tale.values++
 	p.Number = m.tale.values
-	m.timers.set(&p.late, due, p)
-	m.send(p, due-m.now.Up, by)
-}
-
-func (m *Machine) send(p *Put, within time.Duration, by putter) {
-	p.Within, p.by = within, by
 	m.do(Send{p})
 }
 
 func (l Landed) happen(m *Machine) {
-	m.timers.stop(&l.late)
-	l.end(m, l.Err)
-}
-
-func (p *Put) isLate(m *Machine) { p.end(m, context.DeadlineExceeded) }
-
-func (p *Put) end(m *Machine, err error) {
-	if by := p.by; by != nil {
-		p.by = nil
-		by.landed(m, err)
+	if l.by != nil {
+		l.by.landed(m, l.Put)
+	} else if l.Put == m.tale.told { // (else it was given up)
+		m.toldOf(l.Put)
 	}
 }
 
@@ -118,25 +101,22 @@ func (m *Machine) tellNext() {
 	if t.untold = t.untold[len(uses):]; len(t.untold) == 0 {
 		t.untold = nil
 	}
-	t.told = &Put{Kind: carriers.Uses, Uses: uses}
-	m.put(t.told, m.now.Up+tellWait, told{})
+	t.told = &Put{Kind: carriers.Uses, Uses: uses, Within: tellWait}
+	m.put(t.told)
 }
 
-// told is a value that tells of uses.
-type told struct{}
-
-func (told) landed(m *Machine, err error) {
+// toldOf ends a value that tells of uses.
+func (m *Machine) toldOf(p *Put) {
 	t := &m.tale
-	uses := len(t.told.Uses)
 	if t.told, t.due = nil, m.now.Up+tellPause; m.ending {
 		t.due = m.now.Up
 	}
-	if err == nil {
-		m.metrics.Told.Add(uint64(uses))
+	if p.Err == nil {
+		m.metrics.Told.Add(uint64(len(p.Uses)))
 		return
 	}
-	m.metrics.Untold.Add(uint64(uses))
-	m.Log.Error("tell", err, "uses", uses)
+	m.metrics.Untold.Add(uint64(len(p.Uses)))
+	m.Log.Error("tell", p.Err, "uses", len(p.Uses))
 }
 
 // isTelling says whether the group is still to be told something.
@@ -149,8 +129,6 @@ func (m *Machine) dropTale() {
 	t := &m.tale
 	if t.told != nil {
 		t.untold = append(t.told.Uses, t.untold...)
-		m.timers.stop(&t.told.late)
-		t.told.by = nil
 	}
 	m.metrics.Untold.Add(uint64(len(t.untold)))
 	t.told, t.untold, t.due = nil, nil, never

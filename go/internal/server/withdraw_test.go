@@ -186,3 +186,62 @@ func TestAWithdrawalThatWaitsEndsWithTheEngine(t *testing.T) {
 		}
 	})
 }
+
+// A withdrawal is answered in time, whatever does not answer; and what answers later changes nothing.
+func TestAWithdrawalIsAnsweredInTime(t *testing.T) {
+	o := inStrict(Options{Journal: &disk{}, Grouped: true})
+	b := benchOf(t, o)
+	b.step(Joined{}, CaughtUp{})
+	for silent, want := range map[string]string{
+		"disk":  "withdrawn here, but the withdrawal could not be kept: the disk did not answer in time: context deadline exceeded",
+		"store": "withdrawn here, but the store did not take it; try again: context deadline exceeded",
+		"group": "withdrawn here, but the group was not told; try again: context deadline exceeded",
+		"none":  "",
+	} {
+		b.others = nil
+		w := &Withdraw{Key: svid.TokenKey{1}, Expires: moment + 300}
+		b.step(w)
+		var late []Event
+		for _, effect := range b.others {
+			var ends Event
+			is := ""
+			switch effect := effect.(type) {
+			case Append:
+				is, ends = "disk", Kept{effect.Write}
+			case WithdrawAtStore:
+				is, ends = "store", Stored{effect.StoreWithdraw}
+			case Send:
+				effect.At = moment
+				is, ends = "group", Landed{effect.Put}
+			}
+			if is == silent {
+				late = append(late, ends)
+			} else if b.step(ends); w.answered && silent != "none" {
+				t.Errorf("%s: it is answered too early: %v", silent, w.Err)
+			}
+		}
+		if silent != "none" && (len(late) != 1 || b.machine.Due() != b.now.Up+time.Minute) {
+			t.Fatalf("%s: %d are silent, and it is due in %v", silent, len(late), b.machine.Due()-b.now.Up)
+		}
+		b.pass(time.Minute)
+		said := ""
+		if w.Err != nil {
+			said = w.Err.Error()
+		}
+		if !w.answered || said != want {
+			t.Errorf("%s: answered %v: %q", silent, w.answered, said)
+		}
+		if err := b.machine.Ready(b.now, false, false); err != nil {
+			t.Errorf("%s: ready: %v", silent, err)
+		}
+		for b.others = nil; len(late) > 0; late = late[1:] {
+			b.step(late[0])
+		}
+		if n := b.machine.Backlog(); n != 0 || b.count(Answer{}) != 0 {
+			t.Errorf("%s: %d things are under way, and %d answers come", silent, n, b.count(Answer{}))
+		}
+	}
+	if done, failed := b.machine.metrics.Withdrawals.Load(), b.machine.metrics.JournalFailures.Load(); done != 1 || failed != 1 {
+		t.Errorf("%d are done, and %d writes have failed", done, failed)
+	}
+}

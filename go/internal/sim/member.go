@@ -35,6 +35,7 @@ type member struct {
 	offset time.Duration // its clock is ahead by so much
 	drift  float64       // and by this part of the time
 	set    int           // its bundles
+	rules  int           // by which rules it is to accept tokens
 
 	slow        time.Duration // the disk does nothing before this time
 	faulty      int           // so many of the next calls of the disk that change something fail
@@ -67,6 +68,7 @@ type life struct {
 	ending     bool
 	diskFaults bool          // a call of its disk has failed
 	set        int           // of the bundles that its validator has
+	rules      int           // that it has
 	armed      time.Duration // when it ticks next
 
 	position string // of the last withdrawal that it has read in the store
@@ -132,11 +134,11 @@ func (m *member) start() {
 		return
 	}
 	m.lives++
-	l := &life{m: m, w: w, number: m.lives, born: w.now, set: m.set, armed: never, pumpAt: never,
+	l := &life{m: m, w: w, number: m.lives, born: w.now, set: m.set, rules: m.rules, armed: never, pumpAt: never,
 		asks: map[*server.Call]*ask{}, heard: map[svid.TokenKey]time.Duration{}}
 	m.life = l
 	w.tell("%v: starts", m)
-	o := server.Options{Mode: w.plan.mode, Audiences: []string{"ledger"}, Longest: longest, Ahead: ahead, Step: step, ValidatorID: m.id,
+	o := server.Options{Mode: w.plan.mode, Audiences: rules[l.rules].Audiences, Allow: rules[l.rules].Allow, Longest: longest, Ahead: ahead, Step: step, ValidatorID: m.id,
 		Grouped: w.plan.mode == server.Once && len(w.members) > 1, Stored: w.plan.mode != server.Once, Terms: terms, Wait: wait}
 	binary.BigEndian.PutUint64(o.Life[:], uint64(m.number)<<32|m.lives)
 	var err error
@@ -153,8 +155,11 @@ func (m *member) start() {
 		}
 		o.Journal = l.journal
 	}
-	l.machine = server.NewMachine(o, l.validator, l.time())
-	l.step(server.Renewed{Domains: 1})
+	if l.machine, err = server.NewMachine(o, l.validator, l.time()); err != nil {
+		w.fail("a member does not open: %v", err)
+		return
+	}
+	l.step(server.Bundled(true))
 	if !l.load() {
 		return
 	}
@@ -315,9 +320,10 @@ func (l *life) do(effect server.Effect) {
 	case server.Verify:
 		w.after(m.delay(kindVerify), func() {
 			if !l.dead {
-				a := l.asks[&effect.Call]
-				a.set, a.wall = l.set, m.wall()
-				effect.Key, effect.Fault = w.pool.verify(l.set, a.token)
+				if a := l.asks[&effect.Call]; a != nil { // (else it has its answer)
+					a.set, a.rules, a.wall = l.set, l.rules, m.wall()
+					effect.Key, effect.Fault = w.pool.verify(l.set, a.token)
+				}
 				l.step(server.Verified(effect))
 			}
 		})
@@ -392,12 +398,30 @@ func (l *life) renew(set int) {
 	if l.dead {
 		return
 	}
-	l.machine.Step(l.time(), server.Renewing{})
-	err := l.validator.SetBundles(l.w.pool.bundles[set])
-	if err == nil {
-		l.set = set
+	if err := l.validator.SetBundles(l.w.pool.bundles[set]); err != nil {
+		l.w.fail("%v: bundles are not taken: %v", l.m, err)
+		return
 	}
-	l.step(server.Renewed{Domains: 1, Err: err})
+	l.set = set
+	l.step(server.Bundled(true))
+}
+
+// rules are those that a member may have. By the first two all tokens of the pool may be accepted, and by the others none.
+var rules = [...]server.Rules{
+	{Audiences: []string{"ledger"}}, {Audiences: []string{"audit", "ledger"}, Allow: []string{"spiffe://example.org/job", "spiffe://example.org/web"}},
+	{Audiences: []string{"ledger"}, Allow: []string{"spiffe://example.org/web/*"}}, {Audiences: []string{"audit"}},
+}
+
+// rule gives the machine other rules.
+func (l *life) rule(number int) {
+	if l.dead {
+		return
+	}
+	ruling := &server.Ruling{Rules: &rules[number]}
+	l.rules = number // (from here on, also for what the same step answers)
+	if l.step(ruling); ruling.Err != nil {
+		l.w.fail("%v: rules are not taken: %v", l.m, ruling.Err)
+	}
 }
 
 // join joins the group, once its log is there.

@@ -56,7 +56,7 @@ var deeds = []struct {
 	kind  string
 	often int
 }{
-	{"kill", 3}, {"kill within", 4}, {"lose power", 4}, {"end", 2}, {"set the clock", 3}, {"jump", 2}, {"renew", 5}, {"withdraw", 5}, {"server away", 3}, {"cut off", 3},
+	{"kill", 3}, {"kill within", 4}, {"lose power", 4}, {"end", 2}, {"set the clock", 3}, {"jump", 2}, {"renew", 5}, {"rules", 3}, {"withdraw", 5}, {"server away", 3}, {"cut off", 3},
 	{"lag", 2}, {"lose answers", 6}, {"store again", 3}, {"remove", 1}, {"put back", 1}, {"garbage", 2}, {"claim", 2}, {"fail disk", 4},
 	{"slow disk", 4}, {"snapshot", 3}, {"lose entries", 2}, {"set the store's clock", 3},
 }
@@ -199,6 +199,13 @@ func (w *world) do(d deed) {
 		if l != nil {
 			l.renew(m.set)
 		}
+	case "rules":
+		if m.rules = d.number % len(rules); d.number%7 < 5 {
+			m.rules = d.number % 2
+		}
+		if l != nil {
+			l.rule(m.rules)
+		}
 	case "withdraw":
 		m.withdraw(w.issued(d.number))
 	case "server away":
@@ -264,8 +271,9 @@ func (w *world) heal() {
 	w.log.use(last, nil) // Who has missed the value before it hears so now.
 	for _, m := range w.members {
 		m.offset, m.drift, m.slow, m.faulty, m.powerAt, m.effects, m.apart, m.answersLost, m.lag = 0, 0, 0, 0, 0, 0, 0, 0, 0
-		m.set = 0
+		m.set, m.rules = 0, 0
 		if l := m.life; l != nil {
+			l.rule(0)
 			if l.renew(0); l.diskFaults { // as someone does who has mended the disk
 				l.die(0)
 			}
@@ -291,7 +299,7 @@ func (w *world) heal() {
 			w.fail("%v: is not up, though no fault is left", m)
 			return
 		}
-		if err := m.life.machine.Ready(m.life.time()); err != nil {
+		if err := m.life.machine.Ready(m.life.time(), false, false); err != nil {
 			w.fail("%v: is not ready, though no fault is left: %v", m, err)
 			return
 		}

@@ -6,6 +6,7 @@ import (
 	"strings"
 	"time"
 
+	"svid.example/go/v2/claims"
 	"svid.example/go/v2/internal/server"
 	"svid.example/go/v2/svid"
 )
@@ -41,6 +42,7 @@ type ask struct {
 	withdraw  *server.Withdraw
 	at        time.Duration
 	set       int    // of the bundles by which it was verified
+	rules     int    // that counted then
 	wall      uint64 // what the clock showed then
 	withdrawn bool   // it was withdrawn there before
 	done      bool
@@ -134,7 +136,8 @@ func (a *ask) answered(err error) {
 			if m.disk != nil && !m.kept[a.withdraw.Use] {
 				w.fail("%v: a withdrawal is done that is not on the disk", m)
 			}
-			if w.plan.mode == server.Strict {
+			// (Where the store has a claim of it, the answer says whose: its one acceptance is that life's, now or before.)
+			if w.plan.mode == server.Strict && a.withdraw.UsedBy == claims.Withdrawn {
 				w.store.gone[a.token.key] = true
 			}
 			// (Without a disk, a member has it for as long as it lives, or the group has it.)
@@ -161,6 +164,8 @@ func word(err error) string {
 		return refusal.String()
 	case errors.Is(err, server.ErrNotReady):
 		return "not ready"
+	case errors.Is(err, server.ErrNotAllowed):
+		return "not allowed"
 	case errors.Is(err, server.ErrLost):
 		return "lost"
 	case errors.Is(err, svid.ErrJump):
@@ -177,8 +182,12 @@ func (a *ask) accepted() {
 		w.fail("%v: another token was accepted: %+v", m, got)
 	}
 	set := a.set
-	if w.plan.mode == server.Strict || a.wall == 0 { // (judged again as its claim was read, or by an answer that was kept)
-		set = l.set
+	by := a.rules
+	if w.plan.mode == server.Strict { // (judged again as its claim was answered)
+		set, by = l.set, l.rules
+	}
+	if by > 1 {
+		w.fail("%v: %s is accepted by rules that do not allow it", m, one)
 	}
 	if set != one.issuer {
 		w.fail("%v: %s is accepted by the keys of another issuer", m, one)

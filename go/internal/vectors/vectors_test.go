@@ -13,6 +13,7 @@ import (
 	"path/filepath"
 	"strings"
 	"testing"
+	"time"
 
 	"svid.example/go/v2/bundles"
 	"svid.example/go/v2/internal/server"
@@ -299,7 +300,8 @@ func TestHeaders(t *testing.T) {
 	}
 	for _, it := range all {
 		e, err := server.NewEngine(server.Options{
-			Mode: server.Once, Audiences: []string{"ledger"}, Longest: svid.NoLimit, Now: func() uint64 { return file.Setting.Now },
+			Mode: server.Once, Audiences: []string{"ledger"}, Longest: svid.NoLimit, Wait: time.Minute,
+			Now: func() uint64 { return file.Setting.Now },
 		})
 		if err != nil {
 			t.Fatal(err)

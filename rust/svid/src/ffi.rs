@@ -95,6 +95,24 @@ pub const PATTERN_DOMAIN_LONG: u32 = 96;
 pub const PATTERN_SEGMENT_EMPTY: u32 = 97;
 pub const PATTERN_SEGMENT_DOTS: u32 = 98;
 pub const PATTERN_PATH_BYTE: u32 = 99;
+pub const NO_MEMBER: u32 = 20;
+pub const UNASKED: u32 = 29;
+pub const NO_MODE: u32 = 30;
+pub const LATE: u32 = 201;
+pub const NOT_KEPT: u32 = 202;
+pub const LEFT: u32 = 203;
+pub const ENDED: u32 = 211;
+pub const NO_BUNDLE: u32 = 212;
+pub const LOADING: u32 = 213;
+pub const STORE_UNREACHED: u32 = 214;
+pub const WITHDRAWALS_UNREAD: u32 = 215;
+pub const BROKER_UNREACHED: u32 = 216;
+pub const GROUP_UNREAD: u32 = 217;
+pub const DRAINING: u32 = 218;
+pub const JUMPED: u32 = 219;
+pub const KEEPS_NOTHING: u32 = 220;
+pub const STORE_AWAY: u32 = 221;
+pub const DEAF: u32 = 222;
 pub const TOO_LONG: u32 = 101;
 pub const NOT_THREE_PARTS: u32 = 102;
 pub const HEADER_SPELLING: u32 = 103;
@@ -356,6 +374,77 @@ pub struct Bears {
 pub struct Handle {
     word: u64,
     held: *mut c_void,
+}
+
+#[repr(C)]
+#[derive(Default, Debug, Clone, Copy, PartialEq, Eq)]
+pub struct MemberTerms {
+    pub mode: u64,
+    pub disk: u64,
+    pub store: u64,
+    pub log: u64,
+    pub wait: u64,
+    pub ahead: u64,
+    pub lasts: u64,
+    pub life: [u8; 16],
+}
+
+#[repr(C)]
+#[derive(Default, Debug, Clone, Copy, PartialEq, Eq)]
+pub struct Known {
+    pub bundled: u64,
+    pub loaded: u64,
+    pub opened: u64,
+    pub heard: u64,
+    pub joined: u64,
+    pub caught_up: u64,
+    pub draining: u64,
+    pub jumped: u64,
+    pub full: u64,
+    pub away: u64,
+    pub deaf: u64,
+    pub ended: u64,
+}
+
+#[repr(C)]
+#[derive(Default, Debug, Clone, Copy, PartialEq, Eq)]
+pub struct Deed {
+    pub what: u64,
+    pub number: u64,
+    pub status: u64,
+    pub next: u64,
+    pub used: Use,
+}
+
+#[repr(C)]
+#[derive(Default, Debug, Clone, Copy, PartialEq, Eq)]
+pub struct Found {
+    pub time: u64,
+    pub deaf: u64,
+    pub owner: [u8; 32],
+}
+
+#[repr(C)]
+#[derive(Default, Debug, Clone, Copy, PartialEq, Eq)]
+pub struct Deadline {
+    pub at: u64,
+}
+
+#[repr(C)]
+#[derive(Default, Debug, Clone, Copy, PartialEq, Eq)]
+pub struct Withdrawal {
+    pub number: u64,
+    pub disk: u64,
+    pub store: u64,
+    pub log: u64,
+}
+
+#[repr(C)]
+#[derive(Default, Debug, Clone, Copy, PartialEq, Eq)]
+pub struct Pacing {
+    pub calls: u64,
+    pub at: u64,
+    pub pause: u64,
 }
 
 impl Handle {

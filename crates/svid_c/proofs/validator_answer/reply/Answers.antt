@@ -15,7 +15,7 @@ returns-in-Ok-texts_of c = record {
   does = replied c.in-Ok.asked c.bytes.result.now c.in-Ok.ensures.ok c.in-Ok-answer.ensures.replied.0
       (c.bytes.ensures ∙ c.in-Ok-texts_of.ensures ∙ ap (flat_map batch_text) (c.deref.ensures.value ∙ c.in-Ok-answer.ensures.replied.1))
       c.put.ensures.put c.put.ensures.told (c.in-Ok-answer.ensures.rest ∙ ap (with_state c.args.live.now.validator) c.in-Ok-answer.ensures.replied.2);
-  rest = (refl, refl);
+  rest = (refl, refl, refl);
 }
 
 pub returns-in-Ok-answer-clause-does : goal.returns-in-Ok-answer-clause-does

@@ -3,4 +3,4 @@ use Rattle.svid_c.specs.Live.{does}
 use Rattle.svid_c.proofs.validator_digest.svid_validator_digest.Goals as goal
 
 pub returns : goal.returns
-returns c = does _ _ (sym c.in-Some.ensures.value ∙ ap Some (sym c.deref.ensures)) (c.put.ensures ∙ ap Some (sym c.deref.ensures)) ((refl, refl), c.tell_digest-status.ensures)
+returns c = does _ _ (sym c.in-Some.ensures.value ∙ ap Some (sym c.deref.ensures)) (c.put.ensures ∙ ap Some (sym c.deref.ensures)) ((refl, refl, refl), c.tell_digest-status.ensures)

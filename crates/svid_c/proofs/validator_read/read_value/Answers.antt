@@ -39,4 +39,4 @@ returns c =
     has c.value_number-2.ensures c.told_value-2.ensures c.reading_seen.ensures
     (put_part uses c.deref-2.result.now c.part.result.now read.new.fates read.new.fates c.args.out.now c.put_fates.new.out read.result.from read.result.count
     c.deref-2.ensures.value refl c.part.ensures has.few c.put_fates.ensures)
-    (ap (λ (v : Kept). record { validator = v; step = old.step; member = Some read.new.member }) read.ensures.rest)
+    (ap (λ (v : Kept). record { validator = v; step = old.step; member = Some read.new.member; peer = old.peer }) read.ensures.rest)

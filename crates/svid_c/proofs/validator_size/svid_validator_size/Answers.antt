@@ -3,4 +3,4 @@ use Rattle.svid_c.specs.Live.{does}
 use Rattle.svid_c.proofs.validator_size.svid_validator_size.Goals as goal
 
 pub returns : goal.returns
-returns c = does _ _ (sym c.in-Some.ensures.value ∙ ap Some (sym c.deref.ensures)) (c.put.ensures ∙ ap Some (sym c.deref.ensures)) ((refl, refl), c.size-status.ensures)
+returns c = does _ _ (sym c.in-Some.ensures.value ∙ ap Some (sym c.deref.ensures)) (c.put.ensures ∙ ap Some (sym c.deref.ensures)) ((refl, refl, refl), c.size-status.ensures)

@@ -3,4 +3,4 @@ use Rattle.svid_c.specs.Live.{does}
 use Rattle.svid_c.proofs.validator_tell.svid_validator_tell.Goals as goal
 
 pub returns : goal.returns
-returns c = does _ _ (sym c.in-Some.ensures.value ∙ ap Some (sym c.deref.ensures)) (c.put.ensures ∙ ap Some (sym c.deref.ensures)) ((refl, refl), c.tell-status.ensures)
+returns c = does _ _ (sym c.in-Some.ensures.value ∙ ap Some (sym c.deref.ensures)) (c.put.ensures ∙ ap Some (sym c.deref.ensures)) ((refl, refl, refl), c.tell-status.ensures)

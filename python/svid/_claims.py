@@ -1,0 +1,205 @@
+"""Claims on their way to the store of a group. Threads of their own put them, many in a call."""
+
+from __future__ import annotations
+
+import contextlib
+import logging
+import os
+import struct
+import threading
+import time
+import weakref
+from collections.abc import Callable
+from typing import NamedTuple, Protocol
+
+from . import _library as lib
+from .stores import Claim, Found, Store
+
+_LOG = logging.getLogger("svid")
+_FOUND = struct.Struct("=QQ32s")
+_MOST = 256
+"""How many claims share a call."""
+_LONGEST = 60.0
+"""For how many seconds a thread waits at once."""
+
+
+class Due(NamedTuple):
+    """A claim that is due."""
+
+    number: int
+    """The number of the request that it is for."""
+    key: bytes
+    expires: int
+    validator_id: bytes
+
+
+class Claimant(Protocol):
+    """Who the claims are for."""
+
+    def send(self, due: Due) -> Claim | None:
+        """The claim as it goes out now. None if it is not to go out any more."""
+
+    def found(self, number: int, found: bytes) -> None:
+        """The store has answered the claim of this request."""
+
+    def reached(self) -> None:
+        """The store has answered for the first time."""
+
+
+def up() -> int:
+    """The moment of the clock that only goes ahead, in milliseconds."""
+    return int(time.monotonic() * 1000)
+
+
+class Claims:
+    """The claims of a validator. The library says when a call to the store goes out."""
+
+    def __init__(self, store: Store, claimant: Claimant) -> None:
+        self._store = store
+        self._claimant = weakref.ref(claimant)  # (its threads must not keep a validator)
+        self._process = os.getpid()
+        self._gate = threading.Condition()  # guards what follows
+        self._waiting: list[Due] = []
+        self._later: list[tuple[int, list[Due]]] = []  # without an answer: when they are put again
+        self._pacing = lib.Pacing(*lib.PACING_FIRST)
+        self._pacing_at = lib.address(self._pacing)
+        self._idle = 0  # threads that wait for claims
+        self._asks = True  # whether the store is to say that it is there
+        self._silent: float | None = None  # since when the store does not answer
+        self._closing = False
+        self.deaf = 0
+        self.is_there = False  # the store has answered once
+        self._announced = threading.Event()  # the claimant knows that too
+
+    def begin(self, wait: float) -> None:
+        """Begins to put claims, and waits until the store answers, but no longer than `wait`."""
+        self._grow()
+        self._announced.wait(wait)
+
+    def add(self, due: Due) -> None:
+        """Puts a claim, and again until the store answers or the claim is not to go out."""
+        with self._gate:
+            self._waiting.append(due)
+            self._gate.notify()
+
+    def withdraw(self, key: bytes, expires: int, told: Callable[[Exception | None], None]) -> None:
+        """Withdraws a token in the background, and tells why that failed, or None."""
+
+        def work() -> None:
+            try:
+                self._store.withdraw(key, expires)
+            except Exception as why:
+                told(why)
+            else:
+                told(None)
+
+        threading.Thread(target=work, name="svid-withdraw", daemon=True).start()
+
+    def look(self, wait: float) -> bool:
+        """Whether the store has not answered for longer than `wait`. If so it is asked again."""
+        with self._gate:
+            if self._silent is None:
+                return False
+            self._asks = True
+            self._gate.notify()
+            return time.monotonic() - self._silent > wait
+
+    def close(self) -> None:
+        """Lets the threads end. Waits for nothing, since the store may not answer."""
+        if self._process == os.getpid():
+            with self._gate:
+                self._closing = True
+                self._gate.notify_all()
+
+    def _grow(self) -> None:
+        threading.Thread(target=self._work, name="svid-claims", daemon=True).start()
+
+    def _work(self) -> None:
+        """Puts claims until it is closed. One thread more than calls are under way does so."""
+        while (these := self._next()) is not None:
+            try:
+                found = [_packed(it) for it in self._store.put([claim for _, claim in these])]
+                if len(found) != len(these):
+                    raise ValueError(f"{len(these)} claims have {len(found)} answers")
+            except Exception as why:
+                self._failed([due for due, _ in these], why)
+            else:
+                self._answered([due.number for due, _ in these], found)
+
+    def _next(self) -> list[tuple[Due, Claim]] | None:
+        """The claims of the next call, once it is to go out. None at the end."""
+        with self._gate:
+            self._idle += 1
+            try:
+                while not self._closing:
+                    if (these := self._taken()) is not None:
+                        return these
+                    self._gate.wait(self._pause())
+                return None
+            finally:
+                self._idle -= 1
+
+    def _taken(self) -> list[tuple[Due, Claim]] | None:
+        """The claims that go out now. None if no call is to go out."""
+        moment = up()
+        for when, these in self._later:
+            if when <= moment:
+                self._waiting += these
+                self._asks = self._asks or not self.is_there
+        self._later = [it for it in self._later if it[0] > moment]
+        waiting = len(self._waiting) + self._asks
+        if not lib.quick.svid_pacing_may_send(self._pacing_at, moment, waiting):
+            return None
+        these, self._waiting = self._waiting[:_MOST], self._waiting[_MOST:]
+        claimant = self._claimant()
+        claims = [(it, claim) for it in these if claimant and (claim := claimant.send(it))]
+        if not claims and not self._asks:
+            return None
+        self._asks = False
+        lib.quick.svid_pacing_sent(self._pacing_at, moment)
+        if self._silent is None:
+            self._silent = time.monotonic()
+        if self._idle == 1:
+            with contextlib.suppress(RuntimeError):  # (the process may have no other thread)
+                self._grow()
+        return claims
+
+    def _pause(self) -> float | None:
+        """For how many seconds nothing is to be done."""
+        moments = [when for when, _ in self._later]
+        if self._waiting or self._asks:
+            moments.append(lib.quick.svid_pacing_due(self._pacing_at))
+        return min(_LONGEST, max(0, min(moments) - up()) / 1000) if moments else None
+
+    def _answered(self, numbers: list[int], found: list[tuple[bytes, int]]) -> None:
+        """The store has answered a call."""
+        with self._gate:
+            lib.quick.svid_pacing_answered(self._pacing_at)
+            self._silent = None
+            self.deaf = max([self.deaf, *(deaf for _, deaf in found)])
+            self.is_there = True
+        claimant = self._claimant()
+        if claimant is None:
+            return
+        with contextlib.suppress(Exception):  # (it may be closed)
+            if not self._announced.is_set():
+                claimant.reached()
+                self._announced.set()
+            for number, (answer, _) in zip(numbers, found):
+                claimant.found(number, answer)
+
+    def _failed(self, these: list[Due], why: Exception) -> None:
+        """A call has ended without an answer: its claims are put again."""
+        with self._gate:
+            pause = lib.quick.svid_pacing_unanswered(self._pacing_at)
+            self._later.append((up() + pause, these))
+        if pause == lib.PACING_FIRST[2]:  # (it had answered before)
+            with contextlib.suppress(Exception):  # (who is warned must not end the claims)
+                _LOG.warning("the group's store does not answer: %s", why)
+
+
+def _packed(found: Found) -> tuple[bytes, int]:
+    """A store's answer as the library takes it, and its `deaf`."""
+    if len(found.owner) != 32:
+        raise ValueError("an owner has 32 bytes")
+    return _FOUND.pack(found.time, found.deaf, found.owner), found.deaf

@@ -1,0 +1,75 @@
+"""A token that the C library has read, and the key that made its signature."""
+
+from __future__ import annotations
+
+import ctypes
+import struct
+from typing import Any
+
+from . import _library as lib
+from ._signatures import Verifies
+
+_LEN = struct.Struct(">I")
+_NONE = lib.size(0)
+_LONG = 8192  # a token of so many bytes may take some milliseconds to read: other threads go on
+
+Evidence = tuple[Any, ...]
+"""Which key made which signature over which bytes, as the calls of the library take it."""
+NO_KEY: Evidence = (None, _NONE, None, _NONE, None, _NONE)
+
+
+class _Read(ctypes.Structure):
+    """A `svid_token`, and what the call tells that opens it."""
+
+    _fields_ = [("token", ctypes.c_uint64 * 2), ("told", lib.Told)]
+    told: lib.Told
+
+
+class Token:
+    """A token that is read once, for all calls about it. Only one thread may use it at a time."""
+
+    def __init__(self, text: bytes) -> None:
+        """Reads it. `status` says whether it is a token. Close it in the end."""
+        self.text = text
+        self.evidence = NO_KEY
+        self.bundles: object = None  # those whose keys were asked about
+        self._read = _Read()
+        self.told = self._read.told
+        self.at = ctypes.byref(self._read)
+        library = lib.library if len(text) >= _LONG else lib.quick
+        told = ctypes.byref(self._read, _Read.told.offset)
+        self.status: int = library.svid_token_open(self.at, text, lib.size(len(text)), told)
+
+    def close(self) -> None:
+        """Frees what it holds. Closing twice does nothing."""
+        lib.quick.svid_token_close(self.at)
+
+    def look(self, rows: bytes, verifies: Verifies) -> None:
+        """Looks for the key that made the signature, by what `svid_validator_ask_token` wrote."""
+        self.evidence = _evidence(rows, self.text, verifies) if rows else NO_KEY
+
+
+def _evidence(rows: bytes, text: bytes, verifies: Verifies) -> Evidence:
+    (length,) = _LEN.unpack_from(rows)
+    signed, (signature, at) = text[:length], _field(rows, _LEN.size)
+    while at < len(rows):
+        alg, at = _field(rows, at)
+        key, at = _field(rows, at)
+        if _is_yes(verifies(alg.decode(), key, signed, signature)):
+            key_size, size = lib.size(len(key)), lib.size(len(signature))
+            return key, key_size, signed, lib.size(length), signature, size
+    return NO_KEY
+
+
+def _field(rows: bytes, at: int) -> tuple[bytes, int]:
+    """The field that begins here, which has its length in front of it, and where it ends."""
+    (length,) = _LEN.unpack_from(rows, at)
+    end = at + _LEN.size + length
+    return rows[end - length : end], end
+
+
+def _is_yes(answer: object) -> bool:
+    """Whether a verifier says yes. (The coroutine of an async one is true of any signature.)"""
+    if not isinstance(answer, bool):
+        raise TypeError(f"verifies returns True or False, and not a {type(answer).__name__}")
+    return answer

@@ -1,0 +1,115 @@
+"""The store of a group: it keeps one claim for each token, the first one that is put."""
+
+from __future__ import annotations
+
+import threading
+import time
+from collections.abc import Callable, Sequence
+from typing import NamedTuple, Protocol
+
+from . import _library as lib
+
+WITHDRAWN = bytes(32)
+"""The owner that a key has whose token was withdrawn."""
+
+
+class Claim(NamedTuple):
+    """What is put under a key that has no owner yet."""
+
+    key: bytes
+    """32 bytes by which all uses of the token are known."""
+    owner: bytes
+    """32 bytes that say whose claim it is."""
+    expires: int
+    """When the token expires, in seconds since 1970."""
+
+
+class Found(NamedTuple):
+    """What a store answers to a claim."""
+
+    owner: bytes
+    """32 bytes: the owner that the key has after the put. It may be that of an earlier claim."""
+    time: int
+    """The store's time in seconds since 1970, read at the put or after it."""
+    deaf: int = 0
+    """Tokens that expire by then may have been claimed before the store lost entries: no validator
+    accepts them. 0 if the store never lost one."""
+
+
+class Store(Protocol):
+    """The store of a group, which validators in the modes "strict" and "bound" share.
+
+    It keeps the first claim of each token key:
+
+    - Two puts of one key never overlap, whoever makes them.
+    - An entry stays until its token has expired by the store's own clock, and for a margin after
+      that: at least the validators' `ahead`, and what the clock of the store may step back.
+    - Before it answers again after it may have lost entries, it raises `Found.deaf`: to its time at
+      the loss plus the validators' `longest` plus twice their `ahead`.
+
+    Several threads call it at once. A call that fails raises any Exception: then nobody knows what
+    the store has, and the validator puts the same claims again. A call ends within some seconds,
+    even if the server does not answer.
+    """
+
+    def put(self, claims: Sequence[Claim]) -> Sequence[Found]:
+        """Puts each claim if its key has no owner yet, and says what each key has afterwards.
+
+        Without claims it answers none: so a validator learns that the store is there.
+        """
+
+    def withdraw(self, key: bytes, expires: int) -> None:
+        """From now on each put of this key finds the owner WITHDRAWN, whoever claimed it before.
+
+        The entry stays as one with this expiry does.
+        """
+
+
+class MemoryStore:
+    """A store in the memory of one process, for tests."""
+
+    def __init__(
+        self, *, now: Callable[[], float] = time.time, margin: int = 60, lasts: int = 3600
+    ) -> None:
+        """Makes an empty store.
+
+        now: its clock, in seconds since 1970.
+        margin: for how many seconds an entry stays after its token has expired.
+        lasts: how many seconds a token may live that is claimed.
+        """
+        self._now = now
+        self._margin = margin
+        self._lasts = lasts
+        self._lock = threading.Lock()
+        self._entries: dict[bytes, tuple[bytes, int]] = {}
+        self._deaf = 0
+
+    def put(self, claims: Sequence[Claim]) -> list[Found]:
+        """Is that of `Store`."""
+        with self._lock:
+            now = int(self._now())
+            return [Found(self._put(it, now), now, self._deaf) for it in claims]
+
+    def withdraw(self, key: bytes, expires: int) -> None:
+        """Is that of `Store`."""
+        with self._lock:
+            _, earlier = self._entries.get(key, (WITHDRAWN, 0))
+            self._entries[key] = WITHDRAWN, max(earlier, self._until(expires))
+
+    def lose(self) -> None:
+        """Loses all entries, as a server does that crashes."""
+        with self._lock:
+            self._entries.clear()
+            time = int(self._now())
+            self._deaf = lib.quick.svid_claim_deaf(time, self._lasts, self._deaf)
+
+    def _put(self, claim: Claim, now: int) -> bytes:
+        owner, until = self._entries.get(claim.key, (b"", 0))
+        if until <= now:
+            owner = claim.owner
+            self._entries[claim.key] = owner, self._until(claim.expires)
+        return owner
+
+    def _until(self, expires: int) -> int:
+        until: int = lib.quick.svid_claim_until(expires, self._margin)
+        return until
