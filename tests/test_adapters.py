@@ -14,6 +14,7 @@ OTHERS = re.compile(
     r"|cmd/svidd/(outside|member)\.py$"
 )
 COMMENT = re.compile(r"^\s*(//|/\*|\*|#|\"\"\")")
+BEHIND = re.compile(r"\s(//|#) .*")  # a comment behind code
 
 # What tools/lists writes from the one list, in each language.
 LISTED = re.compile(r"lists:begin .*?lists:end", re.S)
@@ -51,20 +52,95 @@ RULES = {
 }
 
 
+# What answers requests by a member of the library, and what hands requests to it. Stores are none of these: they keep what they are told.
+SHELLS = re.compile(r"^(go/(internal/server|guard|svidhttp|cmd/svidd|svid)|python/svid|node/src|rust/svid/src|java/src/main)/")
+
+# What a shell must not decide, since the member does, and lines that it must not have.
+DECIDED = {
+    # whether a token is over, by whichever clock
+    "expiry": (
+        r"\b([eE]xpires|[eE]xpiry|exp)\b(\(\))? *([-+] *[\w.()]+ *)?[<>]=?(?!>)|[^-=<>][<>]=? *[\w.]*\b([eE]xpires|[eE]xpiry|exp)\b",
+        {},
+        (
+            "if use.Expires <= now {",
+            "if now >= use.expires:",
+            "if (token.exp < now) {",
+            "return expires + ahead > time;",
+            "if at < said.expiry() {",
+        ),
+    ),
+    # whose a claim is
+    "owners": (
+        r"[oO]wner(\(\))? *([!=]==?|is not |is )|[!=]==? *[\w.]*[oO]wner\b|[!=]==? *claims\.Withdrawn|claims\.Withdrawn *[!=]==?"
+        r"|(equal|Equal|equals|compare)\([^()]*[oO]wner",
+        {"go/internal/server/claims.go": "how many claims were lost to another life or member is counted, and told to the operator"},
+        (
+            "if found.Owner == claim.Owner {",
+            "return claims.Withdrawn != o",
+            "if owner is None or mine == owner:",
+            "if (Arrays.equals(it.owner(), own)) {",
+        ),
+    ),
+    # which reason comes first why a member is to get no tokens
+    "readiness": (
+        r"[rR]eady *(&&|\|\||and |or )|(&&|\|\||\band|\bor) *!?(not )?[\w.]*\b(is)?[rR]eady\b|\b[rR]eady *= *(true|True)",
+        {},
+        ("return loaded && ready", "self.ready = True", "if opened and not self.ready:", "m.ready = true"),
+    ),
+    # when a request is too late
+    "deadlines": (
+        r"[dD]eadline(\(\))? *[<>]|[^-=][<>]=? *[\w.]*[dD]eadline\b|([aA]fter|[bB]efore|is[BA]\w+)\([\w.]*[dD]eadline",
+        {},
+        ("if now.After(r.deadline) {", "if time.monotonic() > self.deadline:", "if (deadline <= at) {", "if (at.isAfter(deadline)) {"),
+    ),
+    # how often something is tried again
+    "retries": (
+        r"\b([mM]ost|MOST_|max|MAX_)([tT]ries|TRIES|[aA]ttempts|ATTEMPTS|[rR]etries|RETRIES)\b"
+        r"|\b(tries|attempts?|retries|tried) *([<>]|\+\+|\+=)",
+        {"go/internal/server/engine.go": "how often a token is verified again because the bundles were replaced meanwhile"},
+        (
+            "for tries := 0; tries < 3; tries++ {",
+            "while attempts < 5:",
+            "for (let attempt = 0; attempt < MOST_TRIES; attempt++) {",
+            "retries += 1;",
+        ),
+    ),
+}
+
+
 def sources():
     listed = subprocess.run(["git", "ls-files", *ADAPTERS], cwd=TOP, capture_output=True, text=True, check=True).stdout.split()
     return [it for it in listed if it.endswith((".go", ".py", ".js", ".rs", ".java")) and not OTHERS.search(it)]
 
 
+def named(pattern, paths):
+    """The lines that a pattern finds, but for comments and lists, of each file that has one."""
+    found = {}
+    for path in paths:
+        text = LISTED.sub("", (TOP / path).read_text())
+        lines = [it for it in text.splitlines() if not COMMENT.match(it) and re.search(pattern, BEHIND.sub("", it))]
+        if lines:
+            found[path] = lines
+    return found
+
+
+def only(found, left):
+    assert {path: lines for path, lines in found.items() if path not in left} == {}
+    assert sorted(set(left) - set(found)) == [], "these have lost the rule: take them out of the list"
+
+
 @pytest.mark.parametrize("rule", RULES)
 def test_no_adapter_names_what_the_core_knows(rule):
     pattern, left = RULES[rule]
-    named = {}
-    for path in sources():
-        text = LISTED.sub("", (TOP / path).read_text())
-        lines = [it for it in text.splitlines() if re.search(pattern, it) and not COMMENT.match(it)]
-        if lines:
-            named[path] = lines
-    assert all(any(path.startswith(f"{folder}/") for path in sources()) for folder in ADAPTERS) and len(sources()) > 100
-    assert {path: lines for path, lines in named.items() if path not in left} == {}
-    assert sorted(set(left) - set(named)) == [], "these have lost the rule: take them out of the list"
+    paths = sources()
+    assert all(any(path.startswith(f"{folder}/") for path in paths) for folder in ADAPTERS) and len(paths) > 100
+    only(named(pattern, paths), left)
+
+
+@pytest.mark.parametrize("rule", DECIDED)
+def test_no_shell_decides_what_the_member_decides(rule):
+    pattern, left, planted = DECIDED[rule]
+    paths = [it for it in sources() if SHELLS.search(it)]
+    assert len({SHELLS.search(it).group() for it in paths}) == 9
+    only(named(pattern, paths), left)
+    assert [it for it in planted if not re.search(pattern, it)] == [], "a line that was planted is not found"

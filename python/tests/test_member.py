@@ -368,10 +368,10 @@ def test_a_claim_of_who_does_not_know_yet_that_it_is_late():
     with strict(store, wait=0.3) as checks:
         claims = checks._handle._claims
         claims._pacing.calls = 64
-        checks._handle._until_due = lambda: PATIENCE
+        until_due, checks._handle._until_due = checks._handle._until_due, lambda: PATIENCE
         call = Soon(checks.check, fresh())
         until(lambda: claims._waiting)
-        time.sleep(0.4)
+        until(lambda: until_due() == 0)
         claims._pacing.calls = 0
         with claims._gate:
             claims._gate.notify()

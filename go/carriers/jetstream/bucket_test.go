@@ -11,6 +11,7 @@ import (
 	"github.com/nats-io/nats.go"
 
 	"svid.example/go/v2/internal/natstest"
+	"svid.example/go/v2/internal/patience"
 )
 
 // oldBucket is the bucket as members made it once: a key-value bucket, whose values whoever may publish to it can remove.
@@ -87,7 +88,7 @@ func TestJoinRefusesABucketThatForgets(t *testing.T) {
 	} {
 		c := due(name)
 		row.change(c)
-		if err := a.ask(patient(t), attemptWait, "STREAM.CREATE.KV_"+name, c, new(struct{})); err != nil {
+		if err := a.ask(patient(t), patience.Long, "STREAM.CREATE.KV_"+name, c, new(struct{})); err != nil {
 			t.Fatal(name, err)
 		}
 		o := options(1, s.URL)
@@ -97,11 +98,11 @@ func TestJoinRefusesABucketThatForgets(t *testing.T) {
 		wantJoin(t, o, row.want...)
 	}
 	sealed := due("sealed")
-	if err := a.ask(patient(t), attemptWait, "STREAM.CREATE.KV_sealed", sealed, new(struct{})); err != nil {
+	if err := a.ask(patient(t), patience.Long, "STREAM.CREATE.KV_sealed", sealed, new(struct{})); err != nil {
 		t.Fatal(err)
 	}
 	sealed["sealed"] = true
-	if err := a.ask(patient(t), attemptWait, "STREAM.UPDATE.KV_sealed", sealed, new(struct{})); err != nil {
+	if err := a.ask(patient(t), patience.Long, "STREAM.UPDATE.KV_sealed", sealed, new(struct{})); err != nil {
 		t.Fatal(err)
 	}
 	o := options(1, s.URL)

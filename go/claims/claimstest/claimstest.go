@@ -8,6 +8,7 @@ import (
 	"fmt"
 	"math"
 	"runtime"
+	"strings"
 	"sync"
 	"sync/atomic"
 	"testing"
@@ -143,6 +144,22 @@ func Open(t testing.TB, store claims.Store) claims.State {
 		t.Fatal(err)
 	}
 	return state
+}
+
+// Refuses wants that a store does not open, and that the error has a text. Where it is another one, it waits longer: a busy machine may be slow.
+func Refuses(t testing.TB, store claims.Store, text string) {
+	t.Helper()
+	for wait := time.Second; ; wait *= 2 {
+		ctx, cancel := context.WithTimeout(context.Background(), wait)
+		_, err := store.Open(ctx)
+		cancel()
+		if err != nil && strings.Contains(err.Error(), text) {
+			return
+		}
+		if err == nil || wait > patience.Long {
+			t.Fatalf("opened: %v, want %q", err, text)
+		}
+	}
 }
 
 // State asks for the state until it is there.
@@ -417,6 +434,7 @@ func (s *suite) put(t *testing.T) {
 func (s *suite) many(t *testing.T) {
 	o := Options{Name: s.name()}
 	a, b := s.store(t, o), s.store(t, o)
+	Watch(t, b)
 	these := make([]claims.Claim, claims.MostClaims)
 	var earlier []claims.Claim
 	for i := range these {
@@ -451,6 +469,7 @@ func (s *suite) races(t *testing.T) {
 		these[i] = claims.Claim{Key: Key(), Expires: Now() + 300}
 	}
 	var found [members][calls * each]claims.Found
+	Watch(t, s.store(t, o))
 	var putting sync.WaitGroup
 	for m := 0; m < members; m++ {
 		store := s.store(t, o)
@@ -596,6 +615,7 @@ func (s *suite) pages(t *testing.T) {
 	most := 2*claims.MostWithdrawals + 10
 	o := Options{Name: s.name()}
 	a, b := s.store(t, o), s.store(t, o)
+	Watch(t, b)
 	var mu sync.Mutex
 	due := make(map[claims.Withdrawal]bool)
 	var putting sync.WaitGroup
@@ -1018,7 +1038,9 @@ func (s *suite) serverComesLater(t *testing.T) {
 func (s *suite) load(t *testing.T) {
 	o := Options{Name: s.name()}
 	var ledger Ledger
-	end := Load(t, &ledger, s.store(t, o), s.store(t, o), s.store(t, o))
+	a := s.store(t, o)
+	Watch(t, a)
+	end := Load(t, &ledger, a, s.store(t, o), s.store(t, o))
 	logtest.Await(t, "2,000 claims", func() bool { return ledger.Len() > 2000 })
 	end()
 	s.same(t, o)

@@ -210,12 +210,7 @@ func TestTwoStandbysArePromoted(t *testing.T) {
 // Servers that don't come of one are no servers of one store.
 func TestServersOfTwoClusters(t *testing.T) {
 	t.Parallel()
-	a := newStore(t, Options{URLs: []string{start(t).URL, foreign(t).URL}, Name: "svid"})
-	ctx, cancel := context.WithTimeout(context.Background(), time.Second)
-	defer cancel()
-	if _, err := a.Open(ctx); err == nil || !strings.Contains(err.Error(), "two database clusters") {
-		t.Errorf("%v", err)
-	}
+	claimstest.Refuses(t, newStore(t, Options{URLs: []string{start(t).URL, foreign(t).URL}, Name: "svid"}), "two database clusters")
 }
 
 // foreign is a server whose data have another identifier.

@@ -403,11 +403,7 @@ func TestALookAtAStoreOfWhichMuchIsOver(t *testing.T) {
 	s.do(t, fmt.Sprintf(`CREATE OR REPLACE FUNCTION svid.expire() RETURNS bigint LANGUAGE sql AS $$ SELECT %d + 0 * nextval('svid.looks') $$`, pieces))
 	s.do(t, fmt.Sprintf(`INSERT INTO svid.claim VALUES (sha256('a'), sha256('x'), %d)`, over-1))
 	logtest.Await(t, "a look that removes", func() bool {
-		ctx, cancel := context.WithTimeout(context.Background(), 5*time.Second)
-		defer cancel()
-		if _, err := a.State(ctx); err != nil {
-			t.Fatal(err)
-		}
+		claimstest.State(t, a)
 		return s.Do(`DO $$ BEGIN ASSERT (SELECT is_called FROM svid.looks); END $$`) == nil
 	})
 }

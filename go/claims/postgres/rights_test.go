@@ -137,7 +137,7 @@ func TestAServerThatForgets(t *testing.T) {
 	logtest.Await(t, "the right that is missing to be named", func() bool {
 		// (The first look of a second commits the time, and waits for the standby that is not there. So this one comes before.)
 		s.do(t, `SET synchronous_commit = local; SELECT other.state(NULL, '{}', '{}', '{}', true)`)
-		ctx, cancel := context.WithTimeout(context.Background(), time.Second)
+		ctx, cancel := context.WithTimeout(context.Background(), 5*time.Second)
 		defer cancel()
 		store := newStore(t, blind)
 		defer store.Close()

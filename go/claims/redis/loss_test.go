@@ -194,12 +194,7 @@ func TestATakeoverWithReplicas(t *testing.T) {
 func TestTooFewReplicas(t *testing.T) {
 	t.Parallel()
 	s := start(t)
-	store := newStore(t, Options{URLs: []string{s.URL + "?replicas=2"}})
-	ctx, cancel := context.WithTimeout(context.Background(), time.Second)
-	defer cancel()
-	if _, err := store.Open(ctx); err == nil || !strings.Contains(err.Error(), "replicas have it, and 1 must") {
-		t.Error(err)
-	}
+	claimstest.Refuses(t, newStore(t, Options{URLs: []string{s.URL + "?replicas=2"}}), "replicas have it, and 1 must")
 }
 
 // Two servers say that they are the primary: nobody accepts anything, and all goes on once one of them is a replica again.
@@ -212,17 +207,14 @@ func TestTwoPrimaries(t *testing.T) {
 	before := claimstest.State(t, a)
 	put(t, a, 1)
 	replica.do(t, "REPLICAOF", "NO", "ONE")
-	if _, err := a.State(limited(t)); err == nil || !strings.Contains(err.Error(), "both that they are the primary") {
+	const both = "both that they are the primary"
+	if _, err := a.State(limited(t)); err == nil || !strings.Contains(err.Error(), both) {
 		t.Fatal(err)
 	}
 	if f := claimstest.Try(a, 5*time.Second, claim(1))[0]; f.Err == nil {
 		t.Errorf("%+v", f)
 	}
-	ctx, cancel := context.WithTimeout(context.Background(), 3*time.Second)
-	defer cancel()
-	if _, err := newStore(t, o).Open(ctx); err == nil || !strings.Contains(err.Error(), "both that they are the primary") {
-		t.Error(err)
-	}
+	claimstest.Refuses(t, newStore(t, o), both)
 	host, port, _ := strings.Cut(primary.Redis.Address, ":")
 	replica.do(t, "REPLICAOF", host, port)
 	follows(t, replica)

@@ -264,7 +264,6 @@ func (m *Machine) know() {
 func (Run) happen(m *Machine) {
 	m.runs = true
 	m.second = m.now.Up + tickEvery
-	m.tick() // A clock that goes too far ahead from here on is seen.
 	m.tellNext()
 }
 

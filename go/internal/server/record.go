@@ -55,7 +55,7 @@ type Load struct {
 }
 
 func (l *Load) happen(m *Machine) {
-	if l.Err = m.validator.Tick(m.now.Wall); l.Err != nil {
+	if l.Err = m.validator.Tick(m.now.Wall); l.Err != nil { // (a clock that goes too far ahead from here on is seen)
 		return
 	}
 	m.known.Loaded, m.keeper.size = true, l.Size

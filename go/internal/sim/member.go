@@ -60,6 +60,7 @@ type life struct {
 	m          *member
 	w          *world
 	number     uint64
+	name       svid.Life // by which it claims
 	machine    *server.Machine
 	validator  *svid.Validator
 	journal    *journal.Journal
@@ -141,6 +142,7 @@ func (m *member) start() {
 	o := server.Options{Mode: w.plan.mode, Audiences: rules[l.rules].Audiences, Allow: rules[l.rules].Allow, Longest: longest, Ahead: ahead, Step: step, ValidatorID: m.id,
 		Grouped: w.plan.mode == server.Once && len(w.members) > 1, Stored: w.plan.mode != server.Once, Terms: terms, Wait: wait}
 	binary.BigEndian.PutUint64(o.Life[:], uint64(m.number)<<32|m.lives)
+	l.name = o.Life
 	var err error
 	if l.validator, err = svid.Open(svid.Options{Audiences: o.Audiences, Bundles: w.pool.bundles[l.set], Longest: longest, Ahead: ahead,
 		Step: step, ValidatorID: m.id}); err != nil {

@@ -6,7 +6,6 @@ import (
 	"strings"
 	"time"
 
-	"svid.example/go/v2/claims"
 	"svid.example/go/v2/internal/server"
 	"svid.example/go/v2/svid"
 )
@@ -81,7 +80,10 @@ func (m *member) ask(one *token, gives time.Duration) *ask {
 	}
 	a := &ask{l: l, token: one, at: m.w.now, request: server.NewRequest(one.text)}
 	_, a.withdrawn = m.withdrawn[one.key]
-	if _, heard := l.heard[one.key]; heard || m.w.store.gone[one.key] {
+	if _, heard := l.heard[one.key]; heard {
+		a.withdrawn = true
+	}
+	if by, done := m.w.store.gone[one.key]; done && by != svid.OwnerOfLife(m.id, l.name, one.expires) {
 		a.withdrawn = true
 	}
 	l.asks[&a.request.Call] = a
@@ -137,8 +139,8 @@ func (a *ask) answered(err error) {
 				w.fail("%v: a withdrawal is done that is not on the disk", m)
 			}
 			// (Where the store has a claim of it, the answer says whose: its one acceptance is that life's, now or before.)
-			if w.plan.mode == server.Strict && a.withdraw.UsedBy == claims.Withdrawn {
-				w.store.gone[a.token.key] = true
+			if _, before := w.store.gone[a.token.key]; w.plan.mode == server.Strict && !before {
+				w.store.gone[a.token.key] = a.withdraw.UsedBy
 			}
 			// (Without a disk, a member has it for as long as it lives, or the group has it.)
 		}

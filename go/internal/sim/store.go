@@ -25,12 +25,12 @@ type storeServer struct {
 
 	ever map[svid.TokenKey]map[svid.ValidatorID]bool // whose claims it took first
 	puts [][]claims.Claim                            // that came
-	gone map[svid.TokenKey]bool                      // tokens whose withdrawal was answered as done
+	gone map[svid.TokenKey]claims.Owner              // tokens whose withdrawal was answered as done, and whose claim the store had; claims.Withdrawn for nobody's
 	told map[svid.TokenKey]bool                      // tokens whose withdrawal it has
 }
 
 func newStore(w *world) *storeServer {
-	s := &storeServer{w: w, ever: map[svid.TokenKey]map[svid.ValidatorID]bool{}, gone: map[svid.TokenKey]bool{}, told: map[svid.TokenKey]bool{}}
+	s := &storeServer{w: w, ever: map[svid.TokenKey]map[svid.ValidatorID]bool{}, gone: map[svid.TokenKey]claims.Owner{}, told: map[svid.TokenKey]bool{}}
 	s.Store = memory.Store{Terms: terms, Now: func() uint64 { return base + uint64((w.now+s.offset)/time.Second) }}
 	return s
 }
