@@ -794,7 +794,7 @@ uint32_t svid_member_know(svid_validator *v, const svid_known *known);
 uint32_t svid_member_judges(svid_validator *v);
 
 /* Whether tokens are to be sent to a member: SVID_OK, or SVID_ENDED to SVID_DEAF for the first reason why not. SVID_WITHDRAWALS_UNREAD counts in all modes
- * but strict, SVID_KEEPS_NOTHING in once alone, and SVID_STORE_AWAY and SVID_DEAF in strict alone. */
+ * but strict, SVID_KEEPS_NOTHING in once alone, and SVID_STORE_AWAY and SVID_DEAF in strict and bound alone. */
 uint32_t svid_member_ready(svid_validator *v);
 
 /* A request comes. SVID_ENDED to SVID_GROUP_UNREAD, SVID_NO_MEMORY: nothing came, and `deed` stays as it was. SVID_DEED_NOTHING if no number is left. */

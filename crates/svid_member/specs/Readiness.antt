@@ -29,6 +29,13 @@ keeps_first Strict = false
 keeps_first Bound = false
 keeps_first Reuse = false
 
+-- in this mode a token is claimed in the store before it is answered
+abbrev pub claims_first : Mode → Bool
+claims_first Once = false
+claims_first Strict = true
+claims_first Bound = true
+claims_first Reuse = false
+
 -- why no token is judged, in the order in which it is told
 abbrev pub block_rows : Readiness → Mode → List Row
 block_rows r mode =
@@ -50,8 +57,8 @@ doubt_rows r mode =
     (Draining, r.draining)
     ∷ (Jumped, r.jumped)
     ∷ (KeepsNothing, keeps_first mode && (r.unkept || r.full))
-    ∷ (StoreAway, hears_by_claims mode && r.away)
-    ∷ (Deaf, hears_by_claims mode && r.deaf)
+    ∷ (StoreAway, claims_first mode && r.away)
+    ∷ (Deaf, claims_first mode && r.deaf)
     ∷ []
 
 -- why no tokens are to be sent

@@ -1,5 +1,5 @@
 ghost use Rattle.std.specs.Prelude.{◌≡◌};
-ghost use Rattle.svid_member.specs.Readiness.{hears_by_claims, keeps_first};
+ghost use Rattle.svid_member.specs.Readiness.{claims_first, hears_by_claims, keeps_first};
 ghost use Rattle.svid_member.specs.Modes.{adds_at_judgment, adds_at_claim, is_bound, needs_of};
 
 use svid_requests::Needs;
@@ -65,6 +65,16 @@ impl Mode {
     {
         match self {
             Mode::Strict => true,
+            _ => false,
+        }
+    }
+
+    // Whether a token is claimed in the store before it is answered.
+    pub(crate) fn claims_first(self) -> bool
+        ensures { result ≡ claims_first self }
+    {
+        match self {
+            Mode::Strict | Mode::Bound => true,
             _ => false,
         }
     }

@@ -78,10 +78,10 @@ impl Readiness {
         if mode.keeps_first() && (self.unkept || self.full) {
             return Some(Unready::KeepsNothing);
         }
-        if mode.hears_by_claims() && self.away {
+        if mode.claims_first() && self.away {
             return Some(Unready::StoreAway);
         }
-        if mode.hears_by_claims() && self.deaf {
+        if mode.claims_first() && self.deaf {
             return Some(Unready::Deaf);
         }
         None
