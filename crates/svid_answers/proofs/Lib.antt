@@ -7,6 +7,7 @@ pub mod GrantsLemmas
 pub mod GroupLemmas
 pub mod LooksLemmas
 pub mod RecordsLemmas
+pub mod ResponsesLemmas
 pub mod RunsAloneLemmas
 pub mod RunsLemmas
 pub mod WritesLemmas

@@ -4,7 +4,7 @@ ghost use Rattle.svid_answers.specs.Alone.{AnsweredIsWritten, TokensAreAnsweredO
 ghost use Rattle.svid_answers.specs.Calls.{BeginsAreEvents, ComesAreEvents, FindsAreEvents, FoundIsALook, HearsAreEvents, JoinsAreEvents, JudgesAreEvents, StoresKeepMembers};
 ghost use Rattle.svid_answers.specs.CallsAlone as alone;
 ghost use Rattle.svid_answers.specs.Examples.{BoundAnswers, OnceAnswers, StrictAnswers};
-ghost use Rattle.svid_answers.specs.Runs.{RunsAnswerOnce};
+ghost use Rattle.svid_answers.specs.Runs.{RunsAnswerCallers, RunsAnswerOnce, RunsAnswerOneCaller};
 ghost use Rattle.svid_answers.specs.RunsAlone as runs_alone;
 ghost use Rattle.svid_answers.specs.Promises.{AnsweredIsFound, TokensAreAnsweredOnce, TokensAreAnsweredToOneCaller, TokensAreAnsweredToOneOwner};
 
@@ -66,6 +66,13 @@ pub fn calls_are_events_alone()
 pub fn runs_answer_once<V>()
     ensures alone { runs_alone.RunsAnswerOnce }
     ensures group { RunsAnswerOnce V }
+{}
+
+/// Whatever is called, in whatever order, a group in mode `Bound` answers no token 200 to two callers, unless both have one owner. In mode `Strict`, too,
+/// each 200 comes of a store's answer to the claim of a caller. `V` is the members' verifier.
+pub fn runs_answer_one_caller<V>()
+    ensures one { RunsAnswerOneCaller V }
+    ensures callers { RunsAnswerCallers V }
 {}
 
 /// In some histories requests are answered 200, so these laws speak of something.
