@@ -9,6 +9,7 @@ pub mod LooksLemmas
 pub mod RecordsLemmas
 pub mod ResponsesLemmas
 pub mod RunsAloneLemmas
+pub mod RunsKeptLemmas
 pub mod RunsLemmas
 pub mod WritesLemmas
 pub mod WrittenLemmas
