@@ -51,7 +51,7 @@ module _ (t : Terms) where
   are_fit (Begin v wait moment uses ∷ events) n = put_fit (history t events).requests v (begun Claim wait) (fit_begun Claim wait) (are_fit events) n
 
   -- what a deed grants that member v does for an event
-  deed_grants : (events : List Event) (v up : ℕ) (refused : Bool) (e : requests.Event) → OnDeed (Grants e) (heard_deed refused (at_moment ((history t events).requests v) up) e)
+  pub deed_grants : (events : List Event) (v up : ℕ) (refused : Bool) (e : requests.Event) → OnDeed (Grants e) (heard_deed refused (at_moment ((history t events).requests v) up) e)
   deed_grants events v up refused e = let s = (history t events).requests v in heard_grants refused (at_moment s up) e (fit_moment Claim s up (are_fit events v))
 
   -- What happens in the members and the stores.

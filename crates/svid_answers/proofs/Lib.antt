@@ -7,7 +7,9 @@ pub mod GrantsLemmas
 pub mod GroupLemmas
 pub mod LooksLemmas
 pub mod RecordsLemmas
+pub mod ResponsesLemmas
 pub mod RunsAloneLemmas
+pub mod RunsKeptLemmas
 pub mod RunsLemmas
 pub mod WritesLemmas
 pub mod WrittenLemmas

@@ -35,7 +35,7 @@ use Rattle.svid_requests.specs.declared.event.Event.TheVariants.{Found}
 use Rattle.svid_requests.specs.declared.deed.Deed.{Deed}
 use Rattle.svid_requests.specs.Tables.{State, at_moment, claimed, heard, heard_deed}
 use Rattle.svid_member.specs.declared.claimed.Claimed.{Claimed}
-use Rattle.svid_member.specs.Claiming.{owner_for, FindsBy, awaited, claim_for, is_of, look_at, of_token, reason_for}
+use Rattle.svid_member.specs.Claiming.{owner_for, Finds, FindsBy, awaited, claim_for, is_of, look_at, of_token, reason_for}
 use Rattle.svid_member.specs.Judging.{judged_by, judgment_of}
 use Rattle.svid_member.specs.Members.{Hears, MemberData}
 use Rattle.svid_member.specs.Modes.{adds_at_claim}
@@ -109,16 +109,16 @@ module _ (t : Terms) (events : List Event) (told : List ℕ → ℕ) (v now inde
       (λ strict. (claim.owner strict, fresh h strict (subst (λ (k : List ℕ). has_use_of raised.uses k ≡ false) (sym key) said_is.unused))) in
       (both.0, key, ap (λ (e : claims.Entry). e.exp) both.1 ∙ sym (said_is.exp_is ∙ of.0), ap (λ (e : claims.Entry). e.owner) both.1)
 
--- what is told, by the outcome
-abbrev IsLook : (t : Terms) (w : World) (v now index up n : ℕ) → MemberData → MemberData → Deed → Type 0
-IsLook t w v now index up n m m_new deed = (j : Judgment) × Hears up (Found n j) m deed m_new × ((u : Use) → passing j ≡ Some u → FindsUse t w.claims v now index u)
+-- what is told, by the outcome: a use that passes is found, and expires with the claim
+abbrev pub IsLook : (t : Terms) (w : World) (v now index up n exp : ℕ) → MemberData → MemberData → Deed → Type 0
+IsLook t w v now index up n exp m m_new deed = (j : Judgment) × Hears up (Found n j) m deed m_new × ((u : Use) → passing j ≡ Some u → FindsUse t w.claims v now index u × (u.exp ≡ exp))
 
-refused_look : (t : Terms) (w : World) (v now index up n why : ℕ) (m m_new : MemberData) (deed : Deed) → Hears up (Found n (Fails why)) m deed m_new → IsLook t w v now index up n m m_new deed
-refused_look t w v now index up n why m m_new deed hears = (Fails why, hears, λ u is. absurd (none-some u is))
+refused_look : (t : Terms) (w : World) (v now index up n exp why : ℕ) (m m_new : MemberData) (deed : Deed) → Hears up (Found n (Fails why)) m deed m_new → IsLook t w v now index up n exp m m_new deed
+refused_look t w v now index up n exp why m m_new deed hears = (Fails why, hears, λ u is. absurd (none-some u is))
 
 module _ (V : Type 0) (t : Terms) (events : List Event) (told : List ℕ → ℕ) (v now index up n : ℕ) (a : Answer) (own : Use) (caller : List ℕ) (s : Setting) (said : Said) (h h_new : Held V) (m m_new : MemberData) (c : Claimed) where
   abbrev LookIs : Type 0
-  LookIs = IsLook t (history t events) v now index up n m m_new c.deed
+  LookIs = IsLook t (history t events) v now index up n own.exp m m_new c.deed
 
   abbrev Judges : Result Accepted Refusal → Type 0
   Judges answer = Answers Some answer (verdict_on s (raised_to h.state now).moment (raised_to h.state now).uses said) × Hears up (Found n (judgment_of answer)) m c.deed m_new
@@ -134,20 +134,25 @@ module _ (V : Type 0) (t : Terms) (events : List Event) (told : List ℕ → ℕ
     look_judged : (answer : Result Accepted Refusal) → Counts → Judges answer → LookIs
     look_judged (Ok accepted) mine is =
         let f = finds_accepted accepted mine is in
-        (Passes accepted.used, is.1, λ u some. subst (FindsUse t (history t events).claims v now index) (same_Some accepted.used u some) (record { answer = a; accepts = f.0; key_is = f.1; exp_is = f.2 }))
+        let exp = (accepts_says s (raised_to h.state now).moment (raised_to h.state now).uses said accepted is.0).exp_is ∙ (awaited_is said (claimed (at_moment m.requests up) n) own waits).0 in
+        (Passes accepted.used, is.1, λ u some. subst (λ (d : Use). FindsUse t (history t events).claims v now index d × (d.exp ≡ own.exp)) (same_Some accepted.used u some) (record { answer = a; accepts = f.0; key_is = f.1; exp_is = f.2 }, exp))
     look_judged (Err refusal) mine is = (judgment_of (Err refusal), is.1, λ u some. absurd (none-some u some))
 
     look_by : (o : Outcome) → outcome t events told v now index a own caller s said h.state m ≡ o → FindsBy o s now up n own said h h_new m m_new c → LookIs
     look_by Mine is f = look_judged f.0 is (f.1, f.3)
-    look_by Withdrawn is f = refused_look t (history t events) v now index up n (reason_for Withdrawn) m m_new c.deed f.1.0
-    look_by Taken is f = refused_look t (history t events) v now index up n (reason_for Taken) m m_new c.deed f.1.0
-    look_by Far is f = refused_look t (history t events) v now index up n (reason_for Far) m m_new c.deed f.1.0
-    look_by Deaf is f = refused_look t (history t events) v now index up n (reason_for Deaf) m m_new c.deed f.1.0
-    look_by Expired is f = refused_look t (history t events) v now index up n (reason_for Expired) m m_new c.deed f.1.0
+    look_by Withdrawn is f = refused_look t (history t events) v now index up n own.exp (reason_for Withdrawn) m m_new c.deed f.1.0
+    look_by Taken is f = refused_look t (history t events) v now index up n own.exp (reason_for Taken) m m_new c.deed f.1.0
+    look_by Far is f = refused_look t (history t events) v now index up n own.exp (reason_for Far) m m_new c.deed f.1.0
+    look_by Deaf is f = refused_look t (history t events) v now index up n own.exp (reason_for Deaf) m m_new c.deed f.1.0
+    look_by Expired is f = refused_look t (history t events) v now index up n own.exp (reason_for Expired) m m_new c.deed f.1.0
+
+    pub finds_look : Finds s now up n own caller (found_by a) said h h_new m m_new c → IsLook t (history t events) v now index up n own.exp m m_new c.deed
+    finds_look finds = look_by (outcome t events told v now index a own caller s said h.state m) refl finds
 
 pub found_is_a_look : (V : Type 0) → FoundIsALook V
 found_is_a_look V t events told v now index up n a own caller s said h h_new m m_new c mirrors puts claim waits finds =
-    look_by V t events told v now index up n a own caller s said h h_new m m_new c mirrors puts claim waits (outcome t events told v now index a own caller s said h.state m) refl finds
+    let l = finds_look V t events told v now index up n a own caller s said h h_new m m_new c mirrors puts claim waits finds in
+    (l.0, l.1, λ u is. (l.2 u is).0)
 
 -- What such a call leaves.
 

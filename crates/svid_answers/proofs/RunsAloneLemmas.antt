@@ -1,11 +1,9 @@
 -- The calls of a member in mode once are events of its history, all of them.
-use Rattle.std.proofs.Common.{◌≡◌, ◌⊎◌, inl, inr, ◌≤◌, ◌++◌, ℕ, List, [], ◌∷◌, refl, sym, ap, ◌∙◌, subst}
+use Rattle.std.proofs.Common.{◌≡◌, inl, inr, ◌≤◌, ◌++◌, List, [], ◌∷◌, refl, sym, ap, ◌∙◌, subst}
 use Rattle.svid_replay.specs.Records as records
-use Rattle.svid_replay.specs.Buckets.{raised_to}
 use Rattle.svid_requests.specs.declared.verdict.Verdict.{Verdict}
 use Rattle.svid_requests.specs.declared.deed.Deed.{Deed}
 use Rattle.svid_requests.specs.declared.deed.Deed.TheVariants.{Nothing}
-use Rattle.svid_member.specs.Members.{MemberData}
 use Rattle.svid_answers.specs.Alone.{AreAllowed, Event, WasGiven, answered, given_by, history}
 use Rattle.svid_answers.specs.CallsAlone.{AreEvents, IsLife}
 use Rattle.svid_answers.specs.RunsAlone.{Call, Does, Now, Run, RunsAnswerOnce}

@@ -18,77 +18,84 @@ use Rattle.svid_requests.specs.declared.plan.Plan.{Plan}
 use Rattle.svid_requests.specs.declared.plan.Plan.TheVariants.{Stay, Go, Part}
 use Rattle.svid_requests.specs.declared.deed.Deed.TheVariants as deed
 use Rattle.svid_requests.specs.Plans.{after_answer, after_judgment, after_leave, after_send, after_write, judged, plan, written}
-use Rattle.svid_requests.specs.Tables.{State, Table, at_moment, deed_by, deed_of, find, held_by, subject}
+use Rattle.svid_requests.specs.Tables.{State, Table, at_moment, deed_by, deed_of, find, heard_deed, held_by, subject}
 use Rattle.svid_requests.specs.Tables as tables
 use Rattle.svid_answers.specs.Alone.{AnsweredIsWritten, history}
-use Rattle.svid_answers.specs.Group.{granted}
+use Rattle.svid_answers.specs.Group.{granted, holding}
+use Rattle.svid_answers.specs.RunsKept.{IsWriting}
 use Rattle.svid_answers.proofs.AloneLemmas.{once_requests}
-use Rattle.svid_answers.proofs.FitsLemmas.{AllAt, AreFit, Fits, fit_subject, granted_holds, in_time_holds, numbered_find}
+use Rattle.svid_answers.proofs.FitsLemmas.{AllAt, AreFit, Fits, fit_subject, granted_holds, in_time_holds, numbered_find, subject_found}
 use Rattle.svid_answers.proofs.GrantsLemmas.{OnPart}
+
+-- a use that a claim is held for already
+abbrev pub held_use : Event → Option Use
+held_use (Judged n j) = holding j
+held_use _ = None
 
 -- a use was written
 abbrev wrote : Event → Bool
 wrote (Wrote n ok) = ok
 wrote _ = false
 
-abbrev IsWritten : Event → Verdict → Type 0
-IsWritten e (Accept u) = wrote e ≡ true
-IsWritten e _ = Unit {0}
+-- so it is where an answer accepts it, and the request waited for that
+abbrev IsWritten : Event → Stage → Verdict → Type 0
+IsWritten e g (Accept u) = (wrote e ≡ true) × (g ≡ Writing u)
+IsWritten e g _ = Unit {0}
 
-abbrev OnWrite : Event → Plan → Type 0
-OnWrite e pl = OnPart (IsWritten e) pl
+abbrev OnWrite : Event → Stage → Plan → Type 0
+OnWrite e g pl = OnPart (IsWritten e g) pl
 
-judged_written : (n : ℕ) (held : Bool) (j : Judgment) → granted (Judged n j) ≡ None → OnWrite (Judged n j) (judged Write held j)
+judged_written : (n : ℕ) (held : Bool) (j : Judgment) → holding j ≡ None → OnWrite (Judged n j) Judging (judged Write held j)
 judged_written n held (Passes u) none = tt
 judged_written n held (Holds u) none = absurd (none-some u (sym none))
 judged_written n held (Fails why) none = tt
 
-judgment_written : (n : ℕ) (held : Bool) (now : ℕ) (j : Judgment) (r : Request) (g : Stage) → Fits Write g → granted (Judged n j) ≡ None → OnWrite (Judged n j) (after_judgment Write held now j r g)
-judgment_written n held now j r Judging h none = in_time_holds (OnWrite (Judged n j)) now r (judged Write held j) tt (judged_written n held j none)
+judgment_written : (n : ℕ) (held : Bool) (now : ℕ) (j : Judgment) (r : Request) (g : Stage) → Fits Write g → holding j ≡ None → OnWrite (Judged n j) g (after_judgment Write held now j r g)
+judgment_written n held now j r Judging h none = in_time_holds (OnWrite (Judged n j) Judging) now r (judged Write held j) tt (judged_written n held j none)
 judgment_written n held now j r (Writing u) h none = tt
 judgment_written n held now j r (Claiming u) h none = tt
 judgment_written n held now j r (Behind u) h none = tt
 judgment_written n held now j r (Again u) h none = absurd h
 
-write_written : (n now : ℕ) (ok : Bool) (r : Request) (g : Stage) → OnWrite (Wrote n ok) (after_write now ok r g)
+write_written : (n now : ℕ) (ok : Bool) (r : Request) (g : Stage) → OnWrite (Wrote n ok) g (after_write now ok r g)
 write_written n now ok r Judging = tt
-write_written n now ok r (Writing u) = in_time_holds (OnWrite (Wrote n ok)) now r (written ok u) tt (by ok)
+write_written n now ok r (Writing u) = in_time_holds (OnWrite (Wrote n ok) (Writing u)) now r (written ok u) tt (by ok)
   where
-    by : (b : Bool) → OnWrite (Wrote n b) (written b u)
-    by true = refl
+    by : (b : Bool) → OnWrite (Wrote n b) (Writing u) (written b u)
+    by true = (refl, refl)
     by false = tt
 write_written n now ok r (Claiming u) = tt
 write_written n now ok r (Behind u) = tt
 write_written n now ok r (Again u) = tt
 
-send_written : (e : Event) (now : ℕ) (r : Request) (g : Stage) → Fits Write g → OnWrite e (after_send now r g)
+send_written : (e : Event) (now : ℕ) (r : Request) (g : Stage) → Fits Write g → OnWrite e g (after_send now r g)
 send_written e now r Judging h = tt
 send_written e now r (Writing u) h = tt
 send_written e now r (Claiming u) h = absurd h
 send_written e now r (Behind u) h = tt
 send_written e now r (Again u) h = tt
 
-answer_written : (e : Event) (now : ℕ) (j : Judgment) (r : Request) (g : Stage) → Fits Write g → OnWrite e (after_answer now j r g)
+answer_written : (e : Event) (now : ℕ) (j : Judgment) (r : Request) (g : Stage) → Fits Write g → OnWrite e g (after_answer now j r g)
 answer_written e now j r Judging h = tt
 answer_written e now j r (Writing u) h = tt
 answer_written e now j r (Claiming u) h = absurd h
 answer_written e now j r (Behind u) h = tt
 answer_written e now j r (Again u) h = tt
 
-leave_written : (e : Event) (g : Stage) → OnWrite e (after_leave g)
+leave_written : (e : Event) (g : Stage) → OnWrite e g (after_leave g)
 leave_written e Judging = tt
 leave_written e (Writing u) = tt
 leave_written e (Claiming u) = tt
 leave_written e (Behind u) = tt
 leave_written e (Again u) = tt
 
-plan_written : (held : Bool) (now : ℕ) (e : Event) (r : Request) → Fits Write r.stage → granted e ≡ None → OnWrite e (plan Write held now e r)
+plan_written : (held : Bool) (now : ℕ) (e : Event) (r : Request) → Fits Write r.stage → held_use e ≡ None → OnWrite e r.stage (plan Write held now e r)
 plan_written held now (Judged n j) r h none = judgment_written n held now j r r.stage h none
 plan_written held now (Wrote n ok) r h none = write_written n now ok r r.stage
 plan_written held now (Send n) r h none = send_written (Send n) now r r.stage h
 plan_written held now (Found n j) r h none = answer_written (Found n j) now j r r.stage h
 plan_written held now (Leave n) r h none = leave_written (Leave n) r.stage
-plan_written held now Overdue r h none = in_time_holds (OnWrite Overdue) now r Stay tt tt
+plan_written held now Overdue r h none = in_time_holds (OnWrite Overdue r.stage) now r Stay tt tt
 
 -- a deed that answers is of a plan that does
 deed_answers : (m : ℕ) (r : Request) (pl : Plan) (t : Table) (n : ℕ) (v : Verdict) (next : Option ℕ) → deed_of m r pl t ≡ deed.Answer n v next → (m ≡ n) × (pl ≡ Part v)
@@ -109,17 +116,28 @@ wrote_is (Found m j) requests p n is at ok = absurd (false≢true ok)
 wrote_is (Leave m) requests p n is at ok = absurd (false≢true ok)
 wrote_is Overdue requests p n is at ok = absurd (false≢true ok)
 
-written_by : (refused : Bool) (s : State) (e : Event) (n : ℕ) (u : Use) (next : Option ℕ) (o : Option (ℕ × Request)) → subject e s.table.requests ≡ o → AreFit Write s → granted e ≡ None
-    → deed_by s.needs refused s.now e s.table o ≡ deed.Answer n (Accept u) next → e ≡ Wrote n true
-written_by refused s e n u next None is h none answers = absurd (cc)
-written_by refused s e n u next (Some p) is h none answers =
-    let pl = plan s.needs (held_by e s.table) s.now e p.1 in
-    let says = subst (λ (x : Needs). OnWrite e (plan x (held_by e s.table) s.now e p.1)) (sym h.needs_is) (plan_written (held_by e s.table) s.now e p.1 (fit_subject Write s e p is h) none) in
-    let both = deed_answers p.0 p.1 (tables.granted refused p.1 pl) s.table n (Accept u) next answers in
-    wrote_is e s.table.requests p n is both.0 (subst (OnWrite e) both.1 (granted_holds (OnWrite e) refused p.1 pl says tt))
+pub answered_was_writing : (refused : Bool) (s : State) (e : Event) (n : ℕ) (u : Use) (next : Option ℕ) → AreFit Write s → held_use e ≡ None → heard_deed refused s e ≡ deed.Answer n (Accept u) next → (e ≡ Wrote n true) × IsWriting s n u
+answered_was_writing refused s e n u next h none answers = by (subject e s.table.requests) refl answers
+  where
+    by : (o : Option (ℕ × Request)) → subject e s.table.requests ≡ o → deed_by s.needs refused s.now e s.table o ≡ deed.Answer n (Accept u) next → (e ≡ Wrote n true) × IsWriting s n u
+    by None is answers = absurd (cc)
+    by (Some p) is answers =
+        let pl = plan s.needs (held_by e s.table) s.now e p.1 in
+        let says = subst (λ (x : Needs). OnWrite e p.1.stage (plan x (held_by e s.table) s.now e p.1)) (sym h.needs_is) (plan_written (held_by e s.table) s.now e p.1 (fit_subject Write s e p is h) none) in
+        let both = deed_answers p.0 p.1 (tables.granted refused p.1 pl) s.table n (Accept u) next answers in
+        let wrote = subst (OnWrite e p.1.stage) both.1 (granted_holds (OnWrite e p.1.stage) refused p.1 pl says tt) in
+        (wrote_is e s.table.requests p n is both.0 wrote.0, (p.1, subst (λ m. find m s.table.requests ≡ Some p.1) both.0 (subject_found e s.table.requests p is), wrote.1))
+
+granted_held : (e : Event) → granted e ≡ None → held_use e ≡ None
+granted_held (Judged n j) is = is
+granted_held (Wrote n ok) is = refl
+granted_held (Send n) is = refl
+granted_held (Found n j) is = refl
+granted_held (Leave n) is = refl
+granted_held Overdue is = refl
 
 pub answered_is_written : AnsweredIsWritten
 answered_is_written events up n refused e u next needs none answers =
     let once = once_requests events in
     let s = at_moment (history events).requests up in
-    written_by refused s e n u next (subject e s.table.requests) refl (record { needs_is = needs; fits = subst (λ (x : Needs). AllAt (Fits x) s.table.requests) (sym once.1.needs_is ∙ needs) once.1.fits }) none answers
+    (answered_was_writing refused s e n u next (record { needs_is = needs; fits = subst (λ (x : Needs). AllAt (Fits x) s.table.requests) (sym once.1.needs_is ∙ needs) once.1.fits }) (granted_held e none) answers).0

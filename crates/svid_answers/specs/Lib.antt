@@ -7,3 +7,4 @@ pub mod Promises
 pub mod Records
 pub mod Runs
 pub mod RunsAlone
+pub mod RunsKept

@@ -4,8 +4,9 @@ ghost use Rattle.svid_answers.specs.Alone.{AnsweredIsWritten, TokensAreAnsweredO
 ghost use Rattle.svid_answers.specs.Calls.{BeginsAreEvents, ComesAreEvents, FindsAreEvents, FoundIsALook, HearsAreEvents, JoinsAreEvents, JudgesAreEvents, StoresKeepMembers};
 ghost use Rattle.svid_answers.specs.CallsAlone as alone;
 ghost use Rattle.svid_answers.specs.Examples.{BoundAnswers, OnceAnswers, StrictAnswers};
-ghost use Rattle.svid_answers.specs.Runs.{RunsAnswerOnce};
+ghost use Rattle.svid_answers.specs.Runs.{RunsAnswerCallers, RunsAnswerOnce, RunsAnswerOneCaller};
 ghost use Rattle.svid_answers.specs.RunsAlone as runs_alone;
+ghost use Rattle.svid_answers.specs.RunsKept as runs_kept;
 ghost use Rattle.svid_answers.specs.Promises.{AnsweredIsFound, TokensAreAnsweredOnce, TokensAreAnsweredToOneCaller, TokensAreAnsweredToOneOwner};
 
 /// In a strict group that claims tokens in stores, at most one request for a token is answered 200. That counts all members, over their restarts,
@@ -27,10 +28,11 @@ pub fn tokens_are_answered_once_here()
 {}
 
 /// Before a request is answered 200 in a group, its member accepted the token by a store's answer. In mode `Once` with a state folder, its use is on
-/// the disk.
+/// the disk, and is read of whatever a crash leaves.
 pub fn answered_tokens_were_kept()
     ensures found { AnsweredIsFound }
     ensures written { AnsweredIsWritten }
+    ensures read { runs_kept.AnsweredIsRead }
 {}
 
 /// What a member tells a request of a store's answer is what a look at that answer may tell. It tells that the token passes only where the group accepts
@@ -62,10 +64,19 @@ pub fn calls_are_events_alone()
 {}
 
 /// So whatever is called, in whatever order, and however often a member starts again, no token is answered 200 twice: by one member in mode `Once`, and
-/// by a whole group in mode `Strict`, whatever its stores do. `V` is the members' verifier.
+/// by a whole group in mode `Strict`, whatever its stores do. Where the member has a state folder, each start needs to read no more than that folder.
+/// `V` is the members' verifier.
 pub fn runs_answer_once<V>()
     ensures alone { runs_alone.RunsAnswerOnce }
+    ensures kept { runs_kept.RunsAnswerOnce }
     ensures group { RunsAnswerOnce V }
+{}
+
+/// Whatever is called, in whatever order, a group in mode `Bound` answers no token 200 to two callers, unless both have one owner. In mode `Strict`, too,
+/// each 200 comes of a store's answer to the claim of a caller. `V` is the members' verifier.
+pub fn runs_answer_one_caller<V>()
+    ensures one { RunsAnswerOneCaller V }
+    ensures callers { RunsAnswerCallers V }
 {}
 
 /// In some histories requests are answered 200, so these laws speak of something.
