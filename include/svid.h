@@ -274,7 +274,7 @@ typedef struct {
     size_t offset;
     size_t more;     /* of svid_validator_ask, svid_validator_ask_token and svid_bundles_ask: 1 if more keys may have signed the token
                         than it lists; of svid_validator_mark: 1 if the validator accepts claims; of svid_validator_differs: 1 if the
-                        bucket differs */
+                        bucket differs; of svid_status_sentence: the length of the text before any advice */
 } svid_told;
 
 /* What a check is told, beside its inputs. */
@@ -1121,6 +1121,20 @@ void svid_journal_bears(const uint8_t *payload, size_t payload_len, svid_bears *
 /* The version of the library: SVID_VERSION of the header that it was built with. */
 uint32_t svid_version(void);
 
+/* Writes the name of a status, as "SVID_REPLAYED"; "SVID_?" for a number that no status has. It is the text that the helper svid_strstatus
+ * returns, for a caller that has the library and not this header.
+ *
+ * SVID_OK; SVID_TOO_SHORT if the name is longer than `out`. It takes no memory. */
+uint32_t svid_status_name(uint32_t status, uint8_t *out, size_t out_len, svid_told *told);
+
+/* Writes what a status says in words, as "The token was withdrawn.", and after a space what to do, if there is something to do. For a number
+ * that no status has it writes "No status has this number.". It is the text that the helper svid_strsentence returns. It is for people, and
+ * may change from version to version.
+ *
+ * `told->more` is the length of the part before any advice. The advice begins one byte after it; if there is none, `told->more` is
+ * `told->len`. SVID_OK; SVID_TOO_SHORT if the text is longer than `out`. It takes no memory. */
+uint32_t svid_status_sentence(uint32_t status, uint8_t *out, size_t out_len, svid_told *told);
+
 /* Reads a SPIFFE ID. */
 uint32_t svid_id_parse(const uint8_t *text, size_t text_len, svid_id *out);
 
@@ -1255,7 +1269,7 @@ uint32_t svid_check_by_lengths(const svid_setting *setting, const uint8_t *own, 
 
 /* ---- Helpers ---- */
 
-/* The name of a status, as "SVID_REPLAYED"; "SVID_?" for a number that is none. */
+/* The name of a status, as "SVID_REPLAYED"; "SVID_?" for a number that is none. svid_status_name writes the same text. */
 static inline const char *svid_strstatus(uint32_t status) {
     switch (status) {
     /* lists:begin names (written by tools/lists) */
@@ -1396,7 +1410,7 @@ static inline const char *svid_strstatus(uint32_t status) {
 }
 
 /* What a status says in words, as "The token was withdrawn.", and behind it what to do, where there is something to do; "No status has this
- * number." for a number that is none. The text is for people, and may change from version to version. */
+ * number." for a number that is none. The text is for people, and may change from version to version. svid_status_sentence writes the same. */
 static inline const char *svid_strsentence(uint32_t status) {
     switch (status) {
     /* lists:begin sentences (written by tools/lists) */

@@ -29,19 +29,7 @@ const (
 )
 
 // Error says what the request has, or lacks, and what to send.
-func (n NoBearer) Error() string { return "svid: " + bearerWords[n] }
-
-// lists:begin bearer (written by tools/lists from lists/statuses.toml)
-
-// bearerWords say what the request has, or lacks, and what to send.
-var bearerWords = map[NoBearer]string{
-	BearerAbsent:   "the request has no header field Authorization: send one such field, with Bearer and one token",
-	BearerSeveral:  "the request has more than one header field Authorization: send one such field, with Bearer and one token",
-	BearerScheme:   "the header field Authorization has another scheme than Bearer: send one such field, with Bearer and one token",
-	BearerSpelling: "in the header field Authorization, Bearer is not followed by one token: send one such field, with Bearer and one token",
-}
-
-// lists:end
+func (n NoBearer) Error() string { return "svid: " + wordsOf(C.uint32_t(n)).whole() }
 
 // BearerToken returns the one bearer token of a request (RFC 9110, section 11.4; RFC 6750, section 2.1), of which these are the
 // values of all header fields Authorization. It does not read the token.

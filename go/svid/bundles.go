@@ -40,7 +40,7 @@ func JoinBundles(sets map[string][]byte) ([]byte, error) {
 	case status == C.SVID_NO_MEMORY || told.input == 0:
 		return nil, failure(status, &told)
 	}
-	return nil, &joinError{names[told.input-1], callWords[status]}
+	return nil, &joinError{names[told.input-1], wordsOf(status).whole()}
 }
 
 // A joinError says which set can't be joined, why, and what to do. It is ErrBundles, too.

@@ -38,46 +38,7 @@ var (
 )
 
 // ofCall is the error of a call with this status.
-func ofCall(status C.uint32_t) error { return errors.New("svid: " + callWords[status]) }
-
-// lists:begin calls (written by tools/lists from lists/statuses.toml)
-
-// callWords say what is wrong with a call, and what to do.
-var callWords = map[C.uint32_t]string{
-	C.SVID_TOO_SHORT:          "the text is longer than the room",
-	C.SVID_NO_MEMORY:          "there was no memory: make the call again",
-	C.SVID_TOO_MUCH:           "bundles, a table or messages have more than 67,108,864 bytes: give less at once",
-	C.SVID_NOT_SUMMARY:        "the first input is messages, but not one summary: give the summary of another validator",
-	C.SVID_CLOSED:             "the validator, the bundles or the token is closed: make a new one",
-	C.SVID_IS_OPEN:            "the handle is open already",
-	C.SVID_GONE:               "the token has expired, so that there is nothing to withdraw",
-	C.SVID_TOO_FAR:            "a message's moment is more than ahead seconds past now: set the clocks of both validators right",
-	C.SVID_JUMP:               "now is more than step seconds past the record's moment: set the clock right, or let a new validator take the record",
-	C.SVID_HAS_LOG:            "the validator reads a log, which decides about its tokens: put the use of a judgment into the log, and read it",
-	C.SVID_NO_LOG:             "the validator reads no log: let it read one",
-	C.SVID_BUNDLES_NOT_OBJECT: "the bundles are no JSON object: write one object that has a JWK Set under the name of each trust domain",
-	C.SVID_BUNDLES_DOMAIN:     "a name of the bundles is no trust domain name: correct that name, or take it out",
-	C.SVID_BUNDLES_KEYS:       "a name of the bundles has no list of keys: write a JWK Set under that name, or take it out",
-	C.SVID_TABLE_LINE:         "a line of the table is neither empty nor a question",
-	C.SVID_OWN_NOT_UTF8:       "an audience of the validator's own is not UTF-8",
-	C.SVID_OWN_LENGTHS:        "the lengths of the audiences do not add up to the length of own",
-	C.SVID_BUNDLES_UNNAMED:    "the document is the bundle of one trust domain, without its name: name it",
-	C.SVID_BUNDLES_TWICE:      "an earlier document has a bundle of this trust domain: leave one of them out",
-	C.SVID_BUNDLES_LENGTHS:    "the lengths of the documents do not add up to the length of bytes",
-	C.SVID_CLAIM_WITHDRAWN:    "the entry says that the token was withdrawn",
-	C.SVID_CLAIM_TAKEN:        "the entry is another's, so the token was used",
-	C.SVID_CLAIM_FAR:          "the token expires more than lasts seconds past the store's time: set the store's clock right",
-	C.SVID_CLAIM_DEAF:         "the token may have been claimed before the store lost entries: present a token that was issued later",
-	C.SVID_CLAIM_EXPIRED:      "the token has expired",
-	C.SVID_NO_MEMBER:          "the validator has no member: open one",
-	C.SVID_UNASKED:            "the request does not wait for that, or its time is over",
-	C.SVID_NO_MODE:            "the number is none of a mode",
-	C.SVID_LATE:               "the time of the request was over before it had an answer: try again",
-	C.SVID_NOT_KEPT:           "the state folder did not take the acceptance: mend the disk",
-	C.SVID_LEFT:               "nobody waits for the answer any more",
-}
-
-// lists:end
+func ofCall(status C.uint32_t) error { return errors.New("svid: " + wordsOf(status).whole()) }
 
 // A BundleError says which trust domain of the bundles is at fault.
 type BundleError struct {
@@ -87,24 +48,12 @@ type BundleError struct {
 
 // Error says what is wrong and what to do, and names the index.
 func (e *BundleError) Error() string {
-	return fmt.Sprintf("svid: %s (number %d of the names in rising order, counted from 0): %s", bundleWords[e.Reason], e.Index, bundleAdvice[e.Reason])
+	said := wordsOf(C.SVID_BUNDLES_KEYS)
+	if e.Reason == "Domain" {
+		said = wordsOf(C.SVID_BUNDLES_DOMAIN)
+	}
+	return fmt.Sprintf("svid: %s (number %d of the names in rising order, counted from 0): %s", said.says, e.Index, said.advice)
 }
-
-// lists:begin bundles (written by tools/lists from lists/statuses.toml)
-
-// bundleWords say what is wrong, by the reason of a BundleError.
-var bundleWords = map[string]string{
-	"Domain": "a name of the bundles is no trust domain name",
-	"Keys":   "a name of the bundles has no list of keys",
-}
-
-// bundleAdvice say what to do, by the same.
-var bundleAdvice = map[string]string{
-	"Domain": "correct that name, or take it out",
-	"Keys":   "write a JWK Set under that name, or take it out",
-}
-
-// lists:end
 
 // A MessageError says why bytes are no row of messages.
 type MessageError struct {
@@ -123,19 +72,7 @@ func (e *MessageError) Error() string {
 
 // lists:begin messages (written by tools/lists from lists/statuses.toml)
 
-// messageReasons are the names of docs/FORMATS.md.
-var messageReasons = map[C.uint32_t]string{
-	C.SVID_MAGIC:       "Magic",
-	C.SVID_KIND:        "Kind",
-	C.SVID_COUNT:       "Count",
-	C.SVID_USE_KIND:    "UseKind",
-	C.SVID_USE_EXPIRED: "UseExpired",
-	C.SVID_USE_FUTURE:  "UseFuture",
-	C.SVID_USE_ORDER:   "UseOrder",
-	C.SVID_TRUNCATED:   "Truncated",
-}
-
-// messageWords say what is wrong and due, by these names.
+// messageWords say what is wrong and due, by the Reason of a MessageError.
 var messageWords = map[string]string{
 	"Magic":      "the first four bytes are those of no version, and due is 4A 53 52, which is JSR, and then 02 or 01",
 	"Kind":       "the fifth byte is that of no kind of message of the version, and due is 01 for a batch, or 02 for a summary, which only version 2 has",
@@ -176,13 +113,12 @@ func failure(status C.uint32_t, told *C.svid_told) error {
 		return Refusal(status)
 	case status >= C.SVID_ENDED && status <= C.SVID_DEAF:
 		return Unready(status)
+	case status >= C.SVID_MAGIC && status <= C.SVID_TRUNCATED:
+		return &MessageError{Reason: wordsOf(status).name, Message: int(told.message), Offset: int(told.offset)}
 	case status == C.SVID_BUNDLES_DOMAIN:
 		return &BundleError{Reason: "Domain", Index: int(told.offset)}
 	case status == C.SVID_BUNDLES_KEYS:
 		return &BundleError{Reason: "Keys", Index: int(told.offset)}
-	}
-	if reason, ok := messageReasons[status]; ok {
-		return &MessageError{Reason: reason, Message: int(told.message), Offset: int(told.offset)}
 	}
 	if err, ok := statusErrors[status]; ok {
 		return err

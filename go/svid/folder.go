@@ -39,14 +39,14 @@ var (
 )
 
 // ofFolder is the error of a call on a folder or on a file with this status.
-func ofFolder(status C.uint32_t) error { return errors.New("svid: " + folderWords[status]) }
+func ofFolder(status C.uint32_t) error { return errors.New("svid: " + wordsOf(status).whole()) }
 
 // A FormatError says that a frame has another format than this library reads, which is format 2.
 type FormatError struct{ Format int }
 
 // Error names the format, and what to do.
 func (e *FormatError) Error() string {
-	what := "svid: " + folderWords[C.SVID_FILE_OTHER]
+	what := "svid: " + wordsOf(C.SVID_FILE_OTHER).whole()
 	if e.Format == 1 {
 		return what + ": it is format 1, which only builds of svidd 0.2 before its release wrote, and this library reads format 2: write the messages of the folder by the build that wrote it"
 	}
@@ -286,7 +286,7 @@ func Whole(messages []byte) (int, error) {
 }
 
 // truncated is the Reason of bytes that end before a message does.
-var truncated = messageReasons[C.SVID_TRUNCATED]
+var truncated = wordsOf(C.SVID_TRUNCATED).name
 
 // beginOf returns where the message at fault begins. Of messages that are cut off within it, the library says how many of its
 // bytes are there. Error: ErrNoMemory.
@@ -316,29 +316,6 @@ func areMessages(messages []byte) error {
 	return failure(status, &told)
 }
 
-// lists:begin folder (written by tools/lists from lists/statuses.toml)
-
-// folderWords say why a folder takes no call, or where reading a file ends, and what to do.
-var folderWords = map[C.uint32_t]string{
-	C.SVID_FOLDER_UNFIT:       "the numbers are not those of a folder, or of the file that is read",
-	C.SVID_FOLDER_ENDED:       "a sync failed: mend the disk, and start the service again",
-	C.SVID_FOLDER_NOT_GROWING: "no journal grows yet: make the calls that are due",
-	C.SVID_FOLDER_BUSY:        "a call is due already: make it first",
-	C.SVID_FOLDER_NOTHING_DUE: "no call is due",
-	C.SVID_FOLDER_FLYING:      "a frame was handed out, and is not synced yet: sync it first",
-	C.SVID_FOLDER_NOT_FLYING:  "no frame was handed out",
-	C.SVID_FOLDER_NOT_WRITING: "no snapshot is being written",
-	C.SVID_FOLDER_NO_MARK:     "the snapshot has no mark at its end: put an empty piece after it",
-	C.SVID_FOLDER_TOO_LONG:    "the payload has more than 16,777,215 bytes: append less at once",
-	C.SVID_FOLDER_FULL:        "a number of the folder has come to its end: go on in a new folder, which takes the messages of this one",
-	C.SVID_FILE_END:           "the end: nothing was written here",
-	C.SVID_FILE_TEAR:          "a write was cut off: nobody was told that it is on the disk",
-	C.SVID_FILE_DAMAGE:        "what was synced here has changed",
-	C.SVID_FILE_OTHER:         "a frame of another format stands here",
-}
-
-// lists:end
-
 // folderFailure is the error of a status of a folder, or nil for SVID_OK.
 func folderFailure(status C.uint32_t) error {
 	switch status {
@@ -351,8 +328,8 @@ func folderFailure(status C.uint32_t) error {
 	case C.SVID_FOLDER_TOO_LONG:
 		return ErrPayload
 	}
-	if why, ok := folderWords[status]; ok {
-		return fmt.Errorf("%w: %s", ErrFolderOrder, why)
+	if status >= C.SVID_FOLDER_UNFIT && status <= C.SVID_FILE_OTHER {
+		return fmt.Errorf("%w: %s", ErrFolderOrder, wordsOf(status).whole())
 	}
 	return fmt.Errorf("svid: the library answered status %d", uint32(status))
 }

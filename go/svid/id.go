@@ -27,5 +27,5 @@ func idError(id string, status C.uint32_t, out *C.svid_id) error {
 	if status == C.SVID_NO_MEMORY {
 		return ErrNoMemory
 	}
-	return fmt.Errorf("svid: %q is no SPIFFE ID (byte %d): %s", id, int(out.offset), idWords[status])
+	return fmt.Errorf("svid: %q is no SPIFFE ID (byte %d): %s", id, int(out.offset), wordsOf(status).whole())
 }

@@ -49,64 +49,6 @@ var refusals = [...]Refusal{
 	TooLongLived, UnknownDomain, NoKey, BadSignature, Withdrawn, Replayed,
 }
 
-// refusalNames are their names.
-var refusalNames = map[Refusal]string{
-	TooLong:           "TooLong",
-	NotThreeParts:     "NotThreeParts",
-	HeaderSpelling:    "HeaderSpelling",
-	HeaderNotObject:   "HeaderNotObject",
-	Crit:              "Crit",
-	Alg:               "Alg",
-	Typ:               "Typ",
-	Kid:               "Kid",
-	PayloadSpelling:   "PayloadSpelling",
-	PayloadNotObject:  "PayloadNotObject",
-	SignatureSpelling: "SignatureSpelling",
-	Sub:               "Sub",
-	Aud:               "Aud",
-	Exp:               "Exp",
-	Nbf:               "Nbf",
-	Jti:               "Jti",
-	NotAudience:       "NotAudience",
-	Expired:           "Expired",
-	NotYet:            "NotYet",
-	TooLongLived:      "TooLongLived",
-	UnknownDomain:     "UnknownDomain",
-	NoKey:             "NoKey",
-	BadSignature:      "BadSignature",
-	Withdrawn:         "Withdrawn",
-	Replayed:          "Replayed",
-}
-
-// refusalSentences say each in words.
-var refusalSentences = map[Refusal]string{
-	TooLong:           "The token has more than 65,536 bytes.",
-	NotThreeParts:     "The token has not exactly two periods.",
-	HeaderSpelling:    "The header is not base64url.",
-	HeaderNotObject:   "The header is no JSON object.",
-	Crit:              "The header has a member crit.",
-	Alg:               "alg is none of the nine algorithms RS256 to RS512, ES256 to ES512 and PS256 to PS512.",
-	Typ:               "typ is there, and is neither \"JWT\" nor \"JOSE\".",
-	Kid:               "kid is there, and is no string.",
-	PayloadSpelling:   "The payload is not base64url.",
-	PayloadNotObject:  "The payload is no JSON object.",
-	SignatureSpelling: "The signature is empty, or not base64url.",
-	Sub:               "sub is no SPIFFE ID.",
-	Aud:               "aud is neither a string nor a list of one or more strings.",
-	Exp:               "exp is no whole number from 0 to 2^64-1, written with digits alone.",
-	Nbf:               "nbf is there, and is no whole number from 0 to 2^64-1.",
-	Jti:               "jti is there, and is no string.",
-	NotAudience:       "No value of aud is one of the validator's audiences.",
-	Expired:           "The token has expired: exp is not greater than the record's moment.",
-	NotYet:            "The token is not valid yet: nbf is greater than the record's moment.",
-	TooLongLived:      "The token expires more than longest seconds past the record's moment.",
-	UnknownDomain:     "The bundles have no trust domain of this name.",
-	NoKey:             "The trust domain has no key that fits alg and kid.",
-	BadSignature:      "No key among the first 3 that fit made the signature.",
-	Withdrawn:         "The token was withdrawn.",
-	Replayed:          "The token was accepted before, here or by a validator whose messages were taken.",
-}
-
 // lists:end
 
 // Refusals returns all refusals in their order.
@@ -114,8 +56,8 @@ func Refusals() []Refusal { return append([]Refusal(nil), refusals[:]...) }
 
 // String returns the refusal's name, as docs/FORMATS.md has it: "Replayed".
 func (r Refusal) String() string {
-	if name, ok := refusalNames[r]; ok {
-		return name
+	if r.isOne() {
+		return wordsOf(C.uint32_t(r)).name
 	}
 	return fmt.Sprintf("Refusal(%d)", uint32(r))
 }
@@ -123,10 +65,15 @@ func (r Refusal) String() string {
 // Sentence says the refusal in words: "The token was withdrawn." The text may change
 // from version to version.
 func (r Refusal) Sentence() string {
-	if sentence, ok := refusalSentences[r]; ok {
-		return sentence
+	if r.isOne() {
+		return wordsOf(C.uint32_t(r)).sentence
 	}
 	return "No refusal has this number."
+}
+
+// isOne says whether a refusal has this number.
+func (r Refusal) isOne() bool {
+	return r >= TooLong && r <= Replayed // (no other status has a number between these)
 }
 
 // Error returns "svid: token refused: " and the refusal's name.

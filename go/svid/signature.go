@@ -168,17 +168,11 @@ func parseKey(jwk []byte, rsaBits int) *Key {
 
 // lists:begin keys (written by tools/lists from lists/statuses.toml)
 
-// keyFaults say why no algorithm can use a key. The number of bits is that of the options.
+// keyFaults say why no algorithm can use a key, where one algorithm has other words.
 var keyFaults = map[C.uint32_t]string{
-	C.SVID_KEY_NOT_OBJECT: "the key is no JSON object",
-	C.SVID_KEY_KTY:        "the key's kty is neither RSA nor EC",
-	C.SVID_KEY_ALG:        "the key's alg is that of no algorithm that fits it",
-	C.SVID_KEY_N:          "the key's n is no odd number in as few bytes of base64url as hold it",
-	C.SVID_KEY_BITS:       "the key's n has fewer than 2,048 bits, more than most_bits, or more than 16,384",
-	C.SVID_KEY_E:          "the key's e is no odd number from 3 to 2^31-1 in as few bytes of base64url as hold it",
-	C.SVID_KEY_CRV:        "the key's crv is none of P-256, P-384 and P-521",
-	C.SVID_KEY_X:          "the key's x is not base64url of 32, 48 or 66 bytes, as the curve has it",
-	C.SVID_KEY_Y:          "the key's y is not base64url of 32, 48 or 66 bytes, as the curve has it",
+	C.SVID_KEY_KTY: "the key's kty is neither RSA nor EC",
+	C.SVID_KEY_ALG: "the key's alg is that of no algorithm that fits it",
+	C.SVID_KEY_CRV: "the key's crv is none of P-256, P-384 and P-521",
 }
 
 // lists:end
@@ -186,7 +180,11 @@ var keyFaults = map[C.uint32_t]string{
 // keyError is ErrKey with the reason.
 func keyError(said C.uint32_t, rsaBits int) error {
 	// (what the C library has as its parameter most_bits is a number here)
-	return fmt.Errorf("%w: %s", ErrKey, strings.Replace(keyFaults[said], "most_bits", fmt.Sprint(rsaBits), 1))
+	says, ok := keyFaults[said]
+	if !ok {
+		says = wordsOf(said).says
+	}
+	return fmt.Errorf("%w: %s", ErrKey, strings.Replace(says, "most_bits", fmt.Sprint(rsaBits), 1))
 }
 
 // JSON returns the key's JWK.

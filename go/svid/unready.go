@@ -27,44 +27,12 @@ const (
 	UnreadyDeaf              Unready = C.SVID_DEAF               // the store has lost entries, so no token is accepted that lives as long as it may
 )
 
-// unreadyNames are their names.
-var unreadyNames = map[Unready]string{
-	UnreadyEnded:             "Ended",
-	UnreadyNoBundle:          "NoBundle",
-	UnreadyLoading:           "Loading",
-	UnreadyStoreUnreached:    "StoreUnreached",
-	UnreadyWithdrawalsUnread: "WithdrawalsUnread",
-	UnreadyBrokerUnreached:   "BrokerUnreached",
-	UnreadyGroupUnread:       "GroupUnread",
-	UnreadyDraining:          "Draining",
-	UnreadyJumped:            "Jumped",
-	UnreadyKeepsNothing:      "KeepsNothing",
-	UnreadyStoreAway:         "StoreAway",
-	UnreadyDeaf:              "Deaf",
-}
-
-// unreadyWords say what is so, and what to do.
-var unreadyWords = map[Unready]string{
-	UnreadyEnded:             "the member has ended",
-	UnreadyNoBundle:          "there is no trust bundle",
-	UnreadyLoading:           "the state folder is being read",
-	UnreadyStoreUnreached:    "the group's store was not reached yet",
-	UnreadyWithdrawalsUnread: "the store's withdrawals are being read",
-	UnreadyBrokerUnreached:   "the group's broker was not reached yet",
-	UnreadyGroupUnread:       "what the group had is being read",
-	UnreadyDraining:          "the member is to end soon",
-	UnreadyJumped:            "the clock went ahead too far at once: set the clock right",
-	UnreadyKeepsNothing:      "the state folder takes no acceptance: mend the disk",
-	UnreadyStoreAway:         "the group's store does not answer, so no token can be claimed",
-	UnreadyDeaf:              "the store has lost entries, so no token is accepted that lives as long as it may",
-}
-
 // lists:end
 
 // String returns the reason's name, as "Draining".
 func (u Unready) String() string {
-	if name, ok := unreadyNames[u]; ok {
-		return name
+	if u.isOne() {
+		return wordsOf(C.uint32_t(u)).name
 	}
 	return fmt.Sprintf("Unready(%d)", uint32(u))
 }
@@ -74,8 +42,11 @@ func (u Unready) Error() string { return "svid: " + u.Words() }
 
 // Words say the same without the name of the package: "there is no trust bundle".
 func (u Unready) Words() string {
-	if words, ok := unreadyWords[u]; ok {
-		return words
+	if u.isOne() {
+		return wordsOf(C.uint32_t(u)).whole()
 	}
 	return "no reason has this number"
 }
+
+// isOne says whether a reason has this number.
+func (u Unready) isOne() bool { return u >= UnreadyEnded && u <= UnreadyDeaf }

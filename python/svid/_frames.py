@@ -7,7 +7,7 @@ from collections.abc import Callable
 
 from . import _library as lib
 from ._folder import ID_FILE, Folder
-from ._words import no_memory
+from ._words import clause, no_memory
 from .errors import Damaged, OtherFormat, Unavailable
 
 
@@ -87,7 +87,9 @@ class Numbers:
 
 def _judge(status: int) -> None:
     if status != lib.OK:
-        raise Unavailable(lib.FOLDER_FAULTS.get(status, f"libsvid answered {status}"))
+        raise Unavailable(
+            clause(status) if status in lib.FOLDER_FAULTS else f"libsvid answered {status}"
+        )
 
 
 class File:
@@ -148,4 +150,4 @@ def _begins_as_messages(content: bytes) -> bool:
     status = lib.library.svid_entries_read(*lent)
     if status == lib.NO_MEMORY:
         raise no_memory()
-    return lib.MESSAGE_FAULTS.get(status) != "Magic" or told.message > 1
+    return status != lib.MAGIC or told.message > 1

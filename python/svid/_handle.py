@@ -14,7 +14,7 @@ from . import _library as lib
 from ._bundles import bundle_words
 from ._signatures import Verifies
 from ._token import Token
-from ._words import no_memory, said
+from ._words import no_memory, reason, said
 from .errors import (
     REFUSALS,
     BadBundles,
@@ -246,7 +246,7 @@ def fault(status: int, told: lib.Told | None = None) -> Exception:
     if status in _UNAVAILABLE:
         return Unavailable(said(status))
     if told and status in lib.MESSAGE_FAULTS:
-        return BadMessages(lib.MESSAGE_FAULTS[status], told.message, told.offset)
+        return BadMessages(reason(status), told.message, told.offset)
     return RuntimeError(f"libsvid answered {status}, which include/svid.h does not explain")
 
 

@@ -24,21 +24,9 @@ GONE = 7
 TOO_FAR = 8
 JUMP = 9
 
-# lists:begin messages (written by tools/lists from lists/statuses.toml)
-MESSAGE_FAULTS = {
-    TOO_MUCH: "TooMuch",
-    NOT_SUMMARY: "NotSummary",
-    11: "Magic",
-    12: "Kind",
-    13: "Count",
-    14: "UseKind",
-    15: "UseExpired",
-    16: "UseFuture",
-    17: "UseOrder",
-    18: "Truncated",
-}
-# lists:end
-"""Why bytes are no messages, by status."""
+MAGIC = 11
+MESSAGE_FAULTS = (TOO_MUCH, NOT_SUMMARY, *range(MAGIC, 19))
+"""Why bytes are no messages."""
 
 BEARER_SEVERAL = 82
 BEARER_SPELLING = 84
@@ -52,25 +40,8 @@ LEFT = 203
 UNREADY = range(211, 223)
 """Why a member judges no token, or why none is to be sent to it."""
 
-# lists:begin folder (written by tools/lists from lists/statuses.toml)
-FOLDER_FAULTS = {
-    41: "the numbers are not those of a folder, or of the file that is read",
-    42: "a sync failed: mend the disk, and start the service again",
-    43: "no journal grows yet: make the calls that are due",
-    44: "a call is due already: make it first",
-    45: "no call is due",
-    46: "a frame was handed out, and is not synced yet: sync it first",
-    47: "no frame was handed out",
-    48: "no snapshot is being written",
-    49: "the snapshot has no mark at its end: put an empty piece after it",
-    50: "the payload has more than 16,777,215 bytes: append less at once",
-    51: (
-        "a number of the folder has come to its end: go on in a new folder, which takes the "
-        "messages of this one"
-    ),
-}
-# lists:end
-"""Why a state folder takes no call, by status."""
+FOLDER_FAULTS = range(41, 52)
+"""Why a state folder takes no call."""
 FILE_END = 52
 FILE_TEAR = 53
 FILE_DAMAGE = 54
@@ -363,6 +334,8 @@ _CALLS = {
     "svid_member_wrote": [*_VALIDATOR, *_NOW, c_uint64, c_uint64, c_void_p],
     "svid_pacing_may_send": [c_void_p, *_NOW, c_uint64],
     "svid_report": [*_LENT, *_NOW, *_OUT, *_TOLD],
+    "svid_status_name": [c_uint32, *_OUT, *_TOLD],
+    "svid_status_sentence": [c_uint32, *_OUT, *_TOLD],
     "svid_validator_answer": [*_VALIDATOR, *_NOW, *_LENT, *_OUT, *_TOLD],
     "svid_validator_open_by_lengths": [*_VALIDATOR, c_void_p, *_LENT, *_OUT, *_LENT, *_TOLD],
     "svid_validator_renew_by": [*_VALIDATOR, *_VALIDATOR, *_TOLD],

@@ -22,7 +22,7 @@ A call that has no memory raises `MemoryError`. It accepted no token, and you ca
 
 from __future__ import annotations
 
-from ._words import MESSAGE_WORDS, said
+from ._words import message_words, said
 
 
 class Error(Exception):
@@ -93,7 +93,7 @@ class BadMessages(Error, ValueError):
 
     def __str__(self) -> str:
         where = f" in message {self.message} at byte {self.offset}" if self.message else ""
-        return f"{self.reason}{where}: {MESSAGE_WORDS.get(self.reason, 'these are no messages')}"
+        return f"{self.reason}{where}: {message_words(self.reason)}"
 
 
 class NotAllowed(Error):

@@ -1,5 +1,5 @@
 /* Calls what svid.h has for a request and its token without a record: svid_bearer_token, svid_token_says, svid_token_signature, svid_token_payload,
- * svid_bundles_judge; and svid_validator_size. Runs in the folder examples/.
+ * svid_bundles_judge; svid_validator_size; and what a status is called and says: svid_status_name, svid_status_sentence. Runs in the folder examples/.
  *
  *   says answers   what each answers, beside what is known of the files here and of RFC 6750
  *   says refused   each call with each of its allocations refused in turn; linked with --wrap for malloc, realloc and free
@@ -14,8 +14,8 @@ _Static_assert(sizeof(svid_bearer) == 16 && sizeof(svid_said) == 48 && sizeof(sv
 
 static svid_question question;
 
-enum { BEARER, SAYS, SIGNATURE, PAYLOAD, JUDGE, SIZE, CALLS };
-static const char *const NAMES[] = { "svid_bearer_token", "svid_token_says", "svid_token_signature", "svid_token_payload", "svid_bundles_judge", "svid_validator_size" };
+enum { BEARER, SAYS, SIGNATURE, PAYLOAD, JUDGE, SIZE, NAME, SENTENCE, CALLS };
+static const char *const NAMES[] = { "svid_bearer_token", "svid_token_says", "svid_token_signature", "svid_token_payload", "svid_bundles_judge", "svid_validator_size", "svid_status_name", "svid_status_sentence" };
 
 /* What a call wrote: its status, and all that it may write. */
 typedef struct { uint32_t status; svid_told told; svid_bearer bearer; svid_said said; svid_signed over; svid_size size; svid_use used; size_t lens[8]; uint8_t out[4096]; } answer;
@@ -57,7 +57,9 @@ static uint32_t call_with(int which, const loan *l) {
     case PAYLOAD: return svid_token_payload(in[TOKEN].bytes, in[TOKEN].len, l->out, l->room, l->told);
     case JUDGE: return svid_bundles_judge(l->b, l->setting, in[OWN].bytes, in[OWN].len, in[LENS].bytes, in[LENS].len / sizeof(size_t), in[YES].bytes, in[YES].len / sizeof question,
                                           in[TOKEN].bytes, in[TOKEN].len, l->out, l->room, l->used, l->told);
-    default: return svid_validator_size(l->v, l->size, l->told);
+    case SIZE: return svid_validator_size(l->v, l->size, l->told);
+    case NAME: return svid_status_name(SVID_NO_MEMORY, l->out, l->room, l->told);
+    default: return svid_status_sentence(SVID_NO_MEMORY, l->out, l->room, l->told);
     }
 }
 
@@ -305,10 +307,54 @@ static void sizes(svid_bundles *b, svid_validator *v) {
     holds(a.status == SVID_CLOSED && untouched(&a.size, sizeof a.size), "a closed validator");
 }
 
+/* A text into each room up to its length and one more; `before` is how much of it is no advice. */
+static void is_written(uint32_t (*writes)(uint32_t, uint8_t *, size_t, svid_told *), uint32_t status, const char *text, size_t before) {
+    size_t len = strlen(text);
+    for (size_t room = 0; room <= len + 1; room++) {
+        static answer a;
+        clear(&a);
+        answered = writes(status, a.out, room, &a.told);
+        size_t written = room < len ? 0 : len;
+        holds(answered == (room < len ? SVID_TOO_SHORT : SVID_OK) && a.told.len == len && a.told.more == before, text);
+        holds(!a.told.input && !a.told.message && !a.told.offset, "it tells more");
+        holds(!memcmp(a.out, text, written) && untouched(a.out + written, sizeof a.out - written), text);
+    }
+}
+
+/* The name and the sentence of each number are those that the helpers of svid.h return. Some stand here whole. */
+static void statuses(void) {
+    static const struct { uint32_t status; const char *name, *says, *advice; } rows[] = {
+        { SVID_OK, "SVID_OK", "The answer is yes, or the call did what it is for.", "" }, { SVID_NO_MEMORY, "SVID_NO_MEMORY", "There was no memory.", " Make the call again." },
+        { SVID_ENTRY_USE, "SVID_ENTRY_USE", "The entry's use is not \"jwt-svid\".", "" }, { SVID_DEAF, "SVID_DEAF", "The store has lost entries, so no token is accepted that lives as long as it may.", "" },
+        { SVID_PATTERN_SCHEME, "SVID_PATTERN_SCHEME", "The pattern does not begin with spiffe://.", " Write spiffe://DOMAIN/PATH for one ID, spiffe://DOMAIN/PATH/* for all below it, or spiffe://DOMAIN for all of a trust domain." },
+        { SVID_REPLAYED, "SVID_REPLAYED", "The token was accepted before, here or by a validator whose messages were taken.", "" }, { UINT32_MAX, "SVID_?", "No status has this number.", "" },
+    };
+    for (uint32_t n = 0; n < 1000; n++) {
+        static answer a;
+        at = NAMES[NAME];
+        is_written(svid_status_name, n, svid_strstatus(n), 0);
+        at = NAMES[SENTENCE];
+        clear(&a);
+        answered = svid_status_sentence(n, a.out, sizeof a.out, &a.told);
+        holds(a.told.more <= a.told.len && a.told.more && a.out[a.told.more - 1] == '.', "no sentence stands before the advice");
+        holds(a.told.more == a.told.len || (a.out[a.told.more] == ' ' && a.told.more + 1 < a.told.len && a.out[a.told.len - 1] == '.'), "no sentence is the advice");
+        is_written(svid_status_sentence, n, svid_strsentence(n), a.told.more);
+    }
+    for (size_t i = 0; i < COUNT(rows); i++) {
+        char text[300];
+        sprintf(text, "%s%s", rows[i].says, rows[i].advice);
+        at = NAMES[NAME];
+        is_written(svid_status_name, rows[i].status, rows[i].name, 0);
+        at = NAMES[SENTENCE];
+        is_written(svid_status_sentence, rows[i].status, text, strlen(rows[i].says));
+    }
+}
+
 static void answers(void) {
     svid_bundles b;
     svid_validator v;
     bearers();
+    statuses();
     begin(&b, &v);
     sayings(&b, &v);
     signatures(&b, &v);

@@ -17,4 +17,5 @@ pub mod OfferLemmas
 pub mod SaysLemmas
 pub mod SpkiLemmas
 pub mod SubjectLemmas
+mod TextsLemmas
 pub mod TrustLemmas

@@ -30,7 +30,9 @@ pub mod Signs
 pub mod Size
 pub mod Spki
 pub mod Status
+pub mod Statuses
 pub mod Subject
+pub mod Texts
 pub mod Token
 pub mod TokenHandle
 pub mod TokenPayload

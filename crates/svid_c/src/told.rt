@@ -21,7 +21,8 @@ pub struct SvidTold {
     pub offset: usize,
     /// Of [`svid_validator_ask`](crate::validator_ask::svid_validator_ask) and [`svid_bundles_ask`](crate::bundles_ask::svid_bundles_ask), 1 where
     /// more keys may have signed the token than it lists, and else 0. Of [`svid_validator_differs`](crate::validator_differs::svid_validator_differs), 1
-    /// where the bucket differs, and else 0.
+    /// where the bucket differs, and else 0. Of [`svid_status_sentence`](crate::status_sentence::svid_status_sentence), the length of the text
+    /// before any advice.
     pub more: usize,
 }
 

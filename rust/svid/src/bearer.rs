@@ -130,32 +130,12 @@ pub enum BearerFault {
 }
 
 impl BearerFault {
-    // Each with its number, its name, and what it says and advises.
-    pub(crate) const ROWS: [(BearerFault, u32, &'static str, &'static str); 4] = [
-        (
-            BearerFault::Absent,
-            ffi::BEARER_ABSENT,
-            "Absent",
-            "the request has no header field Authorization: send one such field, with Bearer and one token",
-        ),
-        (
-            BearerFault::Several,
-            ffi::BEARER_SEVERAL,
-            "Several",
-            "the request has more than one header field Authorization: send one such field, with Bearer and one token",
-        ),
-        (
-            BearerFault::Scheme,
-            ffi::BEARER_SCHEME,
-            "Scheme",
-            "the header field Authorization has another scheme than Bearer: send one such field, with Bearer and one token",
-        ),
-        (
-            BearerFault::Spelling,
-            ffi::BEARER_SPELLING,
-            "Spelling",
-            "in the header field Authorization, Bearer is not followed by one token: send one such field, with Bearer and one token",
-        ),
+    // Each with its number, and its name.
+    pub(crate) const ROWS: [(BearerFault, u32, &'static str); 4] = [
+        (BearerFault::Absent, ffi::BEARER_ABSENT, "Absent"),
+        (BearerFault::Several, ffi::BEARER_SEVERAL, "Several"),
+        (BearerFault::Scheme, ffi::BEARER_SCHEME, "Scheme"),
+        (BearerFault::Spelling, ffi::BEARER_SPELLING, "Spelling"),
     ];
 }
 // lists:end

@@ -247,56 +247,21 @@ pub enum MessageFault {
 }
 
 impl MessageFault {
-    // Each with its number, its name, and what it says and advises.
+    // Each with its number, its name, and what is due.
     pub(crate) const ROWS: [(MessageFault, u32, &'static str, &'static str); 8] = [
-        (
-            MessageFault::Magic,
-            ffi::MAGIC,
-            "Magic",
-            "the first four bytes are those of no version, and due is 4A 53 52, which is JSR, and then 02 or 01",
-        ),
-        (
-            MessageFault::Kind,
-            ffi::KIND,
-            "Kind",
-            "the fifth byte is that of no kind of message of the version, and due is 01 for a batch, or 02 for a summary, which only version 2 has",
-        ),
-        (
-            MessageFault::Count,
-            ffi::COUNT,
-            "Count",
-            "a batch tells of too many uses, and due is a number of at most 65,536 uses, or of 4,096 in version 1",
-        ),
-        (
-            MessageFault::UseKind,
-            ffi::USE_KIND,
-            "UseKind",
-            "the last byte of a use is neither 0 nor 1, and due is a use whose last byte is 00 or 01",
-        ),
-        (
-            MessageFault::UseExpired,
-            ffi::USE_EXPIRED,
-            "UseExpired",
-            "a use expires at its batch's moment or before it, and due is a use that expires after the batch's moment",
-        ),
-        (
-            MessageFault::UseFuture,
-            ffi::USE_FUTURE,
-            "UseFuture",
-            "a use was made after its batch's moment, and due is a use that was made at the batch's moment or before it",
-        ),
-        (
-            MessageFault::UseOrder,
-            ffi::USE_ORDER,
-            "UseOrder",
-            "a use is not greater than the one before it, and due is a use that is greater than the one before it",
-        ),
-        (MessageFault::Truncated, ffi::TRUNCATED, "Truncated", "the bytes end before the message does, and due is the rest of the message"),
+        (MessageFault::Magic, ffi::MAGIC, "Magic", "4A 53 52, which is JSR, and then 02 or 01"),
+        (MessageFault::Kind, ffi::KIND, "Kind", "01 for a batch, or 02 for a summary, which only version 2 has"),
+        (MessageFault::Count, ffi::COUNT, "Count", "a number of at most 65,536 uses, or of 4,096 in version 1"),
+        (MessageFault::UseKind, ffi::USE_KIND, "UseKind", "a use whose last byte is 00 or 01"),
+        (MessageFault::UseExpired, ffi::USE_EXPIRED, "UseExpired", "a use that expires after the batch's moment"),
+        (MessageFault::UseFuture, ffi::USE_FUTURE, "UseFuture", "a use that was made at the batch's moment or before it"),
+        (MessageFault::UseOrder, ffi::USE_ORDER, "UseOrder", "a use that is greater than the one before it"),
+        (MessageFault::Truncated, ffi::TRUNCATED, "Truncated", "the rest of the message"),
     ];
 }
 // lists:end
 
-named!(MessageFault);
+named!(MessageFault, due);
 
 /// An answer of the library that this crate does not know.
 #[derive(Debug, Clone, Copy, PartialEq, Eq)]

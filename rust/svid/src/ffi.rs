@@ -457,6 +457,7 @@ unsafe impl Send for Handle {}
 
 extern "C" {
     pub fn svid_version() -> u32;
+    pub fn svid_status_sentence(status: u32, out: *mut u8, out_len: usize, told: *mut Told) -> u32;
     pub fn svid_id_parse(text: *const u8, text_len: usize, out: *mut Id) -> u32;
     pub fn svid_id_allows(pattern: *const u8, pattern_len: usize, id: *const u8, id_len: usize, out: *mut Id) -> u32;
     pub fn svid_bearer_token(fields: u64, value: *const u8, value_len: usize, out: *mut Bearer) -> u32;

@@ -107,41 +107,16 @@ pub enum IdFault {
 }
 
 impl IdFault {
-    // Each with its number, its name, and what it says and advises.
-    pub(crate) const ROWS: [(IdFault, u32, &'static str, &'static str); 8] = [
-        (IdFault::TooLong, ffi::ID_TOO_LONG, "TooLong", "the ID has more than 2,048 bytes: write an ID as spiffe://DOMAIN/PATH"),
-        (IdFault::Scheme, ffi::ID_SCHEME, "Scheme", "the ID does not begin with spiffe://: write an ID as spiffe://DOMAIN/PATH"),
-        (
-            IdFault::DomainEmpty,
-            ffi::ID_DOMAIN_EMPTY,
-            "DomainEmpty",
-            "the trust domain name of the ID is empty: write an ID as spiffe://DOMAIN/PATH",
-        ),
-        (
-            IdFault::DomainByte,
-            ffi::ID_DOMAIN_BYTE,
-            "DomainByte",
-            "the ID has a byte that may not stand in a trust domain name: write an ID as spiffe://DOMAIN/PATH",
-        ),
-        (
-            IdFault::DomainLong,
-            ffi::ID_DOMAIN_LONG,
-            "DomainLong",
-            "the ID has a trust domain name of more than 255 bytes: write an ID as spiffe://DOMAIN/PATH",
-        ),
-        (IdFault::SegmentEmpty, ffi::ID_SEGMENT_EMPTY, "SegmentEmpty", "the ID has an empty segment: write an ID as spiffe://DOMAIN/PATH"),
-        (
-            IdFault::SegmentDots,
-            ffi::ID_SEGMENT_DOTS,
-            "SegmentDots",
-            "the ID has a segment that is one or two periods: write an ID as spiffe://DOMAIN/PATH",
-        ),
-        (
-            IdFault::PathByte,
-            ffi::ID_PATH_BYTE,
-            "PathByte",
-            "the ID has a byte that may not stand in a path segment: write an ID as spiffe://DOMAIN/PATH",
-        ),
+    // Each with its number, and its name.
+    pub(crate) const ROWS: [(IdFault, u32, &'static str); 8] = [
+        (IdFault::TooLong, ffi::ID_TOO_LONG, "TooLong"),
+        (IdFault::Scheme, ffi::ID_SCHEME, "Scheme"),
+        (IdFault::DomainEmpty, ffi::ID_DOMAIN_EMPTY, "DomainEmpty"),
+        (IdFault::DomainByte, ffi::ID_DOMAIN_BYTE, "DomainByte"),
+        (IdFault::DomainLong, ffi::ID_DOMAIN_LONG, "DomainLong"),
+        (IdFault::SegmentEmpty, ffi::ID_SEGMENT_EMPTY, "SegmentEmpty"),
+        (IdFault::SegmentDots, ffi::ID_SEGMENT_DOTS, "SegmentDots"),
+        (IdFault::PathByte, ffi::ID_PATH_BYTE, "PathByte"),
     ];
 }
 // lists:end

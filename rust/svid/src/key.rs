@@ -232,17 +232,17 @@ pub enum KeyFault {
 }
 
 impl KeyFault {
-    // Each with its number, its name, and what it says and advises.
-    pub(crate) const ROWS: [(KeyFault, u32, &'static str, &'static str); 9] = [
-        (KeyFault::NotObject, ffi::KEY_NOT_OBJECT, "NotObject", "the key is no JSON object"),
-        (KeyFault::Kty, ffi::KEY_KTY, "Kty", "the key's kty is not the algorithm's: RSA for RS and PS, EC for ES"),
-        (KeyFault::Alg, ffi::KEY_ALG, "Alg", "the key's alg is there, and is not the algorithm"),
-        (KeyFault::N, ffi::KEY_N, "N", "the key's n is no odd number in as few bytes of base64url as hold it"),
-        (KeyFault::Bits, ffi::KEY_BITS, "Bits", "the key's n has fewer than 2,048 bits, more than most_bits, or more than 16,384"),
-        (KeyFault::E, ffi::KEY_E, "E", "the key's e is no odd number from 3 to 2^31-1 in as few bytes of base64url as hold it"),
-        (KeyFault::Crv, ffi::KEY_CRV, "Crv", "the key's crv is not the algorithm's: P-256 for ES256, P-384 for ES384, P-521 for ES512"),
-        (KeyFault::X, ffi::KEY_X, "X", "the key's x is not base64url of 32, 48 or 66 bytes, as the curve has it"),
-        (KeyFault::Y, ffi::KEY_Y, "Y", "the key's y is not base64url of 32, 48 or 66 bytes, as the curve has it"),
+    // Each with its number, and its name.
+    pub(crate) const ROWS: [(KeyFault, u32, &'static str); 9] = [
+        (KeyFault::NotObject, ffi::KEY_NOT_OBJECT, "NotObject"),
+        (KeyFault::Kty, ffi::KEY_KTY, "Kty"),
+        (KeyFault::Alg, ffi::KEY_ALG, "Alg"),
+        (KeyFault::N, ffi::KEY_N, "N"),
+        (KeyFault::Bits, ffi::KEY_BITS, "Bits"),
+        (KeyFault::E, ffi::KEY_E, "E"),
+        (KeyFault::Crv, ffi::KEY_CRV, "Crv"),
+        (KeyFault::X, ffi::KEY_X, "X"),
+        (KeyFault::Y, ffi::KEY_Y, "Y"),
     ];
 }
 // lists:end

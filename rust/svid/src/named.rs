@@ -1,8 +1,14 @@
 //! What all enums share that are written from a list of statuses.
 
-/// Gives an enum with `ROWS` its names, its sentences, and the traits of an error.
+/// Gives an enum with `ROWS` its names, its sentences, and the traits of an error. `due` says that a row ends with what is due.
 macro_rules! named {
     ($kind:ident) => {
+        named!($kind, |_| "");
+    };
+    ($kind:ident, due) => {
+        named!($kind, |row: &(_, _, _, &'static str)| row.3);
+    };
+    ($kind:ident, $due:expr) => {
         impl $kind {
             /// The name in docs/FORMATS.md.
             pub fn name(self) -> &'static str {
@@ -13,8 +19,9 @@ macro_rules! named {
 
         impl $kind {
             /// What is wrong, and what to do.
-            pub(crate) fn says(self) -> &'static str {
-                Self::ROWS.iter().find(|row| row.0 == self).map_or("", |row| row.3)
+            pub(crate) fn says(self) -> crate::words::Says {
+                let row = Self::ROWS.iter().find(|row| row.0 == self);
+                crate::words::Says { status: row.map_or(0, |row| row.1), due: row.map_or("", $due) }
             }
         }
 

@@ -115,56 +115,16 @@ pub enum PatternFault {
 }
 
 impl PatternFault {
-    // Each with its number, its name, and what it says and advises.
-    pub(crate) const ROWS: [(PatternFault, u32, &'static str, &'static str); 8] = [
-        (
-            PatternFault::TooLong,
-            ffi::PATTERN_TOO_LONG,
-            "TooLong",
-            "the ID in the pattern has more than 2,048 bytes: write spiffe://DOMAIN/PATH for one ID, spiffe://DOMAIN/PATH/* for all below it, or spiffe://DOMAIN for all of a trust domain",
-        ),
-        (
-            PatternFault::Scheme,
-            ffi::PATTERN_SCHEME,
-            "Scheme",
-            "the pattern does not begin with spiffe://: write spiffe://DOMAIN/PATH for one ID, spiffe://DOMAIN/PATH/* for all below it, or spiffe://DOMAIN for all of a trust domain",
-        ),
-        (
-            PatternFault::DomainEmpty,
-            ffi::PATTERN_DOMAIN_EMPTY,
-            "DomainEmpty",
-            "the trust domain name of the pattern is empty: write spiffe://DOMAIN/PATH for one ID, spiffe://DOMAIN/PATH/* for all below it, or spiffe://DOMAIN for all of a trust domain",
-        ),
-        (
-            PatternFault::DomainByte,
-            ffi::PATTERN_DOMAIN_BYTE,
-            "DomainByte",
-            "the pattern has a byte that may not stand in a trust domain name: write spiffe://DOMAIN/PATH for one ID, spiffe://DOMAIN/PATH/* for all below it, or spiffe://DOMAIN for all of a trust domain",
-        ),
-        (
-            PatternFault::DomainLong,
-            ffi::PATTERN_DOMAIN_LONG,
-            "DomainLong",
-            "the pattern has a trust domain name of more than 255 bytes: write spiffe://DOMAIN/PATH for one ID, spiffe://DOMAIN/PATH/* for all below it, or spiffe://DOMAIN for all of a trust domain",
-        ),
-        (
-            PatternFault::SegmentEmpty,
-            ffi::PATTERN_SEGMENT_EMPTY,
-            "SegmentEmpty",
-            "the pattern has an empty segment: write spiffe://DOMAIN/PATH for one ID, spiffe://DOMAIN/PATH/* for all below it, or spiffe://DOMAIN for all of a trust domain",
-        ),
-        (
-            PatternFault::SegmentDots,
-            ffi::PATTERN_SEGMENT_DOTS,
-            "SegmentDots",
-            "the pattern has a segment that is one or two periods: write spiffe://DOMAIN/PATH for one ID, spiffe://DOMAIN/PATH/* for all below it, or spiffe://DOMAIN for all of a trust domain",
-        ),
-        (
-            PatternFault::PathByte,
-            ffi::PATTERN_PATH_BYTE,
-            "PathByte",
-            "the pattern has a byte that may not stand in a path segment: write spiffe://DOMAIN/PATH for one ID, spiffe://DOMAIN/PATH/* for all below it, or spiffe://DOMAIN for all of a trust domain",
-        ),
+    // Each with its number, and its name.
+    pub(crate) const ROWS: [(PatternFault, u32, &'static str); 8] = [
+        (PatternFault::TooLong, ffi::PATTERN_TOO_LONG, "TooLong"),
+        (PatternFault::Scheme, ffi::PATTERN_SCHEME, "Scheme"),
+        (PatternFault::DomainEmpty, ffi::PATTERN_DOMAIN_EMPTY, "DomainEmpty"),
+        (PatternFault::DomainByte, ffi::PATTERN_DOMAIN_BYTE, "DomainByte"),
+        (PatternFault::DomainLong, ffi::PATTERN_DOMAIN_LONG, "DomainLong"),
+        (PatternFault::SegmentEmpty, ffi::PATTERN_SEGMENT_EMPTY, "SegmentEmpty"),
+        (PatternFault::SegmentDots, ffi::PATTERN_SEGMENT_DOTS, "SegmentDots"),
+        (PatternFault::PathByte, ffi::PATTERN_PATH_BYTE, "PathByte"),
     ];
 }
 // lists:end

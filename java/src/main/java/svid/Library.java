@@ -64,6 +64,8 @@ final class Library {
 
     static native int svid_version();
 
+    static native int svid_status_sentence(int status, Pointer out, long outLen, Pointer told);
+
     static native int svid_validator_open_by_lengths(
             Pointer v, Pointer terms, Pointer own, long ownLen, Pointer lens, long lensLen, Pointer bundles, long bundlesLen, Pointer told);
 

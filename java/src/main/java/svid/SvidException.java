@@ -164,7 +164,7 @@ public abstract sealed class SvidException extends RuntimeException {
         private final long offset;
 
         BadMessages(Status status, long message, long offset) {
-            super(status.label() + (message == 0 ? "" : " in message " + message + " at byte " + offset) + ": " + status.says(), null);
+            super(status.label() + (message == 0 ? "" : " in message " + message + " at byte " + offset) + ": " + status.clause(), null);
             this.reason = status.label();
             this.message = message;
             this.offset = offset;

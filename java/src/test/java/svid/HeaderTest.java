@@ -104,7 +104,17 @@ public class HeaderTest {
         assertEquals(named(names, numbers(names)), named(names, got));
     }
 
-    /** Each function has the parameters of the header, in their order: pointers, lengths, and numbers of 64 bits. */
+    /** What a parameter of the header is in Java. */
+    private static String inJava(String parameter) {
+        if (parameter.contains("*")) {
+            return "Pointer";
+        }
+        return parameter.startsWith("size_t ") || parameter.startsWith("uint64_t ") ? "long"
+                : parameter.startsWith("uint32_t ")                                 ? "int"
+                                                                                    : parameter;
+    }
+
+    /** Each function has the parameters of the header, in their order: pointers, lengths, and numbers of 64 and of 32 bits. */
     @Test
     public void functions() {
         int count = 0;
@@ -118,10 +128,7 @@ public class HeaderTest {
             List<String> due = Arrays.stream(parameters.split(","))
                                        .map(String::strip)
                                        .filter(one -> !one.equals("void"))
-                                       .map(one
-                                               -> one.contains("*")                                               ? "Pointer"
-                                                       : one.startsWith("size_t ") || one.startsWith("uint64_t ") ? "long"
-                                                                                                                  : one)
+                                       .map(HeaderTest::inJava)
                                        .toList();
             assertEquals(it.getName(), due, Arrays.stream(it.getParameterTypes()).map(Class::getSimpleName).toList());
         }
