@@ -38,7 +38,7 @@ func wordsOf(status C.uint32_t) words {
 // written is a text of the library, and how much of it is no advice.
 func written(write func(out *C.uint8_t, room C.size_t, told *C.svid_told) C.uint32_t) (string, int) {
 	var told C.svid_told
-	out := make([]byte, 256)
+	out := make([]byte, 64)
 	for write(start(out), C.size_t(len(out)), &told) != C.SVID_OK {
 		out = make([]byte, told.len) // (it had no room)
 	}

@@ -24,7 +24,7 @@ DUE: dict[int, str] = {
 
 def _written(write: Callable[..., int], status: int) -> tuple[bytes, int]:
     """A text that the library has for a status, and how much of it is no advice."""
-    room, told = bytearray(256), lib.Told()
+    room, told = bytearray(64), lib.Told()
     while write(status, lib.address(room), len(room), lib.address(told)) != lib.OK:
         room = bytearray(told.len)  # (it had no room)
     return bytes(room[: told.len]), told.more

@@ -6,7 +6,7 @@ use crate::ffi::{self, Told};
 
 /// Writes what is wrong by a status, `whence`, and what to do.
 pub(crate) fn write(f: &mut fmt::Formatter<'_>, status: u32, whence: fmt::Arguments<'_>) -> fmt::Result {
-    let (mut room, mut long, mut told) = ([0; 512], Vec::new(), Told::default());
+    let (mut room, mut long, mut told) = ([0; 128], Vec::new(), Told::default());
     let mut out = &mut room[..];
     // SAFETY: `out` is a slice with its length, and `told` is written alone.
     while unsafe { ffi::svid_status_sentence(status, out.as_mut_ptr(), out.len(), &mut told) } != ffi::OK {

@@ -5,7 +5,7 @@ import java.nio.charset.StandardCharsets;
 
 /** What the library says of a status: what is wrong, and what to do, or nothing; each is a sentence. */
 record Words(String says, String advice) {
-    private static final long USUAL = 512;
+    private static final long USUAL = 64;
 
     /** Asks the library. Null where there is no memory for the question. */
     static Words of(int number) {
