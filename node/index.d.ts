@@ -52,9 +52,102 @@ export interface BundlesOptions {
   rsaBits?: number;
 }
 
+/**
+ * How often a token is accepted. "once": once by this validator. "strict": once by all validators that share the `store`. "bound": again and again, but
+ * from one caller alone, by all that share the `store`. "reuse": again and again.
+ */
+export type Mode = "once" | "strict" | "bound" | "reuse";
+
+/** What is put under a key that has no owner yet. */
+export interface Claim {
+  /** 32 bytes by which all uses of the token are known. */
+  readonly key: Uint8Array;
+  /** 32 bytes that say whose claim it is. */
+  readonly owner: Uint8Array;
+  /** When the token expires. */
+  readonly expires: bigint;
+}
+
+/** What a store answers to a claim. */
+export interface Found {
+  /** 32 bytes: the owner that the key has after the put. It may be that of an earlier claim. */
+  readonly owner: Uint8Array;
+  /** The store's time, read at the put or after it. */
+  readonly time: Seconds;
+  /**
+   * Tokens that expire by then may have been claimed before the store lost entries: no validator accepts them. Left out, the store has never lost
+   * one.
+   */
+  readonly deaf?: Seconds;
+}
+
+/** What a store is told beside a call. */
+export interface Asked {
+  /** Is aborted once the validator is closed, so that nobody waits for the answer any more. */
+  readonly signal: AbortSignal;
+}
+
+/**
+ * The store of a group, which validators in the modes "strict" and "bound" share. It keeps the first claim of each token key:
+ *
+ * - Two puts of one key never overlap, whoever makes them.
+ * - An entry stays until its token has expired by the store's own clock, and for a margin after that: at least the validators' `ahead`, and what
+ *   the clock of the store may step back.
+ * - Before it answers again after it may have lost entries, it raises `Found.deaf`: to its time at the loss plus the validators' `longest` plus twice
+ *   their `ahead`.
+ *
+ * Several calls may be under way at once. A call that fails throws anything: then nobody knows what the store has, and the validator puts the same
+ * claims again. A call ends within some seconds, even if the server does not answer.
+ */
+export interface Store {
+  /**
+   * Puts each claim if its key has no owner yet, and says what each key has afterwards, in the order of the claims. Without claims it answers an
+   * empty list: so a validator learns that the store is there.
+   */
+  put(claims: readonly Claim[], about: Asked): Promise<readonly Found[]>;
+  /**
+   * From now on each put of this key finds an owner of 32 zeros, whoever claimed it before. The entry stays as one with this expiry does. What it
+   * answers does not count.
+   */
+  withdraw(key: Uint8Array, expires: bigint, about: Asked): Promise<unknown>;
+}
+
+/** What `new MemoryStore` takes. */
+export interface MemoryStoreOptions {
+  /** Its clock, in seconds since 1970. */
+  now?: () => Seconds;
+  /** For how many seconds an entry stays after its token has expired. By default 60. */
+  margin?: Seconds;
+  /** How many seconds a token may live that is claimed. By default 3,600. */
+  lasts?: Seconds;
+}
+
+/** A store in the memory of one process, for tests. */
+export class MemoryStore implements Store {
+  /** Makes an empty store. */
+  constructor(options?: MemoryStoreOptions);
+  /** Is that of `Store`. */
+  put(claims: readonly Claim[]): Promise<Found[]>;
+  /** Is that of `Store`. */
+  withdraw(key: Uint8Array, expires: Seconds): Promise<void>;
+  /** Loses all entries, as a server does that crashes. */
+  lose(): Promise<void>;
+}
+
 /** What `Validator.open` takes. */
 export interface ValidatorOptions extends BundlesOptions {
-  /** How many seconds a message's moment may lie past `now`: a little more than clocks differ. By default 10. */
+  /** How often a token is accepted. By default "once". */
+  mode?: Mode;
+  /** The store of the group, for the modes "strict" and "bound". */
+  store?: Store;
+  /**
+   * Patterns of the SPIFFE IDs that may call (`Validator.allows`). A good token of another caller throws `NotAllowed`, and is not used up. Left out,
+   * all may call. What is no pattern throws RangeError, and so does an empty list.
+   */
+  callers?: string | Iterable<string>;
+  /** How many seconds `check`, `withdraw` and `withdrawKey` may take, until they throw `Unavailable`. By default 2. */
+  wait?: number;
+  /** How many seconds a message's moment, or the store's time, may lie past `now`: a little more than clocks differ. By default 10. */
   ahead?: Seconds;
   /**
    * A `now` more than so many seconds past the record's moment is answered with `Jump`, so that a wrong clock does not expire the record. By
@@ -63,6 +156,16 @@ export interface ValidatorOptions extends BundlesOptions {
   step?: Seconds;
   /** 16 bytes that name this validator among all that share its record; by default random ones. Two of one ID accept a token twice. */
   validatorId?: Uint8Array;
+}
+
+/** What a check is given beside its token. */
+export interface CheckOptions {
+  /** The time of the call. By default that of the clock. */
+  readonly now?: Seconds;
+  /**
+   * What tells who presents the token from all others, as its address or certificate, in mode "bound" alone. A text counts as its bytes in UTF-8.
+   */
+  readonly caller?: string | Uint8Array;
 }
 
 /** One entry of a record: a token was accepted, or withdrawn. */
@@ -152,20 +255,35 @@ export class Bundles {
  */
 export class Validator {
   protected constructor(ready: never);
-  /** Opens a validator whose record is empty. Throws `BadBundles`, `OutOfMemory`, and TypeError and RangeError for options that can't be. */
+  /**
+   * Opens a validator whose record is empty. With a store it waits until that answers, but no longer than `wait`: `unready` says whether it has.
+   * Throws `BadBundles`, `OutOfMemory`, and TypeError and RangeError for options that can't be.
+   */
   static open(options: ValidatorOptions): Promise<Validator>;
-  /** Accepts a token, once. Throws `Refusal`, whose `name` says why not, and `Unverifiable`. */
-  check(token: Token, now?: Seconds): Promise<Accepted>;
+  /** Whether tokens are to be sent to this validator: `unready` says null. */
+  readonly ready: boolean;
+  /**
+   * The first reason why no tokens are to be sent to this validator, as a sentence, or null if it is ready. Ask it where a load balancer asks, as at
+   * the path /readyz: it also asks the store again, and advances the record to `now`.
+   */
+  unready(now?: Seconds): string | null;
+  /**
+   * Accepts a token, as `mode` says. Throws `Refusal`, whose `name` says why not; `NotAllowed` for a good token of who may not call; `Unavailable` if
+   * the store fails, or if the check takes longer than `wait`; and `Unverifiable`.
+   *
+   * @param about the time, or an object with the time and the caller. In mode "bound" it must have a caller, and in any other mode none.
+   */
+  check(token: Token, about?: Seconds | CheckOptions): Promise<Accepted>;
   /** Answers what `check` would, but the record gains no use: `check` may still accept it. */
   judge(token: Token, now?: Seconds): Promise<Accepted>;
   /**
    * Withdraws a token until it expires: from now on it is refused as `Withdrawn`. Send the `message` of what it returns to the other validators.
    *
    * It verifies no signature: the token is withdrawn that has this trust domain and `jti`, or this text where it has no `jti`. Throws `Gone` for
-   * an expired token, and `Refusal` for what is no JWT-SVID.
+   * an expired token, and `Refusal` for what is no JWT-SVID. Throws `Unavailable` if the store may lack it: then the token is withdrawn here.
    */
   withdraw(token: Token, now?: Seconds): Promise<Use>;
-  /** Withdraws the token with this key of 32 bytes (`Use.key`), which expires at `expires`. Throws `Gone` if it has expired. */
+  /** Withdraws the token with this key of 32 bytes (`Use.key`), which expires at `expires`. Throws `Gone` if it has expired, and `Unavailable`. */
   withdrawKey(key: Uint8Array, expires: Seconds, now?: Seconds): Promise<Use>;
   /** What a token says, for a log, say. Throws `Refusal` for what is no JWT-SVID. */
   says(token: Token): Says;
@@ -220,32 +338,35 @@ export interface Outgoing {
 }
 
 /** What middleware and listeners take beside a validator. */
-export interface GuardOptions {
+export interface GuardOptions<Request extends Incoming = Incoming> {
   /**
    * Patterns of the SPIFFE IDs that may call (`Validator.allows`). Another one with a good token is answered with status 403, and the token is not
    * used up. Left out, all may call. What is no pattern throws RangeError, and so does an empty list.
    */
   allow?: string | readonly string[];
+  /** Says who presents the token of a request, as the client's address. A validator in mode "bound" needs it (`CheckOptions.caller`). */
+  caller?: (req: Request) => string | Uint8Array;
   /** Is told why a request was answered with status 503. */
-  onError?: (why: unknown, req: Incoming) => void;
+  onError?: (why: unknown, req: Request) => void;
 }
 
 /**
  * Middleware for Express and its like: checks the bearer token of each request, and goes on if it is good. `req.svid` is then what the check
  * answered, whatever stood there before.
  *
- * Any other request is answered with status 401 and a header WWW-Authenticate. Where nothing can be said of the token, the status is 503.
+ * Any other request is answered with status 401 and a header WWW-Authenticate, and a good token of who may not call with status 403. Where nothing can
+ * be said of the token, as while the store is away, the status is 503.
  */
-export function guard(
+export function guard<Request extends Incoming = Incoming>(
   validator: Validator,
-  options?: GuardOptions,
-): (req: Incoming & { svid?: Accepted }, res: Outgoing, next: (why?: unknown) => void) => Promise<void>;
+  options?: GuardOptions<Request>,
+): (req: Request & { svid?: Accepted }, res: Outgoing, next: (why?: unknown) => void) => Promise<void>;
 
 /** A listener for node:http that calls `handler` where the request has a good token, and answers any other request as `guard` does. */
 export function protect<Request extends Incoming, Response extends Outgoing>(
   validator: Validator,
   handler: (req: Request & { svid: Accepted }, res: Response) => unknown,
-  options?: GuardOptions,
+  options?: GuardOptions<Request>,
 ): (req: Request, res: Response) => Promise<unknown>;
 
 /** The base of all errors of this package. Its `name` says which one it is, and stays the same. */
@@ -343,6 +464,15 @@ export class BadMessages extends SvidError {
   /** The number of the bad byte in it, counted from 0. */
   readonly offset: number;
 }
+
+/** The token is good, and none of the `callers` allows its subject. Answer with status 403: the token is not used up. */
+export class NotAllowed extends SvidError {}
+
+/**
+ * Nobody accepts the token: the store failed, or did not answer in time. `cause` is what the store threw last, if it did. Answer with status 503. The token
+ * may be used up all the same, and then its client needs a new one.
+ */
+export class Unavailable extends SvidError {}
 
 /** WebCrypto here, or your `verify`, could not say whether a key made the signature: see `cause`. Nothing was accepted. */
 export class Unverifiable extends SvidError {}

@@ -50,6 +50,20 @@ export class BadMessages extends SvidError {
   }
 }
 
+/** The token is good, and none of the `callers` of the validator allows its subject. Answer with status 403: the token is not used up. */
+export class NotAllowed extends SvidError {
+  constructor() {
+    super("the token is good, and its subject is none of the callers that may call");
+  }
+}
+
+/** Nobody accepts the token: the store failed, or did not answer in time. Answer with status 503. The token may be used up all the same. */
+export class Unavailable extends SvidError {
+  constructor(says, cause) {
+    super(says, cause === undefined ? {} : { cause });
+  }
+}
+
 /** The platform's WebCrypto, or a verifier of your own, could not say whether a key made a signature. Nothing was accepted. */
 export class Unverifiable extends SvidError {
   constructor(options) {
@@ -73,7 +87,7 @@ export class Stopped extends SvidError {
 
 // (each by its own text, since tools that make scripts shorter change the names of classes)
 for (const [name, kind] of Object.entries({
-  SvidError, Closed, Jump, Gone, TooFar, BadBundles, BadMessages, Unverifiable, OutOfMemory, Stopped,
+  SvidError, Closed, Jump, Gone, TooFar, BadBundles, BadMessages, NotAllowed, Unavailable, Unverifiable, OutOfMemory, Stopped,
 })) {
   Object.defineProperty(kind.prototype, "name", { value: name, configurable: true, writable: true });
 }
@@ -170,15 +184,30 @@ const WORDS = new Map([
 ]);
 // lists:end
 
+// Why a token has no answer, or why no tokens are to be sent here, by the status. (words.test.mjs compares these with lists/statuses.toml.)
+const UNAVAILABLE = new Map([
+  [58, ["The token expires more than lasts seconds past the store's time.", "Set the store's clock right."]],
+  [59, ["The token may have been claimed before the store lost entries.", "Present a token that was issued later."]],
+  [201, ["The time of the request was over before it had an answer.", "Try again."]],
+  [203, ["Nobody waits for the answer any more.", ""]],
+  [214, ["The group's store was not reached yet.", ""]],
+  [219, ["The clock went ahead too far at once.", "Set the clock right."]],
+  [221, ["The group's store does not answer, so no token can be claimed.", ""]],
+  [222, ["The store has lost entries, so no token is accepted that lives as long as it may.", ""]],
+]);
+
+/** Whether a status says that there is no answer now. */
+export const isUnavailable = (status) => UNAVAILABLE.has(status);
+
 /** What a status says: what is wrong, where that is, and what to do. */
 export function wordsOf(status, where = "") {
-  const [says, advice] = WORDS.get(status);
+  const [says, advice] = WORDS.get(status) ?? UNAVAILABLE.get(status);
   return [says, where, advice].filter(Boolean).join(" ");
 }
 
 // Those that have an error of their own.
-const NO_MEMORY = 2, CLOSED = 5, GONE = 7, TOO_FAR = 8, JUMP = 9;
-const FAULTS = new Map([[NO_MEMORY, OutOfMemory], [CLOSED, Closed], [GONE, Gone], [TOO_FAR, TooFar], [JUMP, Jump]]);
+const NO_MEMORY = 2, CLOSED = 5, GONE = 7, TOO_FAR = 8, JUMP = 9, NOT_ALLOWED = 91;
+const FAULTS = new Map([[NO_MEMORY, OutOfMemory], [CLOSED, Closed], [GONE, Gone], [TOO_FAR, TooFar], [JUMP, Jump], [NOT_ALLOWED, NotAllowed]]);
 // Those of bundles that can't be read, and of these the ones that are about one of several trust domains.
 const TOO_MUCH = 3, BUNDLES_NOT_OBJECT = 31, BUNDLES_DOMAIN = 32, BUNDLES_KEYS = 33, BUNDLES_TWICE = 38;
 const BUNDLE_FAULTS = new Set([TOO_MUCH, BUNDLES_NOT_OBJECT, BUNDLES_DOMAIN, BUNDLES_KEYS]);
@@ -186,10 +215,11 @@ const RANKED = new Set([BUNDLES_DOMAIN, BUNDLES_KEYS]);
 // Those of a bundle that can't be joined to others.
 const DOCUMENT_FAULTS = new Set([BUNDLES_NOT_OBJECT, BUNDLES_DOMAIN, BUNDLES_KEYS, BUNDLES_TWICE]);
 
-/** The error for a status that is not OK. `told` is what the call told beside it. */
-export function ofStatus(status, told) {
+/** The error for a status that is not OK. `told` is what the call told beside it, and `cause` what the store threw last. */
+export function ofStatus(status, told, cause) {
   if (SENTENCES.has(status)) return new Refusal(...SENTENCES.get(status));
   if (FAULTS.has(status)) return new (FAULTS.get(status))();
+  if (isUnavailable(status)) return new Unavailable(wordsOf(status), cause);
   if (MESSAGE_FAULTS.has(status)) {
     const [reason, says] = MESSAGE_FAULTS.get(status);
     return new BadMessages(reason, told.message, told.offset, says);

@@ -1,10 +1,11 @@
-// What callers give: times, audiences, bundles and validator IDs, as the library takes them.
+// What callers give: times, audiences, bundles, validator IDs, modes and callers, as the library takes them. And what a store answers.
 
 import { BadBundles } from "./errors.js";
-import { ANY, TOKEN_ROOM, utf8 } from "./library.js";
+import { ANY, MODES, TOKEN_ROOM, utf8 } from "./library.js";
 
 const YEAR_5138 = 100_000_000_000n;
-const VALIDATOR_ID = 16, KEY = 32;
+const VALIDATOR_ID = 16, KEY = 32, OWNER = 32;
+const ANYBODY = "spiffe://example.org";
 
 /** The time of a call, in whole seconds: by default that of the clock. */
 export function seconds(now = Date.now() / 1000) {
@@ -43,9 +44,65 @@ export function audiences(given) {
 
 /** The 16 bytes that name a validator: by default random ones. */
 export async function validatorId(given) {
-  if (given !== undefined) return sized("validatorId", given, VALIDATOR_ID);
-  const crypto = globalThis.crypto ?? (await import("node:crypto")).webcrypto;
-  return crypto.getRandomValues(new Uint8Array(VALIDATOR_ID));
+  return given === undefined ? random() : sized("validatorId", given, VALIDATOR_ID);
+}
+
+/** 16 random bytes. */
+export async function random() {
+  return (await webCrypto()).getRandomValues(new Uint8Array(VALIDATOR_ID));
+}
+
+/** WebCrypto, which is not global in each Node 18. */
+export const webCrypto = async () => globalThis.crypto ?? (await import("node:crypto")).webcrypto;
+
+/** The mode of a validator, and the store that it claims tokens in, if it does. */
+export function modeOf({ mode = "once", store }) {
+  if (!Object.hasOwn(MODES, mode)) throw new RangeError(`mode is one of ${Object.keys(MODES).join(", ")}, and not ${String(mode)}`);
+  if ((store !== undefined) !== (mode === "strict" || mode === "bound")) {
+    throw new TypeError("give a store in the modes strict and bound, and in no other one");
+  }
+  if (store !== undefined && (typeof store?.put !== "function" || typeof store.withdraw !== "function")) {
+    throw new TypeError("a store has the methods put and withdraw");
+  }
+  return { mode, store };
+}
+
+/** For how many seconds a call waits. */
+export function waitOf(given = 2) {
+  if (typeof given === "number" && given > 0) return given;
+  throw new RangeError("wait is a number of seconds, and more than 0");
+}
+
+/** The patterns of who may call, once each of them is one. Undefined for all callers, which an empty list is not. */
+export function patternsOf(name, given, allows) {
+  if (given === undefined) return undefined;
+  const patterns = typeof given === "string" ? [given] : [...given];
+  if (!patterns.length) throw new RangeError(`${name} is empty: name who may call, or leave it out to let all call`);
+  for (const it of patterns) allows(nameOf("a pattern", it), ANYBODY);
+  return patterns;
+}
+
+/** What a check is given beside its token: its time, or an object that may also have its caller. */
+export function aboutCheck(given) {
+  if (![Object.prototype, null].includes(given && Object.getPrototypeOf(given))) return { now: given };
+  const unknown = Object.keys(given).find((it) => it !== "now" && it !== "caller");
+  if (unknown !== undefined) throw new TypeError(`a check takes now and caller, and no ${unknown}`);
+  return given;
+}
+
+/** The 32 bytes that tell a caller from all others. */
+export async function callerOf(given) {
+  if (typeof given !== "string" && !(given instanceof Uint8Array)) throw new TypeError("caller is a string or a Uint8Array");
+  return new Uint8Array(await (await webCrypto()).subtle.digest("SHA-256", typeof given === "string" ? utf8(given) : given));
+}
+
+/** What a store answers to so many claims. Throws TypeError for what is none. */
+export function foundOf(given, count) {
+  const found = Array.from(given, ({ owner, time, deaf = 0n }) => ({
+    owner: sized("owner", owner, OWNER), time: wholeOf("time", time), deaf: wholeOf("deaf", deaf),
+  }));
+  if (found.length !== count) throw new TypeError(`${count} claims have ${found.length} answers`);
+  return found;
 }
 
 /**

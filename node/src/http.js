@@ -1,6 +1,7 @@
 // Middleware for Express, and for servers of node:http: lets in requests with a good token.
 
-import { Refusal } from "./errors.js";
+import { NotAllowed, Refusal } from "./errors.js";
+import { patternsOf } from "./given.js";
 
 const HEADER = "authorization";
 const NOT_ALLOWED = 'Bearer error="insufficient_scope", error_description="NotAllowed"';
@@ -11,46 +12,44 @@ const NOT_BEARER = 'Bearer error="invalid_request", error_description="NotBearer
  * Middleware for Express and its like: checks the bearer token of each request, and goes on if it is good. `req.svid` is then what the check
  * answered, whatever stood there before.
  */
-export function guard(validator, { onError = () => {}, allow } = {}) {
-  const patterns = wanted(validator, allow);
+export function guard(validator, options) {
+  const terms = termsOf(validator, options);
   return async function svid(req, res, next) {
-    const accepted = await admitted(validator, req, res, onError, patterns);
+    const accepted = await admitted(terms, req, res);
     // (outside of any try: what the service throws is its own)
     if (accepted) next();
   };
 }
 
 /** A listener for node:http that calls `handler` where the request has a good token. */
-export function protect(validator, handler, { onError = () => {}, allow } = {}) {
-  const patterns = wanted(validator, allow);
+export function protect(validator, handler, options) {
+  const terms = termsOf(validator, options);
   return async function svid(req, res) {
-    if (await admitted(validator, req, res, onError, patterns)) return handler(req, res);
+    if (await admitted(terms, req, res)) return handler(req, res);
   };
 }
 
-// The patterns of who may call, once each of them is one. Undefined for all callers, which an empty list is not.
-function wanted(validator, allow) {
+// On what terms requests are let in.
+function termsOf(validator, { onError = () => {}, allow, caller } = {}) {
   if (typeof validator?.check !== "function" || typeof validator?.bearer !== "function") throw new TypeError("a Validator is wanted");
-  if (allow === undefined) return undefined;
-  const patterns = typeof allow === "string" ? [allow] : [...allow];
-  if (!patterns.length) throw new RangeError("allow is empty: name who may call, or leave it out to let all call");
-  for (const it of patterns) validator.allows(it, "spiffe://example.org");
-  return patterns;
+  if (caller !== undefined && typeof caller !== "function") throw new TypeError("caller is a function of a request");
+  return { validator, onError, caller, patterns: patternsOf("allow", allow, (...it) => validator.allows(...it)) };
 }
 
 // Whether a request is let in. Else it is answered here.
-async function admitted(validator, req, res, onError, patterns) {
+async function admitted({ validator, onError, caller, patterns }, req, res) {
   try {
     delete req.svid;
     const { token, several, spelling } = validator.bearer(valuesOf(req));
     if (token === undefined) return answer(res, 401, several || spelling ? NOT_BEARER : NO_TOKEN);
     if (patterns && !patterns.some((it) => validator.allows(it, validator.says(token).spiffeId))) {
       await validator.judge(token);
-      return answer(res, 403, NOT_ALLOWED);
+      throw new NotAllowed();
     }
-    req.svid = await validator.check(token);
+    req.svid = await validator.check(token, caller && { caller: caller(req) });
     return true;
   } catch (why) {
+    if (why instanceof NotAllowed) return answer(res, 403, NOT_ALLOWED);
     if (why instanceof Refusal) return answer(res, 401, `Bearer error="invalid_token", error_description="${why.name}"`);
     try {
       // (who is told must not keep the request from its answer, nor end the process, at once or later)

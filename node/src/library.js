@@ -5,7 +5,9 @@
 
 import { ofBundles, ofDocuments, ofStatus, wordsOf, Closed, OutOfMemory, Stopped } from "./errors.js";
 
-const OK = 0, TOO_SHORT = 1, NO_MEMORY = 2, BEARER_SEVERAL = 82, BEARER_SPELLING = 84, NOT_ALLOWED = 91;
+/** What a call answers that did what it is for. */
+export const OK = 0;
+const TOO_SHORT = 1, NO_MEMORY = 2, CLOSED = 5, JUMP = 9, BEARER_SEVERAL = 82, BEARER_SPELLING = 84, NOT_ALLOWED = 91;
 const FIRST_REFUSAL = 101, TOO_LONG = 101;
 const SPKI_ROOM = 2100;
 /** How many bytes the message of a use has: the least that `parts` is given. */
@@ -18,22 +20,36 @@ export const ANY = 2n ** 64n - 1n;
 export const USUAL_RSA_BITS = 4096, LEAST_RSA_BITS = 2048, MOST_RSA_BITS = 16384;
 /** What `open` is to open. */
 export const VALIDATOR = "validator", BUNDLES = "bundles";
+/** The modes of a member, by their names. */
+export const MODES = { once: 0n, strict: 1n, bound: 2n, reuse: 3n };
+/** What is to be done for a request. */
+export const NOTHING = 0n, JUDGE = 1n, CLAIM = 3n, ANSWER = 4n;
+/** No number of a request, and no moment. */
+export const NONE = 2n ** 64n - 1n;
+/** Who keeps a withdrawal, and that one of them may not have it. */
+export const AT_DISK = 0n, AT_STORE = 1n, AT_LOG = 2n, MAY_LACK = 2n;
 
 // The sizes of the header's structures, in bytes.
-const TOLD = 40, TERMS = 40, SETTING = 32, HANDLE = 16, DIGEST = 32, VALIDATOR_ID = 16, WORD = 8, PART = 88, DOCUMENT = 24;
+const TOLD = 40, TERMS = 40, SETTING = 32, HANDLE = 16, DIGEST = 32, VALIDATOR_ID = 16, WORD = 8, PART = 88, DOCUMENT = 24, PACING = 24, USE = 64;
 
 // Room that each instance has from its beginning, and where it stands: no call on a token needs more, but for long rows. A token that has
 // more bytes than its room is too long for the library however many those are, so the rest is not lent.
 export const TOKEN_ROOM = 65_544;
-const TOKEN = 0, TOLD_AT = 65_544, USED = 65_584, QUESTION = 65_648, SMALL = 65_680, OUT = 65_936, ROOM = 131_056;
+const TOKEN = 0, TOLD_AT = 65_544, USED = 65_584, QUESTION = 65_648, SMALL = 65_680, DEED = 65_936, KEY = 66_032, SIGNATURE = 131_568;
+const OUT = 180_720, ROOM = 262_128;
 const OUT_ROOM = ROOM - OUT;
+const PACING_FIRST = [0n, 0n, 10n];
 
 const NEEDS = [
   "room", "free_room", "svid_version", "svid_id_parse", "svid_key_spki", "svid_bearer_token", "svid_token_says", "svid_token_signature", "svid_id_allows", "svid_batch_of", "svid_report",
-  "svid_validator_open_by_lengths", "svid_validator_close", "svid_validator_bundles", "svid_validator_ask", "svid_validator_check",
-  "svid_validator_judge", "svid_validator_withdraw", "svid_validator_tick", "svid_validator_take", "svid_validator_parts",
-  "svid_validator_size", "svid_validator_summary", "svid_validator_answer", "svid_bundles_open", "svid_bundles_close", "svid_bundles_ask",
-  "svid_bundles_question", "svid_bundles_judge", "svid_bundles_join",
+  "svid_validator_open_by_lengths", "svid_validator_close", "svid_validator_bundles", "svid_validator_withdraw", "svid_validator_tick",
+  "svid_validator_take", "svid_validator_parts", "svid_validator_size", "svid_validator_summary", "svid_validator_answer", "svid_bundles_open",
+  "svid_bundles_close", "svid_bundles_ask", "svid_bundles_question", "svid_bundles_judge", "svid_bundles_join", "svid_token_open",
+  "svid_token_close", "svid_validator_ask_token", "svid_validator_judge_token", "svid_member_open", "svid_member_know", "svid_member_ready",
+  "svid_member_come", "svid_member_judge", "svid_member_send", "svid_member_found", "svid_member_leave", "svid_member_overdue",
+  "svid_member_due", "svid_member_rules", "svid_withdrawal_come", "svid_withdrawal_told", "svid_withdrawal_overdue", "svid_pacing_may_send",
+  "svid_pacing_due", "svid_pacing_sent", "svid_pacing_answered", "svid_pacing_unanswered", "svid_claim_owner", "svid_claim_owner_of_caller",
+  "svid_claim_until", "svid_claim_deaf", "svid_entries_write",
 ];
 
 const encoder = new TextEncoder();
@@ -43,6 +59,16 @@ const decoder = new TextDecoder("utf-8", { ignoreBOM: true });
 export const textOf = (bytes) => decoder.decode(bytes);
 /** The bytes of a text in UTF-8. */
 export const utf8 = (text) => encoder.encode(text);
+/** Bytes, one directly after the other. */
+export function joined(pieces) {
+  const all = new Uint8Array(pieces.reduce((sum, it) => sum + it.length, 0));
+  let at = 0;
+  for (const it of pieces) {
+    all.set(it, at);
+    at += it.length;
+  }
+  return all;
+}
 
 let compiled;
 
@@ -71,6 +97,7 @@ export class Library {
   #room; // where the room of every call stands
   #handle;
   #kind;
+  #spare = []; // handles of tokens that are closed
 
   /** Starts an instance of the module. Throws OutOfMemory. */
   static async start() {
@@ -92,9 +119,14 @@ export class Library {
   constructor(calls) {
     this.#calls = calls;
     this.#room = this.#lend(ROOM);
-    this.#handle = this.#lend(HANDLE);
-    this.#look();
-    this.#bytes.fill(0, Number(this.#handle), Number(this.#handle) + HANDLE);
+    this.#handle = this.#closed();
+  }
+
+  // A handle that is closed.
+  #closed() {
+    const at = this.#lend(HANDLE);
+    this.#bytes.fill(0, Number(at), Number(at) + HANDLE);
+    return at;
   }
 
   // -- Handles
@@ -136,17 +168,11 @@ export class Library {
     if (given instanceof Uint8Array) return given;
     // (to the library, a document with an empty name has none: a space is no name of a trust domain either)
     const pieces = given.flatMap(([name, text]) => [utf8(name || " "), text]);
-    const length = pieces.reduce((sum, it) => sum + it.length, 0);
-    return this.#within(({ room }) => {
-      const bytes = room(length), documents = room(DOCUMENT * given.length);
-      let at = bytes;
-      for (const it of pieces) {
-        this.#set(at, it);
-        at += BigInt(it.length);
-      }
+    return this.#within(({ room, lend }) => {
+      const bytes = lend(joined(pieces)), documents = room(DOCUMENT * given.length);
       const lens = pieces.map((it) => BigInt(it.length));
       this.#setWords(documents, given.flatMap((_, n) => [lens[2 * n], lens[2 * n + 1], 0n]));
-      const { status, bytes: text } = this.#written("svid_bundles_join", bytes, BigInt(length), documents, BigInt(given.length));
+      const { status, bytes: text } = this.#written("svid_bundles_join", ...bytes, documents, BigInt(given.length));
       if (status !== OK) throw ofDocuments(status, this.#told(), given.map(([name]) => name));
       return text;
     });
@@ -164,23 +190,21 @@ export class Library {
     }
   }
 
-  // -- Tokens
+  // -- Tokens, by bundles
 
   /**
-   * The first keys that may have signed a token: rows of `alg`, `key` (JSON) and, of a validator, `question`, and `signed` and `signature` of
-   * the token. Null where the token is refused already, for whatever reason comes first.
+   * The first keys that may have signed a token: rows of `alg` and `key` (JSON), and `signed` and `signature` of the token. Null where the token
+   * is refused already, for whatever reason comes first.
    */
   ask(token) {
     const length = this.#lendToken(token);
-    const isValidator = this.#kind === VALIDATOR;
-    const name = isValidator ? "svid_validator_ask" : "svid_bundles_ask";
-    const rows = this.#written(name, this.#handle, this.#at(TOKEN), length, MOST_CANDIDATES);
+    const rows = this.#written("svid_bundles_ask", this.#handle, this.#at(TOKEN), length, MOST_CANDIDATES);
     if (rows.status >= FIRST_REFUSAL) return null;
     if (rows.status !== OK) throw this.#fault(rows.status);
     const made = this.#written("svid_token_signature", this.#at(TOKEN), length, this.#at(SMALL));
     if (made.status !== OK) throw this.#fault(made.status);
     const signed = this.#seen(this.#at(TOKEN), this.#word(this.#at(SMALL)));
-    return { rows: rowsOf(rows.bytes, isValidator), signed, signature: made.bytes };
+    return { rows: rowsOf(rows.bytes, 0), signed, signature: made.bytes };
   }
 
   /** The question of a row of bundles. */
@@ -189,25 +213,6 @@ export class Library {
     const status = this.#call("svid_bundles_question", this.#handle, this.#at(TOKEN), length, BigInt(number), this.#at(QUESTION));
     if (status !== OK) throw this.#fault(status);
     return this.#seen(this.#at(QUESTION), DIGEST);
-  }
-
-  /** Checks a token; `yes` is the question whose answer is yes, or null. Throws why it is not accepted. */
-  check(now, token, yes) {
-    return this.#verdict("svid_validator_check", now, token, yes);
-  }
-
-  /** Judges a token, and the record gains nothing. */
-  judge(now, token, yes) {
-    return this.#verdict("svid_validator_judge", now, token, yes);
-  }
-
-  #verdict(name, now, token, yes) {
-    const length = this.#lendToken(token);
-    if (yes) this.#set(this.#at(QUESTION), yes);
-    const lent = [this.#at(QUESTION), yes ? 1n : 0n, this.#at(TOKEN), length, this.#at(OUT), BigInt(OUT_ROOM), this.#at(USED)];
-    const status = this.#call(name, this.#handle, now, ...lent);
-    if (status !== OK) throw this.#fault(status);
-    return this.#accepted();
   }
 
   /** Judges a token by bundles, at a time. `terms` has `now`, `longest` and `own`, the audiences. */
@@ -228,26 +233,246 @@ export class Library {
 
   // What an acceptance is: its ID stands in OUT, and its use in USED.
   #accepted() {
+    return acceptedOf(this.#subject(), this.#used(this.#at(USED)));
+  }
+
+  // The ID in OUT, and its parts.
+  #subject() {
     const out = this.#at(OUT), small = this.#at(SMALL), length = this.#length();
     const spiffeId = textOf(this.#seen(out, length));
     this.#run("svid_id_parse", out, BigInt(length), small);
     const domain = Number(this.#word(small + 8n)), begins = spiffeId.length - Number(this.#word(small + 16n));
-    return { spiffeId, trustDomain: spiffeId.slice(begins - domain, begins), path: spiffeId.slice(begins), use: this.#used(false) };
+    return { spiffeId, trustDomain: spiffeId.slice(begins - domain, begins), path: spiffeId.slice(begins) };
   }
 
-  // The use in USED. `message` is an acceptance as a message.
-  #used(withdrawn) {
-    const at = this.#at(USED), small = this.#at(SMALL), use = this.#use(at);
-    use.withdrawn = withdrawn;
-    if (withdrawn) return use;
-    this.#run("svid_batch_of", at, small);
-    use.message = this.#seen(small, BATCH);
-    return use;
+  // A use with its message.
+  #used(at, withdrawn = false) {
+    const small = this.#at(SMALL), entry = this.#at(SMALL + 128);
+    if (withdrawn) {
+      this.#setWords(entry, [1n]);
+      this.#set(entry + 8n, this.#seen(at, USE));
+      const status = this.#call("svid_entries_write", entry, 1n, small, BigInt(BATCH));
+      if (status !== OK) throw this.#fault(status);
+    } else this.#run("svid_batch_of", at, small);
+    return { ...this.#use(at), withdrawn, message: this.#seen(small, BATCH) };
   }
 
   #use(at) {
     return { expires: this.#word(at), at: this.#word(at + 8n), key: this.#seen(at + 16n, DIGEST), validatorId: this.#seen(at + 48n, VALIDATOR_ID) };
   }
+
+  // -- Tokens that are read once
+
+  /** Reads a token, for the calls of a request and `judge`. Close it in the end. Throws Refusal for what is none, and then advances the record too. */
+  read(now, token) {
+    const length = this.#lendToken(token), at = this.#spare.pop() ?? this.#closed();
+    const status = this.#call("svid_token_open", at, this.#at(TOKEN), length);
+    if (status === OK) return { at, bytes: this.#seen(this.#at(TOKEN), length) };
+    this.#spare.push(at);
+    this.tick(now);
+    throw this.#fault(status);
+  }
+
+  /** Closes a token. Does nothing once all is closed. */
+  closeToken({ at }) {
+    if (this.#calls === null) return;
+    this.#run("svid_token_close", at);
+    this.#spare.push(at);
+  }
+
+  /**
+   * The first keys that may have signed a token that was read: rows of `alg` and `key` (JSON), and `signed` and `signature` of the token. Null
+   * where the token is refused already, for whatever reason comes first.
+   */
+  keysOf({ at, bytes }) {
+    const { status, bytes: all } = this.#written("svid_validator_ask_token", this.#handle, at, MOST_CANDIDATES);
+    if (status >= FIRST_REFUSAL) return null;
+    if (status !== OK) throw this.#fault(status);
+    const view = viewOf(all), length = view.getUint32(0), begins = WORD + view.getUint32(4);
+    return { rows: rowsOf(all, begins), signed: bytes.subarray(0, length), signature: all.subarray(WORD, begins) };
+  }
+
+  /** Says what a check would, and adds nothing. `shown` has the key, and what it signed, or is null where no key did. Throws Refusal. */
+  judge(now, token, shown) {
+    const status = this.#call("svid_validator_judge_token", this.#handle, now, ...this.#shown(shown), token.at, ...this.#outputs());
+    if (status !== OK) throw this.#fault(status);
+    return this.#accepted();
+  }
+
+  // A key, and what it signed, as calls take them.
+  #shown(shown) {
+    this.#open();
+    if (!shown) return [0n, 0n, 0n, 0n, 0n, 0n];
+    const put = (offset, bytes) => {
+      this.#set(this.#at(offset), bytes);
+      return [this.#at(offset), BigInt(bytes.length)];
+    };
+    return [...put(KEY, shown.key), ...put(TOKEN, shown.signed), ...put(SIGNATURE, shown.signature)];
+  }
+
+  #outputs() {
+    return [this.#at(OUT), BigInt(OUT_ROOM), this.#at(USED)];
+  }
+
+  // -- The member of a validator: its requests, each by a number
+
+  /** Lets a validator answer requests. `terms` has `mode`, `hasStore`, `wait` (in milliseconds), `ahead`, `lasts` and `life`. */
+  openMember({ mode, hasStore, wait, ahead, lasts, life }) {
+    this.#open();
+    this.#setWords(this.#at(SMALL), [MODES[mode], 0n, BigInt(hasStore), 0n, wait, ahead, lasts]);
+    this.#set(this.#at(SMALL + 56), life);
+    this.#make("svid_member_open", this.#at(SMALL));
+  }
+
+  /** Says who may call: each whom one of these patterns allows. */
+  rules(own, callers) {
+    this.#within(({ lend }) => this.#make("svid_member_rules", ...lend(utf8(own.join("\n"))), 0n, ...lend(utf8(callers.join("\n")))));
+  }
+
+  /** Tells a member what it is to know. */
+  know({ isOpened, isJumped, isAway, isDeaf }) {
+    this.#open();
+    const [opened, jumped, away, deaf] = [isOpened, isJumped, isAway, isDeaf].map(BigInt);
+    this.#setWords(this.#at(SMALL), [1n, 1n, opened, 1n, 1n, 1n, 0n, jumped, 0n, away, deaf, 0n]);
+    this.#make("svid_member_know", this.#at(SMALL));
+  }
+
+  /** The status that says whether tokens are to be sent to a member. */
+  ready() {
+    return this.#run("svid_member_ready", this.#handle);
+  }
+
+  /** A request comes. Throws Unavailable. */
+  come(up) {
+    return this.#deedOf("svid_member_come", up);
+  }
+
+  /** Judges the token of a request: what is to be done, and whose token it is, if it is good. */
+  judgeRequest(now, up, { number, token, shown }) {
+    return this.#judged("svid_member_judge", [now, up, number], token, shown);
+  }
+
+  /** The store has answered the claim of a request. `found` has `time`, `deaf` and `owner`. */
+  found(now, up, { number, token, shown, caller }, { time, deaf, owner }) {
+    const small = this.#at(SMALL);
+    this.#open();
+    this.#set(small, caller);
+    this.#setWords(small + 32n, [time, deaf]);
+    this.#set(small + 48n, owner);
+    return this.#judged("svid_member_found", [now, up, number, small, small + 32n], token, shown);
+  }
+
+  #judged(name, given, token, shown) {
+    const status = this.#call(name, this.#handle, ...given, ...this.#shown(shown), token.at, ...this.#outputs(), this.#at(DEED));
+    if (status === CLOSED || status === JUMP) throw this.#fault(status); // (nothing happened)
+    const subject = status === OK ? this.#subject() : null;
+    return { deed: this.#deed(), subject };
+  }
+
+  /** The claim of a request is about to go out. */
+  send(up, number) {
+    return this.#deedOf("svid_member_send", up, number);
+  }
+
+  /** Nobody waits any more for the answer to a request. */
+  leave(up, number) {
+    return this.#deedOf("svid_member_leave", up, number);
+  }
+
+  /** Answers the request that came first, if its time is over. */
+  overdue(up) {
+    return this.#deedOf("svid_member_overdue", up);
+  }
+
+  /** When a request or a withdrawal is due, or NONE. */
+  due() {
+    this.#make("svid_member_due", this.#at(SMALL));
+    return this.#word(this.#at(SMALL));
+  }
+
+  /** A withdrawal is on its way: its number. */
+  withdrawalComes(up) {
+    return this.#withdrawal("svid_withdrawal_come", up).number;
+  }
+
+  /** A keeper has a withdrawal, or may not have it. */
+  withdrawalTold(number, keeper, isThere) {
+    return this.#withdrawal("svid_withdrawal_told", number, keeper, BigInt(isThere));
+  }
+
+  /** Gives up the withdrawal that came first, if its time is over. */
+  withdrawalOverdue(up) {
+    return this.#withdrawal("svid_withdrawal_overdue", up);
+  }
+
+  /** Whose the claim of a token is: that of a caller, if there is one, or else that of a life of a validator. */
+  ownerOf({ expires, validatorId }, life, caller) {
+    const small = this.#at(SMALL), owner = this.#at(SMALL + 32);
+    this.#open();
+    this.#set(small, caller ?? joined([validatorId, life]));
+    if (caller) this.#run("svid_claim_owner_of_caller", small, expires, owner);
+    else this.#run("svid_claim_owner", small, small + 16n, expires, owner);
+    return this.#seen(owner, DIGEST);
+  }
+
+  // Makes a call that says what is to be done.
+  #deedOf(name, ...given) {
+    this.#make(name, ...given, this.#at(DEED));
+    return this.#deed();
+  }
+
+  // What the last call says is to be done. `use` is that of a claim, and of an acceptance.
+  #deed() {
+    const at = this.#at(DEED), what = this.#word(at), number = this.#word(at + 8n), status = Number(this.#word(at + 16n)), next = this.#word(at + 24n);
+    const isAccepted = what === ANSWER && status === OK;
+    const use = isAccepted ? this.#used(at + 32n) : what === CLAIM ? this.#use(at + 32n) : null;
+    return { what, number, status, next, use };
+  }
+
+  // Makes a call about withdrawals: the one that has ended, if one has.
+  #withdrawal(name, ...given) {
+    this.#make(name, ...given, this.#at(SMALL));
+    const [number, disk, store] = this.#words(this.#at(SMALL), 3);
+    return { number, mayLack: disk === MAY_LACK || store === MAY_LACK };
+  }
+
+  // Makes a call on the handle that tells nothing.
+  #make(name, ...given) {
+    const status = this.#run(name, this.#handle, ...given);
+    if (status !== OK) throw ofStatus(status);
+  }
+
+  // -- Claims in a store
+
+  /** When the claims that wait go out, by the milliseconds of a clock that only goes ahead. */
+  pacing() {
+    const at = this.#lend(PACING);
+    this.#setWords(at, PACING_FIRST);
+    return {
+      maySend: (up, waiting) => this.#run("svid_pacing_may_send", at, up, BigInt(waiting)) === 1,
+      due: () => this.#time("svid_pacing_due", at),
+      sent: (up) => this.#run("svid_pacing_sent", at, up),
+      answered: () => this.#run("svid_pacing_answered", at),
+      unanswered: () => this.#time("svid_pacing_unanswered", at),
+    };
+  }
+
+  /** Until when a store keeps the entry of a token. */
+  claimUntil(expires, margin) {
+    return this.#time("svid_claim_until", expires, margin);
+  }
+
+  /** The `deaf` of a store that has lost entries. */
+  claimDeaf(time, lasts, before) {
+    return this.#time("svid_claim_deaf", time, lasts, before);
+  }
+
+  // Makes a call that gives a time. (WebAssembly gives 64 bits with a sign)
+  #time(name, ...given) {
+    return BigInt.asUintN(64, this.#run(name, ...given));
+  }
+
+  // -- Texts
 
   /** What a token says: nobody has vouched for it. */
   says(token) {
@@ -315,7 +540,7 @@ export class Library {
     this.#set(this.#at(SMALL), key);
     const status = this.#call("svid_validator_withdraw", this.#handle, now, this.#at(SMALL), expires, this.#at(USED));
     if (status !== OK) throw this.#fault(status);
-    return this.#used(true);
+    return this.#used(this.#at(USED), true);
   }
 
   /** Advances the record. */
@@ -487,15 +712,9 @@ export class Library {
 
   // The audiences, one directly after the other, and their lengths.
   #audiences(own, lend, room) {
-    const names = own.map(utf8), all = new Uint8Array(names.reduce((sum, it) => sum + it.length, 0));
-    let at = 0;
-    for (const it of names) {
-      all.set(it, at);
-      at += it.length;
-    }
-    const lens = room(WORD * names.length);
+    const names = own.map(utf8), lens = room(WORD * names.length);
     this.#setWords(lens, names.map((it) => BigInt(it.length)));
-    return [...lend(all), lens, BigInt(names.length)];
+    return [...lend(joined(names)), lens, BigInt(names.length)];
   }
 
   #set(at, bytes) {
@@ -519,19 +738,22 @@ export class Library {
   }
 }
 
-// The rows of svid_validator_ask, or of svid_bundles_ask.
-function rowsOf(bytes, haveQuestions) {
-  const view = new DataView(bytes.buffer, bytes.byteOffset, bytes.length), rows = [];
-  let at = 0;
+/** What an acceptance is, for callers. */
+export const acceptedOf = (subject, use) => ({ ...subject, expires: use.expires, use });
+
+const viewOf = (bytes) => new DataView(bytes.buffer, bytes.byteOffset, bytes.length);
+
+// The rows of algorithms and keys from there on: `key` is the JSON of a key, and `spelt` its bytes.
+function rowsOf(bytes, at) {
+  const view = viewOf(bytes), rows = [];
   const field = () => {
     const length = view.getUint32(at);
     at += 4 + length;
-    return textOf(bytes.subarray(at - length, at));
+    return bytes.subarray(at - length, at);
   };
   while (at < bytes.length) {
-    const question = haveQuestions ? bytes.slice(at, at + DIGEST) : null;
-    if (haveQuestions) at += DIGEST;
-    rows.push({ question, alg: field(), key: field() });
+    const alg = textOf(field()), spelt = field();
+    rows.push({ alg, key: textOf(spelt), spelt });
   }
   return rows;
 }

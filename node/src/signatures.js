@@ -4,6 +4,7 @@
 // WebCrypto does not read, made no signature. What WebCrypto can't do is an error, and no answer.
 
 import { SvidError, Unverifiable } from "./errors.js";
+import { webCrypto } from "./given.js";
 
 // Each algorithm of a token, in the words of WebCrypto.
 // lists:begin algorithms (written by tools/lists from lists/algorithms.toml)
@@ -100,8 +101,7 @@ function lengthBy({ modulusLength, namedCurve }) {
 
 let found;
 
-// WebCrypto, which is not global in each Node 18.
 async function subtle() {
-  found ??= globalThis.crypto?.subtle ?? (await import("node:crypto")).webcrypto.subtle;
+  found ??= (await webCrypto()).subtle;
   return found;
 }

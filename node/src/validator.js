@@ -1,19 +1,17 @@
 // A validator that remembers which tokens were used, and bundles that judge tokens without a record.
 
 import { Refusal } from "./errors.js";
-import { audiences, bundlesOf, bytesOf, expiryOf, keyOf, limit, nameOf, seconds, tokenOf, validatorId } from "./given.js";
-import { ANY, BATCH, LEAST_RSA_BITS, Library, MOST_RSA_BITS, USUAL_RSA_BITS, utf8 } from "./library.js";
+import {
+  aboutCheck, audiences, bundlesOf, bytesOf, callerOf, expiryOf, keyOf, limit, modeOf, nameOf, patternsOf, random, seconds, tokenOf, validatorId,
+  waitOf,
+} from "./given.js";
+import { BATCH, LEAST_RSA_BITS, Library, MOST_RSA_BITS, USUAL_RSA_BITS, joined } from "./library.js";
+import { Member } from "./member.js";
 import { Verifier } from "./signatures.js";
 
 const NO_SIGNATURE = "BadSignature";
 const PIECE = 1_048_576;
-const NO_LOG = "log is no option: this package has no members of a group. To accept a token once in a whole group, let the sidecar `svidd --replay strict` " +
-  "or Go's package check it: they claim it in the group's store";
-
-// What an acceptance is, for callers.
-function acceptedOf({ spiffeId, trustDomain, path, use }) {
-  return { spiffeId, trustDomain, path, expires: use.expires, use };
-}
+const NO_LOG = "log is no option: to accept a token once in a whole group, write mode \"strict\" and give the group's store";
 
 /** How an RSA key may be long. */
 function rsaBits(given = USUAL_RSA_BITS) {
@@ -41,65 +39,63 @@ async function opened(open) {
 /** Checks JWT-SVIDs, and remembers which were used. Documentation of all of it stands in index.d.ts. */
 export class Validator {
   #library;
-  #verifier;
-  #editions = 0; // how often the bundles were replaced
+  #member;
+  #isBound;
 
   /** Opens a validator whose record is empty. */
   static async open(options) {
     // (left out in silence, it would let each process accept the token)
     if (options.log !== undefined) throw new TypeError(NO_LOG);
-    const own = audiences(options.audiences), bundles = bundlesOf(options.bundles);
-    const terms = {
-      longest: limit("longest", options.longest),
-      ahead: limit("ahead", options.ahead ?? 10),
-      step: limit("step", options.step),
-      validatorId: await validatorId(options.validatorId),
-    };
+    const own = audiences(options.audiences), bundles = bundlesOf(options.bundles), { mode, store } = modeOf(options), wait = waitOf(options.wait);
+    const longest = limit("longest", options.longest), ahead = limit("ahead", options.ahead ?? 10), step = limit("step", options.step);
+    const terms = { longest, ahead, step, validatorId: await validatorId(options.validatorId) }, life = await random();
     const ready = await opened((library) => {
-      const verifier = verifierOf(library, options);
+      const verifier = verifierOf(library, options), callers = patternsOf("callers", options.callers, (...it) => library.allows(...it));
+      if (callers && own.some((it) => it.includes("\n"))) throw new RangeError("with callers, no audience has a line feed");
       library.openValidator(terms, own, bundles);
-      return { library, verifier };
+      return { library, mode, member: new Member(library, verifier, { mode, wait, callers, store, own, longest, ahead, life }) };
     });
-    return new this(ready);
+    const validator = new this(ready);
+    await ready.member.begin();
+    return validator;
   }
 
   /** Takes what `open` has made: call that instead. */
   constructor(ready) {
     if (!ready?.library) throw new TypeError("call `await Validator.open(..)`");
     this.#library = ready.library;
-    this.#verifier = ready.verifier;
+    this.#member = ready.member;
+    this.#isBound = ready.mode === "bound";
   }
 
   /** Frees the record and the bundles. Closing twice does nothing. */
   close() {
-    this.#library.close();
+    this.#member.close();
   }
 
-  /** Accepts a token, once. */
-  async check(token, now) {
-    return this.#judged("check", token, now);
+  /** Whether tokens are to be sent to this validator: `unready` says null. */
+  get ready() {
+    return this.unready() === null;
+  }
+
+  /** The first reason why no tokens are to be sent to this validator, as a sentence, or null. */
+  unready(now) {
+    return this.#member.unready(seconds(now));
+  }
+
+  /** Accepts a token, as the mode says. */
+  async check(token, about) {
+    const { now, caller } = aboutCheck(about), text = tokenOf(token);
+    if (now !== undefined) seconds(now);
+    if ((caller !== undefined) !== this.#isBound) throw new TypeError("give a caller in the mode bound, and in no other one");
+    return this.#member.check(text, () => seconds(now), this.#isBound ? await callerOf(caller) : undefined);
   }
 
   /** Answers what `check` would, and uses nothing up. */
   async judge(token, now) {
-    return this.#judged("judge", token, now);
-  }
-
-  // What `check` or `judge` answers. It ends in the same step as the library's call.
-  async #judged(name, given, now) {
-    const token = tokenOf(given);
+    const text = tokenOf(token);
     if (now !== undefined) seconds(now);
-    for (;;) {
-      const edition = this.#editions, asked = this.#library.ask(token);
-      const found = asked ? await this.#verifier.first(asked) : {};
-      // (the question may be of a key that is not there any more)
-      if (edition !== this.#editions) continue;
-      try {
-        return acceptedOf(this.#library[name](seconds(now), token, found.row?.question ?? null));
-      } catch (why) {
-        throw why instanceof Refusal && why.name === NO_SIGNATURE && found.unverifiable ? found.unverifiable : why;
-      }
-    }
+    return this.#member.judge(text, () => seconds(now));
   }
 
   /** Withdraws a token until it expires. */
@@ -110,8 +106,7 @@ export class Validator {
 
   /** Withdraws the token with this key, which expires then. */
   async withdrawKey(key, expires, now) {
-    const use = this.#library.withdraw(seconds(now), keyOf(key), expiryOf(expires));
-    return { ...use, message: await withdrawalOf(use) };
+    return this.#member.withdraw(seconds(now), keyOf(key), expiryOf(expires));
   }
 
   /** What a token says. Nobody has vouched for it. */
@@ -173,8 +168,7 @@ export class Validator {
   /** Replaces the bundles. The record stays. */
   renew(bundles) {
     this.#library.renew(bundlesOf(bundles));
-    this.#editions += 1;
-    this.#verifier.forget();
+    this.#member.renewed();
   }
 }
 
@@ -215,7 +209,7 @@ export class Bundles {
     const found = asked ? await this.#verifier.first(asked) : {};
     const question = found.row ? this.#library.question(token, found.number) : null;
     try {
-      return acceptedOf(this.#library.judgeBy({ ...this.#terms, now: seconds(now) }, token, question));
+      return this.#library.judgeBy({ ...this.#terms, now: seconds(now) }, token, question);
     } catch (why) {
       throw why instanceof Refusal && why.name === NO_SIGNATURE && found.unverifiable ? found.unverifiable : why;
     }
@@ -238,29 +232,6 @@ if (Symbol.dispose) {
     this.close();
   };
   for (const it of [Validator, Bundles]) Object.defineProperty(it.prototype, Symbol.dispose, { value, configurable: true, writable: true });
-}
-
-// A withdrawal as a message: what a validator tells that has seen nothing else.
-async function withdrawalOf({ at, key, expires, validatorId: by }) {
-  const library = await Library.start();
-  try {
-    library.openValidator({ longest: ANY, ahead: ANY, step: ANY, validatorId: by }, [], utf8("{}"));
-    library.withdraw(at, key, expires);
-    return joined([...library.parts(BATCH)]);
-  } finally {
-    library.close();
-  }
-}
-
-// Bytes, one directly after the other.
-function joined(pieces) {
-  const all = new Uint8Array(pieces.reduce((sum, it) => sum + it.length, 0));
-  let at = 0;
-  for (const it of pieces) {
-    all.set(it, at);
-    at += it.length;
-  }
-  return all;
 }
 
 // The bytes of a header's value, of which Node makes a character each.

@@ -6,7 +6,7 @@ import { createRequire } from "node:module";
 import { test } from "node:test";
 import { imported, issuer, now, token } from "./making.mjs";
 
-const { Validator, guard, protect } = await imported();
+const { MemoryStore, Validator, guard, protect } = await imported();
 // (Debian's packages stand where only `require` looks)
 const express = createRequire("/usr/share/nodejs/")("express");
 
@@ -93,6 +93,30 @@ for (const [name, listener] of Object.entries(SERVERS)) {
     validator.close();
     assert.deepEqual(await answers(listener(validator, { onError }), [[`Bearer ${token(one)}`]]), [[503, ""]]);
     assert.deepEqual(told, [["Unverifiable", "string"], ["Closed", "string"]]);
+  });
+
+  test(`${name}: who is none of the validator's callers gets 403, and where the store is away the status is 503`, async () => {
+    const told = [], onError = (why) => told.push([why.name, why.cause?.message]);
+    const closed = await Validator.open({ ...terms, callers: "spiffe://example.org/other" }), good = token(one);
+    assert.deepEqual(await answers(listener(closed, { onError }), [[`Bearer ${good}`]]), [[403, 'Bearer error="insufficient_scope", error_description="NotAllowed"']]);
+    const store = new MemoryStore(), validator = await Validator.open({ ...terms, mode: "strict", store, wait: 0.2 });
+    store.put = () => Promise.reject(new Error("the store is away"));
+    assert.deepEqual(await answers(listener(validator, { onError }), [[`Bearer ${good}`]]), [[503, ""]]);
+    assert.deepEqual(told, [["Unavailable", "the store is away"]]);
+    for (const it of [closed, validator]) it.close();
+  });
+
+  test(`${name}: in mode bound a function says who calls`, async () => {
+    const validator = await Validator.open({ ...terms, mode: "bound", store: new MemoryStore() }), good = token(one), told = [];
+    const of = (who) => listener(validator, { caller: (req) => who ?? req.socket.remoteAddress, onError: (why) => told.push(why.name) });
+    const hello = [200, "hello spiffe://example.org/billing/api"], thief = [401, 'Bearer error="invalid_token", error_description="Replayed"'];
+    for (const [who, due] of [[undefined, hello], ["10.0.0.7", thief], [undefined, hello], ["127.0.0.1", hello], [7, [503, ""]]]) {
+      assert.deepEqual(await answers(of(who), [[`Bearer ${good}`]]), [due]);
+    }
+    assert.deepEqual(await answers(listener(validator), [[`Bearer ${good}`]]), [[503, ""]]);
+    assert.deepEqual(told, ["TypeError"]);
+    assert.throws(() => listener(validator, { caller: "10.0.0.7" }), { name: "TypeError", message: /caller is a function/ });
+    validator.close();
   });
 
   test(`${name}: a token is let in once, however many send it at once`, async () => {

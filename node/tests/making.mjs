@@ -76,3 +76,24 @@ export function exhausted(calls) {
   for (let size = 2 ** 31; size >= 16; size /= 2) while (taken(size) !== 0n);
   return spare;
 }
+
+/** For how many seconds a test waits for what does not come. */
+export const PATIENCE = Number(process.env.SVID_TEST_PATIENCE ?? 180);
+
+// (a test may have a clock of its own)
+const clock = performance.now.bind(performance);
+
+/** Awaits a condition, which may be asynchronous. */
+export async function until(holds) {
+  for (const end = clock() + PATIENCE * 1000; !(await holds()); ) {
+    if (clock() > end) throw new Error("it does not come");
+    await new Promise((resolve) => setTimeout(resolve, 2));
+  }
+}
+
+/** A promise that is kept once `open` is called. */
+export function gate() {
+  const it = {};
+  it.passed = new Promise((resolve) => (it.open = resolve));
+  return it;
+}

@@ -33,7 +33,7 @@ test("the archive is the same each time, and works by itself where it is unpacke
   const quiet = ["--offline", "--silent", "--no-audit", "--no-fund", "--no-update-notifier", "--cache", join(room, "cache")];
   await run("npm", ["install", ...quiet, archives[0]], { cwd: elsewhere });
   const files = (await run("tar", ["-tzf", archives[0]])).stdout.trim().split("\n").map((it) => it.replace("package/", "")).sort();
-  const src = ["errors", "given", "http", "library", "signatures", "validator"].map((it) => `src/${it}.js`);
+  const src = ["claims", "errors", "given", "http", "library", "member", "signatures", "stores", "validator"].map((it) => `src/${it}.js`);
   assert.deepEqual(files, ["README.md", "index.d.ts", "index.js", "package.json", ...src, "svid.wasm"].sort());
   await Promise.all(["bundles.json", "token.txt"].map((it) => copyFile(`${TOP}/examples/${it}`, join(elsewhere, it))));
   const program = `import { readFileSync } from "node:fs";

@@ -1,7 +1,7 @@
 // What TypeScript makes of the package, under strict: tests/package.test.mjs compiles this.
 
-import { Bundles, REFUSALS, Refusal, SvidError, Validator, guard, protect } from "svid";
-import type { Accepted, RefusalName, Use, Verify } from "svid";
+import { Bundles, MemoryStore, NotAllowed, REFUSALS, Refusal, SvidError, Unavailable, Validator, guard, protect } from "svid";
+import type { Accepted, Claim, Found, RefusalName, Store, Use, Verify } from "svid";
 
 const validator: Validator = await Validator.open({ audiences: ["ledger"], bundles: { "example.org": "{}", "other.org": { keys: [] } }, longest: 60n });
 const accepted: Accepted = await validator.check("a.b.c", 1_767_225_600);
@@ -46,9 +46,28 @@ bundles[Symbol.dispose]();
 // @ts-expect-error (bundles use nothing up)
 bundles.check("a.b.c");
 
+const store: Store = {
+  put: async (claims: readonly Claim[], { signal }): Promise<Found[]> => claims.map((it) => ({ owner: it.owner, time: signal.aborted ? 0 : 1n })),
+  withdraw: async (key, expires) => console.log(key.length, expires > 0n),
+};
+const strict = await Validator.open({ audiences: "ledger", bundles: "{}", mode: "strict", store, wait: 0.5, callers: ["spiffe://example.org"] });
+const reason: string | null = strict.ready ? null : strict.unready(5);
+const bound = await Validator.open({ audiences: "ledger", bundles: "{}", mode: "bound", store: new MemoryStore({ margin: 5n, now: () => 5 }) });
+await bound.check("a.b.c", { caller: "10.0.0.7", now: 5n });
+const isKnown = (why: unknown): boolean => why instanceof NotAllowed || (why instanceof Unavailable && why.cause !== undefined);
+guard(bound, { caller: (req: { rawHeaders: string[]; socket: { remoteAddress?: string } }) => req.socket.remoteAddress ?? "" });
+// @ts-expect-error (no mode has this name)
+await Validator.open({ audiences: "ledger", bundles: "{}", mode: "twice" });
+// @ts-expect-error (a store has both)
+await Validator.open({ audiences: "ledger", bundles: "{}", mode: "strict", store: { put: store.put } });
+// @ts-expect-error (a caller is text or bytes)
+await bound.check("a.b.c", { caller: 7 });
+// @ts-expect-error (a judgment asks for no caller)
+await bound.judge("a.b.c", { caller: "10.0.0.7" });
+
 const middleware = guard(validator, { onError: (why, req) => console.error(why, req.rawHeaders) });
 const listener = protect(validator, (req: { rawHeaders: string[]; svid: Accepted }, res: { statusCode: number; setHeader(name: string, value: string): void; end(text?: string): void }) => res.end(req.svid.spiffeId));
 const bearer = validator.bearer(["Bearer a"]);
 if (bearer.token) await validator.check(bearer.token);
 else console.log(bearer.several || bearer.spelling);
-void [id, expires, message, early, moment, uses, names, middleware, listener];
+void [id, expires, message, early, moment, uses, names, middleware, listener, reason, isKnown];

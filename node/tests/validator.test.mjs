@@ -246,7 +246,10 @@ test("a validator that is closed says so, also to a check that is on its way", a
 test("times are seconds, and milliseconds are refused", async () => {
   const validator = await Validator.open({ ...terms, step: 1000 }), time = now(), text = token(one, { exp: time + 300 });
   for (const it of [Date.now(), 1e11, 10n ** 11n]) assert.equal(await said(validator.check(text, it)), "RangeError");
-  for (const it of [-1, NaN, Infinity, "1", -1n, null, {}]) assert.equal(await said(validator.check(text, it)), "TypeError", String(it));
+  for (const it of [-1, NaN, Infinity, "1", -1n, null, [], new Date(), { then: 1 }, { now: null }]) {
+    assert.equal(await said(validator.check(text, it)), "TypeError", String(it));
+  }
+  assert.equal(await said(validator.judge(text, {})), "TypeError");
   assert.equal(await said(validator.check(text, time + 0.9)), "accepted");
   assert.equal(validator.size().moment, BigInt(time));
   assert.equal(await said(validator.check(text, time + 1001)), "Jump");
@@ -283,9 +286,9 @@ test("options that can't be are refused", async () => {
   assert.throws(() => new Bundles(), TypeError);
 });
 
-test("a log of a group is refused, and the error says who accepts a token once in a group", async () => {
+test("a log of a group is refused, and the error says how a token is accepted once in a group", async () => {
   for (const log of [{}, null]) {
-    const due = { name: "TypeError", message: /^log is no option: .* let the sidecar `svidd --replay strict` or Go's package check it/ };
+    const due = { name: "TypeError", message: /^log is no option: .* write mode "strict" and give the group's store/ };
     await assert.rejects(Validator.open({ ...terms, log }), due);
   }
 });
@@ -461,7 +464,8 @@ test("a module of another build is refused by name", async () => {
 });
 
 test("JavaScript names nothing of tokens, keys and messages", () => {
-  const files = ["index.js", ...["errors", "given", "http", "library", "signatures", "validator"].map((it) => `src/${it}.js`)];
+  const modules = ["claims", "errors", "given", "http", "library", "member", "signatures", "stores", "validator"];
+  const files = ["index.js", ...modules.map((it) => `src/${it}.js`)];
   // (what the library answers is written in errors.js by tools/lists, in sentences; an example of an ID is no rule)
   const code = files.map((it) => read(`node/${it}`).replace(/lists:begin[^]*?lists:end/g, "").replace(/(^|\s)\/\/.*|\/\*[^]*?\*\//gm, "")).join("\n");
   for (const it of [/\bkty\b/, /\bcrv\b/, /\bkid\b/, /\bjti\b/, /\baud\b/, /\bexp\b/, /\bnbf\b/, /jwt-svid/, /base64url/, /\bJSR\b/, /spiffe:(?!\/\/(example\.org|DOMAIN))/, /"jwk"/]) {

@@ -4,8 +4,8 @@ import assert from "node:assert/strict";
 import { test } from "node:test";
 import { imported, listed, now } from "./making.mjs";
 
-const { Validator } = await imported();
-const { sentences, wholeClause } = await listed();
+const { Validator } = await imported(), { ofStatus } = await imported("src/errors.js");
+const { LISTED, sentences, wholeClause } = await listed();
 
 const open = (options = {}) => Validator.open({ audiences: "ledger", bundles: "{}", ...options });
 const EMPTY = Uint8Array.from([...Buffer.from("JSR\x02\x01"), ...Array(12).fill(0)]);
@@ -50,4 +50,11 @@ test("texts that are no SPIFFE IDs, and no patterns", async () => {
     assert.throws(() => validator.allows(text, "spiffe://a"), said("pattern of SPIFFE IDs", "PATTERN"));
   }
   validator.close();
+});
+
+test("why there is no answer now, and why no tokens are to be sent here", () => {
+  for (const name of ["CLAIM_FAR", "CLAIM_DEAF", "LATE", "LEFT", "STORE_UNREACHED", "JUMPED", "STORE_AWAY", "DEAF"]) {
+    const { name: kind, message } = ofStatus(LISTED.get(name).number);
+    assert.deepEqual([kind, message], ["Unavailable", sentences(name)]);
+  }
 });

@@ -17,6 +17,15 @@ void __rattle_trap(void);
         return status;                                                                  \
     }
 
+#define EXPORT_TIME(name, parameters, arguments)                                        \
+    __attribute__((export_name(#name))) uint64_t exported_##name parameters {           \
+        uint64_t answer;                                                                \
+        if (__rattle_enter()) __rattle_trap();                                          \
+        answer = name arguments;                                                        \
+        __rattle_leave();                                                               \
+        return answer;                                                                  \
+    }
+
 #define EXPORT_VOID(name, parameters, arguments)                                        \
     __attribute__((export_name(#name))) void exported_##name parameters {               \
         if (__rattle_enter()) __rattle_trap();                                          \
@@ -130,3 +139,50 @@ EXPORT(svid_bundles_judge,
 EXPORT_VOID(svid_bundles_close, (svid_bundles *b), (b))
 /* (a helper of the header, so that JavaScript writes no message) */
 EXPORT_VOID(svid_batch_of, (const svid_use *used, uint8_t *out), (used, out))
+
+EXPORT(svid_token_open, (svid_token *t, const uint8_t *token, size_t token_len, svid_told *told), (t, token, token_len, told))
+EXPORT_VOID(svid_token_close, (svid_token *t), (t))
+EXPORT(svid_validator_ask_token,
+       (svid_validator *v, svid_token *t, size_t most, uint8_t *out, size_t out_len, svid_told *told),
+       (v, t, most, out, out_len, told))
+EXPORT(svid_validator_judge_token,
+       (svid_validator *v, uint64_t now, const uint8_t *key, size_t key_len, const uint8_t *input, size_t input_len,
+        const uint8_t *signature, size_t signature_len, svid_token *t, uint8_t *out, size_t out_len, svid_use *used, svid_told *told),
+       (v, now, key, key_len, input, input_len, signature, signature_len, t, out, out_len, used, told))
+EXPORT(svid_member_open, (svid_validator *v, const svid_member_terms *terms), (v, terms))
+EXPORT(svid_member_know, (svid_validator *v, const svid_known *known), (v, known))
+EXPORT(svid_member_ready, (svid_validator *v), (v))
+EXPORT(svid_member_come, (svid_validator *v, uint64_t up, svid_deed *deed), (v, up, deed))
+EXPORT(svid_member_judge,
+       (svid_validator *v, uint64_t now, uint64_t up, uint64_t number, const uint8_t *key, size_t key_len, const uint8_t *input,
+        size_t input_len, const uint8_t *signature, size_t signature_len, svid_token *t, uint8_t *out, size_t out_len, svid_use *used,
+        svid_deed *deed, svid_told *told),
+       (v, now, up, number, key, key_len, input, input_len, signature, signature_len, t, out, out_len, used, deed, told))
+EXPORT(svid_member_send, (svid_validator *v, uint64_t up, uint64_t number, svid_deed *deed), (v, up, number, deed))
+EXPORT(svid_member_found,
+       (svid_validator *v, uint64_t now, uint64_t up, uint64_t number, const uint8_t *caller, const svid_found *found,
+        const uint8_t *key, size_t key_len, const uint8_t *input, size_t input_len, const uint8_t *signature, size_t signature_len,
+        svid_token *t, uint8_t *out, size_t out_len, svid_use *used, svid_deed *deed, svid_told *told),
+       (v, now, up, number, caller, found, key, key_len, input, input_len, signature, signature_len, t, out, out_len, used, deed, told))
+EXPORT(svid_member_leave, (svid_validator *v, uint64_t up, uint64_t number, svid_deed *deed), (v, up, number, deed))
+EXPORT(svid_member_overdue, (svid_validator *v, uint64_t up, svid_deed *deed), (v, up, deed))
+EXPORT(svid_member_due, (svid_validator *v, svid_deadline *out), (v, out))
+EXPORT(svid_member_rules,
+       (svid_validator *v, const uint8_t *own, size_t own_len, uint64_t all, const uint8_t *callers, size_t callers_len),
+       (v, own, own_len, all, callers, callers_len))
+EXPORT(svid_withdrawal_come, (svid_validator *v, uint64_t up, svid_withdrawal *made), (v, up, made))
+EXPORT(svid_withdrawal_told,
+       (svid_validator *v, uint64_t number, uint64_t keeper, uint64_t ok, svid_withdrawal *made),
+       (v, number, keeper, ok, made))
+EXPORT(svid_withdrawal_overdue, (svid_validator *v, uint64_t up, svid_withdrawal *made), (v, up, made))
+EXPORT(svid_pacing_may_send, (const svid_pacing *p, uint64_t up, uint64_t waiting), (p, up, waiting))
+EXPORT_TIME(svid_pacing_due, (const svid_pacing *p), (p))
+EXPORT_VOID(svid_pacing_sent, (svid_pacing *p, uint64_t up), (p, up))
+EXPORT_VOID(svid_pacing_answered, (svid_pacing *p), (p))
+EXPORT_TIME(svid_pacing_unanswered, (svid_pacing *p), (p))
+EXPORT_VOID(svid_claim_owner,
+            (const uint8_t *validator_id, const uint8_t *life, uint64_t exp, uint8_t *owner),
+            (validator_id, life, exp, owner))
+EXPORT_VOID(svid_claim_owner_of_caller, (const uint8_t *caller, uint64_t exp, uint8_t *owner), (caller, exp, owner))
+EXPORT_TIME(svid_claim_until, (uint64_t exp, uint64_t margin), (exp, margin))
+EXPORT_TIME(svid_claim_deaf, (uint64_t time, uint64_t lasts, uint64_t before), (time, lasts, before))

@@ -1,0 +1,279 @@
+// The member of a validator: which request is answered, and what has to be done before.
+//
+// The library decides (include/svid.h, "A member"). Here stand a map from the numbers of requests to whom they are for, one timer for what is due,
+// and what the library says is to be done.
+
+import { Claims, up } from "./claims.js";
+import { Closed, Jump, NotAllowed, Refusal, SvidError, Unavailable, isUnavailable, ofStatus, wordsOf } from "./errors.js";
+import { ANSWER, ANY, AT_DISK, AT_LOG, AT_STORE, CLAIM, JUDGE, NONE, NOTHING, OK, acceptedOf } from "./library.js";
+
+const NO_SIGNATURE = "BadSignature";
+const NOBODY = new Uint8Array(32);
+const LONGEST_TIMER = 2 ** 31 - 1;
+const MAY_LACK_IT = "the token is withdrawn here, but the group's store may not have that: withdraw it again";
+
+const least = (one, other) => (one < other ? one : other);
+
+/** A validator that answers requests. */
+export class Member {
+  #library;
+  #verifier;
+  #callers;
+  #longest;
+  #life;
+  #wait;
+  #isBound;
+  #claims;
+  #editions = 0; // how often the bundles were replaced
+  #open = new Map(); // the requests that have no answer yet, by their numbers
+  #withdrawals = new Map(); // those that are on their way to the store
+  #timer;
+
+  /** `terms` has `mode`, `wait` (in seconds), `callers`, `store`, `own`, `longest`, `ahead` and `life`. */
+  constructor(library, verifier, { mode, wait, callers, store, own, longest, ahead, life }) {
+    this.#library = library;
+    this.#verifier = verifier;
+    this.#callers = callers;
+    this.#longest = longest;
+    this.#life = life;
+    this.#wait = wait;
+    this.#isBound = mode === "bound";
+    const within = least(BigInt(Math.floor(Math.min(wait * 1000, 2 ** 63))), ANY), lasts = least(longest + 2n * ahead, ANY);
+    library.openMember({ mode, hasStore: store !== undefined, wait: within, ahead, lasts, life });
+    if (callers) library.rules(own, callers);
+    if (store) this.#claims = new Claims(library.pacing(), store, this);
+  }
+
+  /** Tokens are judged from now on, or once the store is there. Waits for that, but no longer than a request does. */
+  async begin() {
+    this.#know();
+    await this.#claims?.begin(this.#wait);
+  }
+
+  /** Frees all. Whoever waits for an answer gets Closed. */
+  close() {
+    this.#claims?.close();
+    this.#library.close();
+    this.fail(new Closed());
+  }
+
+  /** Answers a token. `clock` gives the time of each call, and `caller` are 32 bytes. Throws Refusal, NotAllowed, Unavailable and Unverifiable. */
+  async check(text, clock, caller = NOBODY) {
+    const request = { token: this.#library.read(clock(), text), clock, caller, edition: -1 };
+    const answered = new Promise((resolve, reject) => Object.assign(request, { resolve, reject }));
+    try {
+      this.#come(request);
+      return await answered;
+    } finally {
+      this.#leave(request);
+    }
+  }
+
+  /** Says what a check would, and adds nothing. */
+  async judge(text, clock) {
+    const request = { token: this.#library.read(clock(), text), edition: -1 };
+    try {
+      while (request.edition !== this.#editions) await this.#find(request);
+      const accepted = this.#library.judge(clock(), request.token, request.shown);
+      if (this.#callers && !this.#callers.some((it) => this.#library.allows(it, accepted.spiffeId))) throw new NotAllowed();
+      return accepted;
+    } catch (why) {
+      throw why instanceof Refusal && why.name === NO_SIGNATURE && request.unverifiable ? request.unverifiable : why;
+    } finally {
+      this.#library.closeToken(request.token);
+    }
+  }
+
+  /** Withdraws a token, here and in the store. Throws Gone, and Unavailable if the store may lack it. */
+  async withdraw(now, key, expires) {
+    const use = this.#library.withdraw(now, key, expires), number = this.#library.withdrawalComes(up());
+    const ended = new Promise((resolve, reject) => this.#withdrawals.set(number, { resolve, reject }));
+    this.#watch();
+    this.#told(number, AT_LOG, true);
+    this.#told(number, AT_DISK, true);
+    if (!this.#claims) this.#told(number, AT_STORE, true);
+    this.#claims?.withdraw(key, expires).then(() => this.#told(number, AT_STORE, true), (why) => this.#told(number, AT_STORE, false, why));
+    const { mayLack, cause } = await ended;
+    if (mayLack) throw new Unavailable(MAY_LACK_IT, cause);
+    return use;
+  }
+
+  /** Bundles were replaced. */
+  renewed() {
+    this.#editions += 1;
+    this.#verifier.forget();
+  }
+
+  /** The first reason why no tokens are to be sent here, as a sentence, or null. */
+  unready(now) {
+    try {
+      this.#library.tick(now);
+      this.#know(now);
+    } catch (why) {
+      if (!(why instanceof Jump)) throw why;
+      this.#know(now, true);
+    }
+    const status = this.#library.ready();
+    if (status !== OK && !isUnavailable(status)) throw ofStatus(status);
+    return status === OK ? null : wordsOf(status);
+  }
+
+  // -- For the claims
+
+  /** The claim of a request, if it is to go out now, or else null. */
+  send({ number, use }) {
+    const request = this.#open.get(number), deed = this.#library.send(up(), number);
+    if (deed.what !== CLAIM || !request) {
+      this.#hand(deed);
+      return null;
+    }
+    const owner = this.#library.ownerOf(use, this.#life, this.#isBound ? request.caller : undefined);
+    return { key: use.key, owner, expires: use.expires };
+  }
+
+  /** The store has answered the claim of a request. */
+  found(number, found) {
+    const request = this.#open.get(number);
+    if (request) this.#ask(request, found);
+  }
+
+  /** The store is there. */
+  reached() {
+    this.#know();
+  }
+
+  /** Nobody gets another answer than this error. */
+  fail(why) {
+    const all = [...this.#open.values(), ...this.#withdrawals.values()];
+    this.#open.clear();
+    this.#withdrawals.clear();
+    this.#watch();
+    for (const it of all) it.reject(why);
+  }
+
+  // -- The way of a request
+
+  #come(request) {
+    const deed = this.#library.come(up());
+    request.number = deed.number;
+    this.#open.set(deed.number, request);
+    this.#watch();
+    this.#hand(deed);
+  }
+
+  // Lets the library judge the token of a request, with what the store has found, if it has.
+  async #ask(request, found) {
+    try {
+      while (request.edition !== this.#editions) await this.#find(request);
+      // (where it was answered meanwhile, the library does nothing)
+      const moments = [request.clock(), up()], library = this.#library;
+      const { deed, subject } = found ? library.found(...moments, request, found) : library.judgeRequest(...moments, request);
+      request.subject = subject ?? request.subject;
+      this.#hand(deed);
+    } catch (why) {
+      request.reject(why);
+    }
+  }
+
+  // Finds the key that made the signature of a token, among those of the bundles now. They may be replaced meanwhile.
+  async #find(request) {
+    const edition = this.#editions, { token } = request, asked = this.#library.keysOf(token);
+    const { row, unverifiable } = asked ? await this.#verifier.first(asked) : {};
+    const shown = row ? { key: row.spelt, signed: asked.signed, signature: asked.signature } : null;
+    Object.assign(request, { edition, shown, unverifiable });
+  }
+
+  // Does what the library says is to be done.
+  #hand(deed) {
+    const request = this.#open.get(deed.number);
+    if (deed.what === ANSWER) {
+      this.#open.delete(deed.number);
+      this.#watch();
+      // (each in a step of its own: thousands may wait for one claim)
+      if (deed.next !== NONE) queueMicrotask(() => this.#again(deed.next));
+      if (request) this.#answer(request, deed);
+    } else if (deed.what === JUDGE) this.#ask(request);
+    else if (deed.what === CLAIM) this.#claims.add(deed);
+    return deed;
+  }
+
+  #again(number) {
+    const request = this.#open.get(number);
+    if (request) this.#ask(request);
+  }
+
+  #answer(request, { status, use }) {
+    if (status === OK) return request.resolve(acceptedOf(request.subject, use));
+    const why = ofStatus(status, undefined, this.#claims?.why);
+    request.reject(why.name === NO_SIGNATURE && request.unverifiable ? request.unverifiable : why);
+  }
+
+  // Nobody waits for the answer any more.
+  #leave(request) {
+    try {
+      if (this.#open.has(request.number)) this.#hand(this.#library.leave(up(), request.number));
+      this.#library.closeToken(request.token);
+    } catch (why) {
+      if (!(why instanceof SvidError)) throw why;
+    }
+  }
+
+  // -- Withdrawals
+
+  // A keeper has a withdrawal, or may not have it: then this is why.
+  #told(number, keeper, isThere, cause) {
+    this.#safely(() => {
+      Object.assign(this.#withdrawals.get(number) ?? {}, { cause });
+      this.#ended(this.#library.withdrawalTold(number, keeper, isThere));
+    });
+  }
+
+  // Hands on how a withdrawal has ended, if one has.
+  #ended({ number, mayLack }) {
+    const withdrawal = this.#withdrawals.get(number);
+    this.#withdrawals.delete(number);
+    this.#watch();
+    withdrawal?.resolve({ mayLack, cause: withdrawal.cause });
+    return number !== NONE;
+  }
+
+  // -- Times
+
+  // Sets the timer for what is due next, where somebody waits.
+  #watch() {
+    const waits = this.#open.size + this.#withdrawals.size > 0;
+    if (waits === (this.#timer !== undefined)) return;
+    clearTimeout(this.#timer);
+    this.#timer = undefined;
+    if (!waits) return;
+    const due = this.#library.due();
+    const pause = Math.min(Math.max(Number(due) - performance.now(), 0), LONGEST_TIMER);
+    this.#timer = setTimeout(() => this.#late(), pause);
+  }
+
+  // Whatever is due is answered that it is late.
+  #late() {
+    this.#timer = undefined;
+    this.#safely(() => {
+      const moment = up();
+      while (this.#hand(this.#library.overdue(moment)).what !== NOTHING);
+      while (this.#ended(this.#library.withdrawalOverdue(moment)));
+      this.#watch();
+    });
+  }
+
+  // Does something of which nobody hears that it fails. (A library that has stopped answers nobody.)
+  #safely(body) {
+    try {
+      body();
+    } catch (why) {
+      this.fail(why);
+    }
+  }
+
+  #know(now = 0n, isJumped = false) {
+    const claims = this.#claims;
+    const isAway = claims?.isAway(this.#wait) ?? false, isDeaf = claims !== undefined && claims.deaf >= now + this.#longest;
+    this.#library.know({ isOpened: claims?.isThere ?? true, isJumped, isAway, isDeaf });
+  }
+}

@@ -1,0 +1,568 @@
+// Requests, and their answers: the modes, the store of a group, deadlines and readiness.
+
+import assert from "node:assert/strict";
+import { execFile } from "node:child_process";
+import { test } from "node:test";
+import { promisify } from "node:util";
+import { PACKAGE, PATIENCE, counted, gate, imported, issuer, listed, now, said, seen, token, until } from "./making.mjs";
+
+const { MemoryStore, Unavailable, Validator } = await imported();
+const { sentences } = await listed();
+
+const one = issuer(), terms = { audiences: "ledger", bundles: one.bundles };
+const LONG = 600; // seconds that no test waits
+const PREFIX = "spiffe://example.org/billing";
+
+// A store whose calls do `before` what is put, and `after` it, as a test wants.
+class Fickle {
+  constructor(options) {
+    this.store = new MemoryStore(options);
+    this.puts = [];
+    this.before = this.after = () => {};
+  }
+  async put(claims, { signal }) {
+    this.signal = signal;
+    if (claims.length) this.puts.push(claims);
+    await this.before();
+    const found = await this.store.put(claims);
+    await this.after();
+    return found;
+  }
+  async withdraw(key, expires) {
+    await this.before();
+    await this.store.withdraw(key, expires);
+  }
+}
+
+const strict = (store, options) => Validator.open({ ...terms, mode: "strict", store, ...options });
+const bound = (store, options) => Validator.open({ ...terms, mode: "bound", store, ...options });
+const away = () => Promise.reject(new Error("the store is away"));
+const times = (count, make) => Array.from({ length: count }, (_, n) => make(n));
+
+// Timers that keep the process: each request that waits has one of them, and no other one is set while a test looks.
+const timers = () => process.getActiveResourcesInfo().filter((it) => it === "Timeout").length;
+
+// The store answers nothing until `open` is called.
+function held(store) {
+  const it = gate();
+  store.before = () => it.passed;
+  return {
+    open() {
+      store.before = () => {};
+      it.open();
+    },
+  };
+}
+
+// -- Modes
+
+test("in mode reuse a token may come again, until it is withdrawn", async () => {
+  const validator = await Validator.open({ ...terms, mode: "reuse" }), text = token(one);
+  for (let n = 0; n < 3; n++) assert.equal((await validator.check(text)).path, "/billing/api");
+  assert.equal(validator.size().uses, 0);
+  await validator.withdraw(text);
+  assert.equal(await said(validator.check(text)), "Withdrawn");
+  validator.close();
+});
+
+test("a store is given in the modes that claim tokens, and in no other one", async () => {
+  const store = new MemoryStore();
+  const wrong = [{ mode: "strict" }, { mode: "bound" }, { store }, { mode: "once", store }, { mode: "reuse", store }, { mode: "strict", store: {} }];
+  for (const it of wrong) await assert.rejects(Validator.open({ ...terms, ...it }), TypeError);
+  for (const mode of ["twice", "", "toString", null, 1]) {
+    await assert.rejects(Validator.open({ ...terms, mode, store }), { name: "RangeError", message: /^mode is one of once, strict, bound, reuse, and not/ });
+  }
+  for (const wait of [0, -1, NaN, "2", null, 2n]) await assert.rejects(Validator.open({ ...terms, wait }), /wait is a number of seconds/);
+  for (const wait of [0.5, 1e300, Infinity]) (await Validator.open({ ...terms, wait })).close();
+});
+
+test("of many checks of one token at once one is accepted, and one claim goes out", async () => {
+  const store = new Fickle(), validator = await strict(store, { wait: LONG, verify: () => true }), text = token(one), hold = held(store);
+  const answers = times(3000, () => said(validator.check(text)));
+  await until(() => store.puts.length);
+  hold.open();
+  assert.deepEqual(counted(await Promise.all(answers)), { accepted: 1, Replayed: 2999 });
+  assert.deepEqual(store.puts.map((it) => it.length), [1]);
+  assert.equal(validator.size().uses, 1);
+  validator.close();
+});
+
+test("validators of one store accept each token once", async () => {
+  const store = new MemoryStore(), both = [await strict(store), await strict(store)], tokens = times(20, () => token(one));
+  const answers = await Promise.all(tokens.map((text) => Promise.all([0, 1, 0, 1].map((n) => said(both[n].check(text))))));
+  for (const it of answers) assert.deepEqual(counted(it), { accepted: 1, Replayed: 3 });
+  for (const it of both) it.close();
+});
+
+test("over a store that fails now and then, and is slow, no token is accepted twice", async () => {
+  const store = new Fickle(), both = [await strict(store, { wait: 0.05 }), await strict(store, { wait: 0.05 })], tokens = times(40, () => token(one));
+  let seed = 7;
+  const chance = (most) => (seed = (seed * 48_271) % 2_147_483_647) % most;
+  store.before = store.after = async () => {
+    const drawn = chance(8);
+    if (drawn < 2) await away();
+    if (drawn === 2) await new Promise((resolve) => setTimeout(resolve, 30));
+  };
+  const answers = [];
+  await Promise.all(times(8, async (n) => {
+    for (let at = 0; at < tokens.length; at++) {
+      const text = tokens[(at * 7 + n * 5) % tokens.length];
+      answers.push([text, await said(both[n % 2].check(text))]);
+    }
+  }));
+  const names = Object.keys(counted(answers.map(([, it]) => it))), won = answers.filter(([, it]) => it === "accepted").map(([it]) => it);
+  assert.deepEqual(names.filter((it) => !["accepted", "Replayed", "Unavailable"].includes(it)), []);
+  assert.ok(won.length > 0 && new Set(won).size === won.length);
+  for (const it of both) it.close();
+});
+
+test("a life takes no claims of the one before for its own", async () => {
+  const store = new MemoryStore(), text = token(one), validatorId = new Uint8Array(16).fill(7);
+  for (const due of ["accepted", "Replayed"]) {
+    const validator = await strict(store, { validatorId });
+    assert.equal(await said(validator.check(text)), due);
+    validator.close();
+  }
+});
+
+test("a token is bound to its caller, in the whole group", async () => {
+  const store = new MemoryStore(), both = [await bound(store), await bound(store)], text = token(one);
+  const owner = "10.0.0.7", thief = "10.0.0.70";
+  for (const it of [...both, both[0]]) {
+    assert.equal((await it.check(text, { caller: owner })).path, "/billing/api");
+    assert.equal(await said(it.check(text, { caller: Buffer.from(owner), now: now() })), "accepted");
+    assert.equal(await said(it.check(text, { caller: thief })), "Replayed");
+  }
+  await both[0].withdraw(text);
+  for (const it of both) assert.equal(await said(it.check(text, { caller: owner })), "Withdrawn");
+  for (const it of both) it.close();
+});
+
+test("a caller is given in mode bound, and in no other one", async () => {
+  const checks = await bound(new MemoryStore()), others = [await Validator.open(terms), await strict(new MemoryStore())], text = token(one);
+  for (const it of [undefined, {}, now(), { now: now() }]) await assert.rejects(checks.check(text, it), { name: "TypeError", message: /in the mode bound/ });
+  for (const caller of [null, 7, ["a"], {}, new ArrayBuffer(3)]) await assert.rejects(checks.check(text, { caller }), TypeError);
+  for (const it of others) {
+    await assert.rejects(it.check(text, { caller: "a" }), { name: "TypeError", message: /in no other one/ });
+    await assert.rejects(it.check(text, { now: now(), who: "a" }), { name: "TypeError", message: /no who/ });
+    assert.equal(await said(it.check(text, { now: now() })), "accepted");
+  }
+  for (const it of [checks, ...others]) it.close();
+});
+
+// -- The store
+
+test("a check that is late leaves its claim to this life", async () => {
+  const store = new Fickle(), before = timers(), validator = await strict(store, { wait: 0.2 }), text = token(one), hold = held(store);
+  const why = await validator.check(text).catch((it) => it);
+  assert.ok(why instanceof Unavailable);
+  assert.equal(why.message, sentences("LATE"));
+  assert.equal(timers(), before);
+  hold.open();
+  assert.equal(await inTime(validator, text), "accepted");
+  assert.equal(await inTime(validator, text), "Replayed");
+  validator.close();
+});
+
+test("claims are put again and again to a store that does not answer, and its error is told", async () => {
+  const store = new Fickle(), validator = await strict(store, { wait: 0.3 }), text = token(one);
+  store.before = away;
+  for (let n = 0; n < 2; n++) {
+    const why = await validator.check(text).catch((it) => it);
+    assert.deepEqual([why.name, why.cause.message], ["Unavailable", "the store is away"]);
+  }
+  assert.ok(store.puts.length > 2);
+  store.before = () => {};
+  assert.equal(await inTime(validator, text), "accepted");
+  validator.close();
+});
+
+test("a claim whose answer was lost is put again, and finds its own entry", async () => {
+  const store = new Fickle(), validator = await strict(store, { wait: LONG }), text = token(one);
+  store.after = () => {
+    store.after = () => {};
+    return away();
+  };
+  assert.equal(await said(validator.check(text)), "accepted");
+  assert.equal(store.puts.length, 2);
+  assert.deepEqual(store.puts[0], store.puts[1]);
+  assert.equal(await said(validator.check(text)), "Replayed");
+  validator.close();
+});
+
+test("an entry of another owner refuses the token, and one of zeros withdraws it", async () => {
+  for (const [byte, due, uses] of [[7, "Replayed", 0], [0, "Withdrawn", 1]]) {
+    const store = new Fickle(), put = store.put.bind(store);
+    store.put = async (...given) => (await put(...given)).map((it) => ({ ...it, owner: new Uint8Array(32).fill(byte) }));
+    const validator = await strict(store);
+    assert.equal(await said(validator.check(token(one))), due);
+    assert.equal(validator.size().uses, uses);
+    validator.close();
+  }
+});
+
+test("what is no answer counts as none: the claim is put again", async () => {
+  const wrong = [
+    () => [], (it) => [...it, ...it], () => undefined, () => null, () => [undefined], ([it]) => [{ ...it, owner: new Uint8Array(31) }],
+    ([it]) => [{ ...it, owner: undefined }], ([it]) => [{ ...it, time: undefined }], ([it]) => [{ ...it, time: NaN }], ([it]) => [{ ...it, deaf: -1 }],
+  ];
+  const store = new Fickle(), put = store.put.bind(store);
+  let answers;
+  store.put = async (claims, about) => {
+    const found = await put(claims, about);
+    return claims.length && answers ? answers(found) : found;
+  };
+  const validator = await strict(store, { wait: LONG });
+  for (const it of wrong) {
+    const count = store.puts.length;
+    answers = (found) => (store.puts.length > count + 1 ? found : it(found));
+    assert.equal(await said(validator.check(token(one))), "accepted", String(it));
+    assert.equal(store.puts.length, count + 2, String(it));
+  }
+  // (numbers will do, and a store that has lost nothing need not say so)
+  answers = (found) => found.map((it) => ({ owner: it.owner, time: Number(it.time) }));
+  assert.equal(await said(validator.check(token(one))), "accepted");
+  validator.close();
+});
+
+test("many claims share a call, and 256 at the most", async () => {
+  const store = new Fickle(), validator = await strict(store, { wait: LONG, verify: () => true }), hold = held(store);
+  const answers = times(700, () => said(validator.check(token(one))));
+  await until(() => store.puts.flat().length === 700);
+  hold.open();
+  assert.deepEqual(counted(await Promise.all(answers)), { accepted: 700 });
+  const counts = store.puts.map((it) => it.length);
+  assert.equal(Math.max(...counts), 256);
+  assert.ok(counts.length < 12, String(counts));
+  assert.equal(new Set(store.puts.flat().map((it) => it.key.join())).size, 700);
+  validator.close();
+});
+
+test("a call that hangs does not hold up the others", async () => {
+  const store = new Fickle(), validator = await strict(store, { wait: LONG }), hold = gate();
+  store.before = () => (store.puts.length === 1 ? hold.passed : undefined);
+  let first;
+  const checked = said(validator.check(token(one))).then((it) => (first = it));
+  await until(() => store.puts.length);
+  for (let n = 0; n < 3; n++) assert.equal(await said(validator.check(token(one))), "accepted");
+  assert.equal(first, undefined);
+  hold.open();
+  assert.equal(await checked, "accepted");
+  validator.close();
+});
+
+test("a claim whose check is late is not put any more", async () => {
+  const store = new Fickle(), validator = await strict(store, { wait: 0.2 }), late = token(one), hold = gate();
+  store.before = () => (store.puts.length === 1 ? hold.passed.then(away) : undefined);
+  assert.equal(await said(validator.check(late)), "Unavailable");
+  hold.open();
+  // (what has no answer is put again within 250 ms)
+  const begun = performance.now();
+  await until(() => performance.now() > begun + 300);
+  assert.equal(await inTime(validator, token(one)), "accepted");
+  const key = Buffer.from(validator.says(late).key);
+  assert.deepEqual(store.puts.map((it) => it.some((claim) => key.equals(claim.key))), [true, ...store.puts.slice(1).map(() => false)]);
+  validator.close();
+});
+
+test("a claim whose check is late is not put, though nobody has looked at the time", async (t) => {
+  let moment = performance.now();
+  const clock = t.mock.method(performance, "now", () => moment);
+  const store = new Fickle(), validator = await strict(store, { wait: LONG, verify: () => true }), hold = held(store);
+  const first = said(validator.check(token(one)));
+  await until(() => store.puts.length);
+  const second = said(validator.check(token(one)));
+  // (it waits for the first call, or for its time to go out, which does not come)
+  await new Promise((resolve) => setImmediate(resolve));
+  moment += 1000 * LONG;
+  assert.equal(await second, "Unavailable");
+  clock.mock.restore();
+  assert.equal(store.puts.length, 1);
+  hold.open();
+  validator.close();
+  assert.equal(await first, "Closed");
+});
+
+test("tokens that may have been claimed before a store lost entries are not accepted", async () => {
+  const store = new MemoryStore({ lasts: 3620 }), validator = await strict(store, { longest: 3600 });
+  assert.equal(await said(validator.check(token(one))), "accepted");
+  assert.equal(validator.unready(), null);
+  await store.lose();
+  await assert.rejects(validator.check(token(one)), { name: "Unavailable", message: sentences("CLAIM_DEAF") });
+  assert.equal(validator.unready(), sentences("DEAF"));
+  assert.equal(validator.unready(now() + 60), null);
+  validator.close();
+});
+
+test("a token that lives longer than the store keeps it is not accepted", async () => {
+  const validator = await strict(new MemoryStore({ now: () => now() - 3600 }), { longest: 3600 });
+  await assert.rejects(validator.check(token(one)), { name: "Unavailable", message: sentences("CLAIM_FAR") });
+  validator.close();
+});
+
+test("a store in memory keeps the first claim until its token has expired, and a margin longer", async () => {
+  let clock = 1000;
+  const store = new MemoryStore({ now: () => clock, margin: 10, lasts: 100 });
+  const filled = (byte) => new Uint8Array(32).fill(byte), zeros = filled(0);
+  const claim = (owner, key = 1, expires = 1050n) => ({ key: filled(key), owner: filled(owner), expires });
+  const found = async (...claims) => (await store.put(claims)).map(({ owner, time, deaf }) => [owner[0], Number(time), Number(deaf)]);
+  assert.deepEqual(await found(), []);
+  assert.deepEqual(await found(claim(7), claim(8), claim(7)), [[7, 1000, 0], [7, 1000, 0], [7, 1000, 0]]);
+  clock = 1059.9;
+  assert.deepEqual(await found(claim(8)), [[7, 1059, 0]]);
+  clock = 1060;
+  assert.deepEqual(await found(claim(8)), [[8, 1060, 0]]);
+  await found(claim(7, 2, 1200n));
+  await store.withdraw(filled(2), 1100n);
+  clock = 1209;
+  assert.deepEqual((await store.put([claim(8, 2)]))[0].owner, zeros);
+  await store.lose();
+  assert.deepEqual(await found(claim(8, 2)), [[8, 1209, 1309]]);
+});
+
+// -- Withdrawals
+
+test("a withdrawal reaches the other validators by the store", async () => {
+  const store = new MemoryStore(), before = timers(), both = [await strict(store), await strict(store)], text = token(one);
+  const use = await both[0].withdraw(text);
+  assert.ok(use.withdrawn && use.message.length === 82);
+  for (const it of [...both, both[1]]) assert.equal(await said(it.check(text)), "Withdrawn");
+  assert.equal(both[1].size().uses, 1);
+  assert.equal(timers(), before);
+  for (const it of both) it.close();
+});
+
+test("a withdrawal that the store may not have says so", async () => {
+  const store = new Fickle(), before = timers(), validator = await strict(store, { wait: 0.2 }), text = token(one);
+  store.before = away;
+  const why = await validator.withdraw(text).catch((it) => it);
+  assert.deepEqual([why.name, why.cause.message], ["Unavailable", "the store is away"]);
+  assert.match(why.message, /withdraw it again/);
+  store.before = () => Promise.reject(); // (a store may throw anything)
+  await assert.rejects(validator.withdraw(text), { name: "Unavailable", message: /withdraw it again/ });
+  const hold = held(store);
+  await assert.rejects(validator.withdraw(text), { name: "Unavailable", message: /withdraw it again/ });
+  assert.equal(timers(), before);
+  hold.open();
+  assert.equal(await inTime(validator, text), "Withdrawn");
+  await until(async () => (await said(validator.withdraw(text))) === "accepted");
+  validator.close();
+});
+
+// -- Callers
+
+test("who may not call is told so, and the token is not used up", async () => {
+  const others = ["spiffe://example.org/other", "spiffe://example.com"], ours = ["spiffe://example.com", `${PREFIX}/*`];
+  for (const mode of ["once", "reuse", "strict"]) {
+    const options = () => ({ ...terms, mode, ...(mode === "strict" ? { store: new MemoryStore() } : {}) });
+    const closed = await Validator.open({ ...options(), callers: others }), text = token(one);
+    for (const name of ["check", "judge", "check"]) {
+      assert.equal(await said(closed[name](text)), "NotAllowed", mode);
+      assert.equal(await said(closed[name](`${text.slice(0, -6)}AAAAAA`)), "BadSignature", mode);
+    }
+    assert.equal(closed.size().uses, 0);
+    closed.close();
+    for (const callers of [ours, ours[1], new Set(ours), undefined]) {
+      const opened = await Validator.open({ ...options(), callers }), good = token(one);
+      for (const name of ["judge", "check"]) assert.equal(await said(opened[name](good)), "accepted", mode);
+      opened.close();
+    }
+  }
+});
+
+test("callers that are no patterns, or none, are refused", async () => {
+  for (const callers of [[], new Set()]) await assert.rejects(Validator.open({ ...terms, callers }), { name: "RangeError", message: /leave it out to let all call/ });
+  for (const callers of ["", "example.org", ["spiffe://example.org", "a"], ["*"]]) {
+    await assert.rejects(Validator.open({ ...terms, callers }), { name: "RangeError", message: /no pattern of SPIFFE IDs/ });
+  }
+  for (const callers of [[1], 1, null]) await assert.rejects(Validator.open({ ...terms, callers }), TypeError);
+  await assert.rejects(Validator.open({ ...terms, audiences: ["ledger", "a\nb"], callers: `${PREFIX}/*` }), { name: "RangeError", message: /line feed/ });
+});
+
+// -- Deadlines
+
+test("a verifier that takes too long is not waited for, and the token is not used up", async () => {
+  const slow = gate(), before = timers(), validator = await Validator.open({ ...terms, verify: () => slow.passed, wait: 0.2 }), text = token(one);
+  assert.equal(await said(validator.check(text)), "Unavailable");
+  assert.equal(timers(), before);
+  slow.open(true);
+  assert.equal(await inTime(validator, text), "accepted");
+  assert.equal(validator.size().uses, 1);
+  validator.close();
+});
+
+test("an answer of a verifier that comes too late is worth nothing for another token", async () => {
+  // (a token that comes later has the handle of the one that is late)
+  const slow = gate(), late = token(one), verify = (_alg, _key, signed) => (late.startsWith(Buffer.from(signed).toString()) ? slow.passed : false);
+  const validator = await Validator.open({ ...terms, verify, wait: 0.2 });
+  assert.equal(await said(validator.check(late)), "Unavailable");
+  const next = said(validator.check(token(issuer())));
+  validator.renew(one.bundles);
+  slow.open(true);
+  assert.equal(await next, "BadSignature");
+  assert.equal(validator.size().uses, 0);
+  validator.close();
+});
+
+test("those that wait are late one by one", async () => {
+  const store = new Fickle(), before = timers(), validator = await strict(store, { wait: 0.3 }), tokens = times(4, () => token(one)), hold = held(store);
+  const answers = await Promise.all(times(8, (n) => said(validator.check(tokens[n % 4]))));
+  assert.deepEqual(counted(answers), { Unavailable: 8 });
+  assert.equal(timers(), before);
+  hold.open();
+  validator.close();
+});
+
+test("who waits behind a late claim goes on", async () => {
+  const store = new Fickle(), validator = await strict(store, { wait: 0.4 }), text = token(one), hold = gate();
+  store.before = () => (store.puts.length === 1 ? hold.passed : undefined);
+  const first = said(validator.check(text));
+  await until(() => store.puts.length);
+  const came = performance.now();
+  await until(() => performance.now() > came + 200);
+  // (its turn comes as the first one is late, and it is not late itself; its claim is that of the same life)
+  const second = validator.check(text);
+  assert.deepEqual([await first, await said(second)], ["Unavailable", "accepted"]);
+  hold.open();
+  validator.close();
+});
+
+test("who waits behind a request that ends by an error has its turn", async (t) => {
+  const time = now(), store = new Fickle({ now: () => time }), before = timers(), text = token(one);
+  const validator = await strict(store, { wait: LONG, step: 3600 }), hold = held(store);
+  validator.tick(time);
+  const first = said(validator.check(text)), second = said(validator.check(text, time));
+  await until(() => store.puts.length);
+  const clock = t.mock.method(Date, "now", () => (time + 7200) * 1000);
+  hold.open();
+  assert.equal(await first, "Jump");
+  clock.mock.restore();
+  assert.equal(await second, "accepted");
+  assert.equal(timers(), before);
+  validator.close();
+});
+
+test("closing answers all that wait, and gives up what the store was asked", async () => {
+  const store = new Fickle(), before = timers(), validator = await strict(store, { wait: LONG }), tokens = times(3, () => token(one)), hold = held(store);
+  const answers = times(6, (n) => said(validator.check(tokens[n % 3])));
+  answers.push(said(validator.withdraw(token(one))));
+  await until(() => store.puts.length);
+  assert.equal(store.signal.aborted, false);
+  validator.close();
+  assert.deepEqual(counted(await Promise.all(answers)), { Closed: 7 });
+  assert.equal(timers(), before);
+  assert.ok(store.signal.aborted);
+  hold.open();
+  for (const call of [() => validator.unready(), () => validator.ready]) assert.throws(call, { name: "Closed" });
+});
+
+test("a library that has stopped answers all that wait", async () => {
+  const store = new Fickle(), before = timers();
+  await store.store.put([]); // (it has an instance of its own)
+  const [validator, calls] = await seen(() => strict(store, { wait: LONG })), hold = held(store);
+  const answers = [said(validator.check(token(one))), said(validator.check(token(one))), said(validator.withdraw(token(one)))];
+  await until(() => store.puts.length);
+  assert.throws(() => calls.svid_validator_tick(2n ** 32n - 8n, 1n, 2n ** 32n - 8n), WebAssembly.RuntimeError);
+  hold.open();
+  assert.deepEqual(counted(await Promise.all(answers)), { Stopped: 3 });
+  assert.equal(timers(), before);
+  validator.close();
+});
+
+test("a validator that is dropped is freed, also while its store is away", async () => {
+  const program = `import { setFlagsFromString } from "node:v8";
+    import { runInNewContext } from "node:vm";
+    import { MemoryStore, Validator } from ${JSON.stringify(`${PACKAGE}/index.js`)};
+    setFlagsFromString("--expose-gc");
+    const gc = runInNewContext("gc"), freed = [];
+    const watch = new FinalizationRegistry((it) => freed.push(it));
+    let isAway = true;
+    const store = { put: async (claims) => { if (isAway) throw new Error("away"); return []; }, withdraw: async () => {} };
+    const open = async (name, it) => watch.register(await Validator.open({ audiences: "a", bundles: "{}", mode: "strict", wait: 0.05, store: it }), name);
+    await open("there", new MemoryStore());
+    await open("away", store);
+    const begun = performance.now();
+    while (freed.length < 2 && performance.now() - begun < ${PATIENCE * 1000}) {
+      await new Promise((resolve) => setTimeout(resolve, 5));
+      gc();
+    }
+    console.log(freed.sort().join());
+    // (neither does one that is kept keep the process)
+    globalThis.kept = await Validator.open({ audiences: "a", bundles: "{}", mode: "strict", wait: 0.05, store });`;
+  const { stdout } = await promisify(execFile)(process.execPath, ["--input-type=module", "--eval", program], { timeout: 2 * PATIENCE * 1000 });
+  assert.equal(stdout, "away,there\n");
+});
+
+// -- Readiness
+
+test("opening asks a store until it answers", async () => {
+  const store = new Fickle();
+  let asked = 0;
+  store.before = () => (++asked < 3 ? away() : undefined);
+  const validator = await strict(store, { wait: LONG });
+  assert.deepEqual([asked, validator.ready], [3, true]);
+  validator.close();
+});
+
+test("a store that is not there yet", async () => {
+  const store = new Fickle(), before = timers();
+  store.before = away;
+  const validator = await strict(store, { wait: 0.1 });
+  assert.equal(timers(), before);
+  assert.equal(validator.unready(), sentences("STORE_UNREACHED"));
+  assert.equal(validator.ready, false);
+  const why = await validator.check(token(one)).catch((it) => it);
+  assert.deepEqual([why.name, why.message], ["Unavailable", sentences("STORE_UNREACHED")]);
+  assert.equal(store.puts.length, 0);
+  store.before = () => {};
+  await until(() => validator.ready);
+  assert.equal(await inTime(validator, token(one)), "accepted");
+  validator.close();
+});
+
+test("opening does not wait for a store longer than a check does", async () => {
+  const store = new Fickle(), hold = held(store), validator = await strict(store, { wait: 0.1 });
+  assert.equal(validator.unready(), sentences("STORE_UNREACHED"));
+  hold.open();
+  await until(() => validator.ready);
+  validator.close();
+});
+
+test("a store that goes away, and comes back", async () => {
+  const store = new Fickle(), validator = await strict(store, { wait: 0.1 });
+  assert.equal(validator.ready, true);
+  store.before = away;
+  assert.equal(await said(validator.check(token(one))), "Unavailable");
+  await until(() => !validator.ready);
+  assert.equal(validator.unready(), sentences("STORE_AWAY"));
+  store.before = () => {};
+  await until(() => validator.ready); // (each look asks the store)
+  validator.close();
+});
+
+test("a clock that jumps", async () => {
+  const validator = await Validator.open({ ...terms, step: 3600 }), time = now();
+  assert.equal(validator.unready(time), null);
+  assert.equal(validator.unready(time + 7200), sentences("JUMPED"));
+  assert.equal(validator.unready(time), null);
+  assert.throws(() => validator.unready(Date.now()), RangeError);
+  validator.close();
+});
+
+test("renewed bundles count for who waits", async () => {
+  const store = new Fickle(), validator = await strict(store, { wait: LONG }), text = token(one), hold = held(store);
+  const answers = times(2, () => said(validator.check(text)));
+  await until(() => store.puts.length);
+  validator.renew(issuer("k2").bundles);
+  hold.open();
+  // (a key that is gone by then lets nobody in)
+  assert.deepEqual(await Promise.all(answers), ["NoKey", "NoKey"]);
+  validator.close();
+});
+
+// What a check answers, once it is not too late: a wait may be short for a busy machine.
+async function inTime(validator, text) {
+  let answer;
+  await until(async () => (answer = await said(validator.check(text))) !== "Unavailable");
+  return answer;
+}
