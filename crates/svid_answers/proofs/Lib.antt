@@ -6,6 +6,7 @@ pub mod FitsLemmas
 pub mod GrantsLemmas
 pub mod GroupLemmas
 pub mod LooksLemmas
+pub mod PiecesLemmas
 pub mod RecordsLemmas
 pub mod ResponsesLemmas
 pub mod RunsAloneLemmas

@@ -3,6 +3,7 @@ pub mod Calls
 pub mod CallsAlone
 pub mod Examples
 pub mod Group
+pub mod Pieces
 pub mod Promises
 pub mod Records
 pub mod Runs

@@ -4,6 +4,7 @@ ghost use Rattle.svid_answers.specs.Alone.{AnsweredIsWritten, TokensAreAnsweredO
 ghost use Rattle.svid_answers.specs.Calls.{BeginsAreEvents, ComesAreEvents, FindsAreEvents, FoundIsALook, HearsAreEvents, JoinsAreEvents, JudgesAreEvents, StoresKeepMembers};
 ghost use Rattle.svid_answers.specs.CallsAlone as alone;
 ghost use Rattle.svid_answers.specs.Examples.{BoundAnswers, OnceAnswers, StrictAnswers};
+ghost use Rattle.svid_answers.specs.Pieces.{PiecesTell};
 ghost use Rattle.svid_answers.specs.Runs.{RunsAnswerCallers, RunsAnswerOnce, RunsAnswerOneCaller};
 ghost use Rattle.svid_answers.specs.RunsAlone as runs_alone;
 ghost use Rattle.svid_answers.specs.RunsKept as runs_kept;
@@ -77,6 +78,11 @@ pub fn runs_answer_once<V>()
 pub fn runs_answer_one_caller<V>()
     ensures one { RunsAnswerOneCaller V }
     ensures callers { RunsAnswerCallers V }
+{}
+
+/// A snapshot may be the pieces of a record, of uses that have expired too: their time is in the pieces. So a state folder allows its mark, of each use.
+pub fn pieces_tell()
+    ensures { PiecesTell }
 {}
 
 /// In some histories requests are answered 200, so these laws speak of something.

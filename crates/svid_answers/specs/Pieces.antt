@@ -1,0 +1,21 @@
+-- A snapshot of a state folder that is made of the pieces of a record, and what its payloads tell.
+use Rattle.std.specs.Prelude.{◌≡◌, ℕ, Bool, true, List, [], ◌++◌, None, map}
+use Rattle.std.specs.List.{list_any}
+use Rattle.svid_replay.specs.declared.token_use.Use.{Use}
+use Rattle.svid_replay.specs.Batches.{BatchData}
+use Rattle.svid_replay.specs.Records.{State, batch_state}
+use Rattle.svid_wire.specs.BatchText.{batch_text}
+use Rattle.svid_check.specs.Saves.{IsSaved}
+use Rattle.svid_journal.specs.History.{IsAllowed, Titles, World}
+use Rattle.svid_journal.specs.History.Event.{Piece}
+use Rattle.svid_answers.specs.Records.{Knows}
+
+-- a test sees in the text of a batch each use that the batch has, or that its time is past
+abbrev pub Sees : (Use → List ℕ → Bool) → Type 0
+Sees tells = (u : Use) (b : BatchData) → Knows (batch_state b) u → tells u (batch_text b) ≡ true
+
+-- Where the payloads of a snapshot are the pieces of a save, behind others or none, the mark that ends the snapshot is allowed, of each use. The save began
+-- with a record that knew the use if it was noted as the journal that grows began.
+abbrev pub PiecesTell : Type 0
+PiecesTell = (tells : Use → List ℕ → Bool) (t : Titles) (w : World) (u : Use) (a z : State) (front : List (List ℕ)) (batches : List BatchData) → Sees tells → (list_any (tells u) w.noted ≡ true → Knows a u) → IsSaved a None batches z
+    → w.parts ≡ front ++ map batch_text batches → (ok : Bool) (landed : List ℕ) → IsAllowed (tells u) t w (Piece [] ok landed)
