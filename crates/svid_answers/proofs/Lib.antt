@@ -1,10 +1,12 @@
 pub mod AloneLemmas
+pub mod BoundExamplesLemmas
 pub mod CallsAloneLemmas
 pub mod CallsLemmas
 pub mod ExamplesLemmas
 pub mod FitsLemmas
 pub mod GrantsLemmas
 pub mod GroupLemmas
+pub mod KeptExamplesLemmas
 pub mod LooksLemmas
 pub mod PiecesLemmas
 pub mod RecordsLemmas

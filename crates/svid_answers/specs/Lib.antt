@@ -1,8 +1,10 @@
 pub mod Alone
+pub mod BoundExamples
 pub mod Calls
 pub mod CallsAlone
 pub mod Examples
 pub mod Group
+pub mod KeptExamples
 pub mod Pieces
 pub mod Promises
 pub mod Records
