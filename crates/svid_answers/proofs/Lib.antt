@@ -8,7 +8,7 @@ pub mod GrantsLemmas
 pub mod GroupLemmas
 pub mod KeptExamplesLemmas
 pub mod LooksLemmas
-pub mod PiecesLemmas
+pub mod PayloadsLemmas
 pub mod RecordsLemmas
 pub mod ResponsesLemmas
 pub mod RunsAloneLemmas

@@ -5,7 +5,7 @@ pub mod CallsAlone
 pub mod Examples
 pub mod Group
 pub mod KeptExamples
-pub mod Pieces
+pub mod Payloads
 pub mod Promises
 pub mod Records
 pub mod Runs

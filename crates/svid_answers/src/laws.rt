@@ -6,7 +6,7 @@ ghost use Rattle.svid_answers.specs.Calls.{BeginsAreEvents, ComesAreEvents, Find
 ghost use Rattle.svid_answers.specs.CallsAlone as alone;
 ghost use Rattle.svid_answers.specs.Examples.{BoundAnswers, OnceAnswers, StrictAnswers};
 ghost use Rattle.svid_answers.specs.KeptExamples.{KeptRunAnswers};
-ghost use Rattle.svid_answers.specs.Pieces.{PiecesTell};
+ghost use Rattle.svid_answers.specs.Payloads.{PiecesTell, StartsKnow};
 ghost use Rattle.svid_answers.specs.Runs.{RunsAnswerCallers, RunsAnswerOnce, RunsAnswerOneCaller};
 ghost use Rattle.svid_answers.specs.RunsAlone as runs_alone;
 ghost use Rattle.svid_answers.specs.RunsKept as runs_kept;
@@ -83,9 +83,10 @@ pub fn runs_answer_one_caller<V>()
 {}
 
 /// The pieces of a record tell each use that it knew, and of an expired one its time. So a state folder allows the mark that ends a snapshot of them, of
-/// each use.
-pub fn pieces_tell()
-    ensures { PiecesTell }
+/// each use. A start that joins its record with all that it reads knows each use that is told there.
+pub fn payloads_tell()
+    ensures pieces { PiecesTell }
+    ensures starts { StartsKnow }
 {}
 
 /// In some histories requests are answered 200, so these laws speak of something.
