@@ -1,12 +1,14 @@
 pub mod AloneLemmas
+pub mod BoundExamplesLemmas
 pub mod CallsAloneLemmas
 pub mod CallsLemmas
 pub mod ExamplesLemmas
 pub mod FitsLemmas
 pub mod GrantsLemmas
 pub mod GroupLemmas
+pub mod KeptExamplesLemmas
 pub mod LooksLemmas
-pub mod PiecesLemmas
+pub mod PayloadsLemmas
 pub mod RecordsLemmas
 pub mod ResponsesLemmas
 pub mod RunsAloneLemmas

@@ -1,9 +1,11 @@
 pub mod Alone
+pub mod BoundExamples
 pub mod Calls
 pub mod CallsAlone
 pub mod Examples
 pub mod Group
-pub mod Pieces
+pub mod KeptExamples
+pub mod Payloads
 pub mod Promises
 pub mod Records
 pub mod Runs

@@ -1,10 +1,12 @@
 //! What is proved of members that answer requests.
 
 ghost use Rattle.svid_answers.specs.Alone.{AnsweredIsWritten, TokensAreAnsweredOnceHere};
+ghost use Rattle.svid_answers.specs.BoundExamples.{BoundRunAnswers};
 ghost use Rattle.svid_answers.specs.Calls.{BeginsAreEvents, ComesAreEvents, FindsAreEvents, FoundIsALook, HearsAreEvents, JoinsAreEvents, JudgesAreEvents, StoresKeepMembers};
 ghost use Rattle.svid_answers.specs.CallsAlone as alone;
 ghost use Rattle.svid_answers.specs.Examples.{BoundAnswers, OnceAnswers, StrictAnswers};
-ghost use Rattle.svid_answers.specs.Pieces.{PiecesTell};
+ghost use Rattle.svid_answers.specs.KeptExamples.{KeptRunAnswers};
+ghost use Rattle.svid_answers.specs.Payloads.{PiecesTell, StartsKnow};
 ghost use Rattle.svid_answers.specs.Runs.{RunsAnswerCallers, RunsAnswerOnce, RunsAnswerOneCaller};
 ghost use Rattle.svid_answers.specs.RunsAlone as runs_alone;
 ghost use Rattle.svid_answers.specs.RunsKept as runs_kept;
@@ -80,9 +82,11 @@ pub fn runs_answer_one_caller<V>()
     ensures callers { RunsAnswerCallers V }
 {}
 
-/// A snapshot may be the pieces of a record, of uses that have expired too: their time is in the pieces. So a state folder allows its mark, of each use.
-pub fn pieces_tell()
-    ensures { PiecesTell }
+/// The pieces of a record tell each use that it knew, and of an expired one its time. So a state folder allows the mark that ends a snapshot of them, of
+/// each use. A start that joins its record with all that it reads knows each use that is told there.
+pub fn payloads_tell()
+    ensures pieces { PiecesTell }
+    ensures starts { StartsKnow }
 {}
 
 /// In some histories requests are answered 200, so these laws speak of something.
@@ -90,4 +94,11 @@ pub fn histories_happen()
     ensures strict { StrictAnswers }
     ensures bound { BoundAnswers }
     ensures once { OnceAnswers }
+{}
+
+/// So they are by calls of members whose validator accepts the token: two requests of one caller in mode `Bound`, and one in mode `Once` with a state
+/// folder. `V` is the validator's verifier.
+pub fn runs_happen<V>()
+    ensures bound { BoundRunAnswers V }
+    ensures kept { KeptRunAnswers }
 {}

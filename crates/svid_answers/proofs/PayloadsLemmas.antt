@@ -1,5 +1,5 @@
--- The pieces of a record tell what the record knew.
-use Rattle.std.proofs.Common.{◌≡◌, ◌⊎◌, inl, inr, ℕ, ◌<◌, ◌≤◌, ◌||◌, max, nat_lt, Bool, true, List, [], ◌∷◌, map, None, sym, ap, ◌∙◌, arith}
+-- The pieces of a record tell what the record knew, and a record of payloads knows what they tell.
+use Rattle.std.proofs.Common.{◌≡◌, ◌⊎◌, inl, inr, ℕ, ◌<◌, ◌≤◌, ◌||◌, max, nat_lt, Bool, true, List, [], ◌∷◌, map, None, sym, ap, ◌∙◌, subst, arith}
 use Rattle.std.specs.List.{list_any}
 use Rattle.std.proofs.lemmas.Bool.{and_parts, cases_lt, false≢true, or_cases, or_left, or_right}
 use Rattle.std.proofs.lemmas.List.Folds.{list_any-append}
@@ -8,13 +8,14 @@ use Rattle.svid_replay.specs.Batches.{BatchData}
 use Rattle.svid_replay.specs.Parts.{join_all}
 use Rattle.svid_replay.specs.Records.{State, batch_state, join, state_of}
 use Rattle.svid_replay.specs.Sets.{holds}
-use Rattle.svid_replay.proofs.RecordsLemmas.{holds-join, moment-join}
+use Rattle.svid_replay.proofs.RecordsLemmas.{holds-join, join_comm, moment-join}
 use Rattle.svid_replay.proofs.UsesLemmas.{holds-uses_in}
 use Rattle.svid_wire.specs.BatchText.{batch_text}
 use Rattle.svid_check.specs.Saves.{IsSaved}
 use Rattle.svid_check.proofs.LaterLemmas.{saved_later, saves_add_nothing, saves_lose_nothing}
-use Rattle.svid_answers.specs.Pieces.{PiecesTell, Sees}
+use Rattle.svid_answers.specs.Payloads.{PiecesTell, Sees, SeesNoMore, StartsKnow}
 use Rattle.svid_answers.specs.Records.{Knows}
+use Rattle.svid_answers.proofs.RecordsLemmas.{knows_join}
 
 -- what two records know together, one of them knows
 either_knows : (a b : State) (u : Use) → Knows (join a b) u → Knows a u ⊎ Knows b u
@@ -62,3 +63,20 @@ pub pieces_tell : PiecesTell
 pieces_tell tells t w u a z front batches sees had saved parts ok landed none noted =
     ap (list_any (tells u)) parts ∙ list_any-append (tells u) front (map batch_text batches)
     ∙ or_right (list_any (tells u) front) (list_any (tells u) (map batch_text batches)) (all_told tells sees u batches a z saved (saved_knows a z batches u saved (had noted)))
+
+-- a record that is joined with batches knows what it knew, and what each of them tells
+still_knows : (r : State) (bs : List BatchData) (u : Use) → Knows r u → Knows (join_all r bs) u
+still_knows r [] u knows = knows
+still_knows r (b ∷ bs) u knows = still_knows (join r (batch_state b)) bs u (knows_join r (batch_state b) u knows)
+
+batches_known : (tells : Use → List ℕ → Bool) (u : Use) (r : State) (bs : List BatchData) → SeesNoMore tells → list_any (tells u) (map batch_text bs) ≡ true → Knows (join_all r bs) u
+batches_known tells u r [] sees found = absurd (false≢true found)
+batches_known tells u r (b ∷ bs) sees found =
+    let s = batch_state b in
+    elim (or_cases (tells u (batch_text b)) (list_any (tells u) (map batch_text bs)) found) [
+      | inl here ↦ still_knows (join r s) bs u (subst (λ (x : State). Knows x u) (join_comm s r) (knows_join s r u (sees u b here)))
+      | inr later ↦ batches_known tells u (join r s) bs sees later
+    ]
+
+pub starts_know : StartsKnow
+starts_know tells u batches sees found = batches_known tells u (state_of 0 []) batches sees found
