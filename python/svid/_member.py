@@ -30,6 +30,7 @@ from .records import Accepted, Use
 from .stores import Claim, Store
 
 _DEED = struct.Struct("=QQQQQQ32s16s")
+_BEGIN = struct.Struct("=QQ")  # what is to be done, and for which request
 _LONGEST = 2.0**63
 _Call = Callable[..., int]
 _T = TypeVar("_T")
@@ -63,6 +64,11 @@ _Ends = queue.SimpleQueue[Union[_Outcome, Exception]]
 
 class Request:
     """A token on its way to an answer. Its thread does what comes by `steps`."""
+
+    __slots__ = (
+        *("token", "clock", "caller", "verifies"),
+        *("steps", "number", "subject", "is_writing", "why"),
+    )
 
     def __init__(
         self, token: Token, clock: Callable[[], int], caller: bytes, verifies: Verifies
@@ -229,13 +235,14 @@ class Member(Handle):
         with self._lock:
             come = lib.quick.svid_member_come
             self._check(come(self._at, lib.moment(up()), self._deed_at))
-            deed = self._read()
-            request.number = deed.number
-            self._open[deed.number] = request
-            request.steps.put(deed)
+            what, request.number = _BEGIN.unpack_from(self._deed)
+            if what != lib.DEED_JUDGE:
+                raise Unavailable("no more requests can be told apart: open another validator")
+            self._open[request.number] = request
 
     def _see_through(self, request: Request) -> Accepted:
         """Does what is to be done for a request, until it is answered."""
+        self._ask(request, lib.quick.svid_member_judge)
         while True:
             step = self._next(request.steps)
             if isinstance(step, bytes):
@@ -312,11 +319,11 @@ class Member(Handle):
     def _next(self, steps: queue.SimpleQueue[_T]) -> _T:
         """The next step. Whatever is due meanwhile is answered that it is late."""
         while True:
-            if not steps.empty():
-                return steps.get()
             try:
-                return steps.get(timeout=self._until_due())
+                return steps.get_nowait()
             except queue.Empty:
+                with contextlib.suppress(queue.Empty):
+                    return steps.get(timeout=self._until_due())
                 self._overdue()
 
     def _until_due(self) -> float:

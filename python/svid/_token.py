@@ -3,6 +3,7 @@
 from __future__ import annotations
 
 import ctypes
+import functools
 import struct
 from typing import Any
 
@@ -52,13 +53,22 @@ class Token:
 def _evidence(rows: bytes, text: bytes, verifies: Verifies) -> Evidence:
     (length,) = _LEN.unpack_from(rows)
     signed, (signature, at) = text[:length], _field(rows, _LEN.size)
+    for alg, key, key_size in _keys(rows[at:]):
+        if _is_yes(verifies(alg, key, signed, signature)):
+            size = lib.size(len(signature))
+            return key, key_size, signed, lib.size(length), signature, size
+    return NO_KEY
+
+
+@functools.lru_cache(maxsize=256)
+def _keys(rows: bytes) -> list[tuple[str, bytes, Any]]:
+    """The keys that rows have, each with its algorithm and its length: many tokens have the same."""
+    keys, at = [], 0
     while at < len(rows):
         alg, at = _field(rows, at)
         key, at = _field(rows, at)
-        if _is_yes(verifies(alg.decode(), key, signed, signature)):
-            key_size, size = lib.size(len(key)), lib.size(len(signature))
-            return key, key_size, signed, lib.size(length), signature, size
-    return NO_KEY
+        keys.append((alg.decode(), key, lib.size(len(key))))
+    return keys
 
 
 def _field(rows: bytes, at: int) -> tuple[bytes, int]:
