@@ -4,7 +4,7 @@
 // and what the library says is to be done.
 
 import { Claims, up } from "./claims.js";
-import { Closed, Jump, NotAllowed, Refusal, SvidError, Unavailable, isUnavailable, ofStatus, wordsOf } from "./errors.js";
+import { Closed, Jump, NotAllowed, Refusal, SvidError, Unavailable, isUnavailable } from "./errors.js";
 import { ANSWER, ANY, AT_DISK, AT_LOG, AT_STORE, CLAIM, JUDGE, NONE, NOTHING, OK, acceptedOf } from "./library.js";
 
 const NO_SIGNATURE = "BadSignature";
@@ -118,8 +118,8 @@ export class Member {
       this.#know(now, true);
     }
     const status = this.#library.ready();
-    if (status !== OK && !isUnavailable(status)) throw ofStatus(status);
-    return status === OK ? null : wordsOf(status);
+    if (status !== OK && !isUnavailable(status)) throw this.#library.fault(status);
+    return status === OK ? null : this.#library.sentence(status);
   }
 
   // -- For the claims
@@ -208,7 +208,7 @@ export class Member {
 
   #answer(request, { status, use }) {
     if (status === OK) return request.resolve(acceptedOf(request.subject, use));
-    const why = ofStatus(status, undefined, this.#claims?.why);
+    const why = this.#library.fault(status, this.#claims?.why);
     request.reject(why.name === NO_SIGNATURE && request.unverifiable ? request.unverifiable : why);
   }
 
@@ -243,8 +243,8 @@ export class Member {
 
   // -- Times
 
-  // Sees to it that there is a timer for what is due next, where somebody waits. It stays set where nobody does, but keeps nothing then: to set one anew
-  // would take a tenth of a check.
+  // Sees to it that there is a timer for what is due next, where somebody waits. It stays set where nobody does, and keeps nothing then: to set one
+  // anew would take a tenth of a check.
   #watch() {
     const waits = this.#open.size + this.#withdrawals.size > 0;
     if (waits === waiting.has(this) && (this.#timer || !waits)) return;
