@@ -53,8 +53,8 @@ export interface BundlesOptions {
 }
 
 /**
- * How often a token is accepted. "once": once by this validator. "strict": once by all validators that share the `store`. "bound": again and again, but
- * from one caller alone, by all that share the `store`. "reuse": again and again.
+ * How often a token is accepted. "once": once by this validator. "strict": once by all validators that share the `store`. "bound": again and again,
+ * but from one caller alone, by all that share the `store`. "reuse": again and again.
  */
 export type Mode = "once" | "strict" | "bound" | "reuse";
 
@@ -354,8 +354,8 @@ export interface GuardOptions<Request extends Incoming = Incoming> {
  * Middleware for Express and its like: checks the bearer token of each request, and goes on if it is good. `req.svid` is then what the check
  * answered, whatever stood there before.
  *
- * Any other request is answered with status 401 and a header WWW-Authenticate, and a good token of who may not call with status 403. Where nothing can
- * be said of the token, as while the store is away, the status is 503.
+ * Any other request is answered with status 401 and a header WWW-Authenticate, and a good token of who may not call with status 403. Where nothing
+ * can be said of the token, as while the store is away, the status is 503.
  */
 export function guard<Request extends Incoming = Incoming>(
   validator: Validator,
@@ -469,8 +469,8 @@ export class BadMessages extends SvidError {
 export class NotAllowed extends SvidError {}
 
 /**
- * Nobody accepts the token: the store failed, or did not answer in time. `cause` is what the store threw last, if it did. Answer with status 503. The token
- * may be used up all the same, and then its client needs a new one.
+ * Nobody accepts the token: the store failed, or there was no answer in time. `cause` is what the store threw last, if it did. Answer with status
+ * 503. The token may be used up all the same, and then its client needs a new one.
  */
 export class Unavailable extends SvidError {}
 

@@ -184,24 +184,17 @@ const WORDS = new Map([
 ]);
 // lists:end
 
-// Why a token has no answer, or why no tokens are to be sent here, by the status. (words.test.mjs compares these with lists/statuses.toml.)
-const UNAVAILABLE = new Map([
-  [58, ["The token expires more than lasts seconds past the store's time.", "Set the store's clock right."]],
-  [59, ["The token may have been claimed before the store lost entries.", "Present a token that was issued later."]],
-  [201, ["The time of the request was over before it had an answer.", "Try again."]],
-  [203, ["Nobody waits for the answer any more.", ""]],
-  [214, ["The group's store was not reached yet.", ""]],
-  [219, ["The clock went ahead too far at once.", "Set the clock right."]],
-  [221, ["The group's store does not answer, so no token can be claimed.", ""]],
-  [222, ["The store has lost entries, so no token is accepted that lives as long as it may.", ""]],
-]);
+// Why a claim does not count, and nobody knows of whom the token is; why a request has no answer; and why no tokens are to be sent here.
+const CLAIM_FAR = 58, CLAIM_DEAF = 59, LATE = 201, LEFT = 203, ENDED = 211, DEAF = 222;
 
 /** Whether a status says that there is no answer now. */
-export const isUnavailable = (status) => UNAVAILABLE.has(status);
+export function isUnavailable(status) {
+  return status === CLAIM_FAR || status === CLAIM_DEAF || (status >= LATE && status <= LEFT) || (status >= ENDED && status <= DEAF);
+}
 
 /** What a status says: what is wrong, where that is, and what to do. */
 export function wordsOf(status, where = "") {
-  const [says, advice] = WORDS.get(status) ?? UNAVAILABLE.get(status);
+  const [says, advice] = WORDS.get(status);
   return [says, where, advice].filter(Boolean).join(" ");
 }
 
@@ -215,11 +208,10 @@ const RANKED = new Set([BUNDLES_DOMAIN, BUNDLES_KEYS]);
 // Those of a bundle that can't be joined to others.
 const DOCUMENT_FAULTS = new Set([BUNDLES_NOT_OBJECT, BUNDLES_DOMAIN, BUNDLES_KEYS, BUNDLES_TWICE]);
 
-/** The error for a status that is not OK. `told` is what the call told beside it, and `cause` what the store threw last. */
-export function ofStatus(status, told, cause) {
+/** The error for a status that is not OK. `told` is what the call told beside it. */
+export function ofStatus(status, told) {
   if (SENTENCES.has(status)) return new Refusal(...SENTENCES.get(status));
   if (FAULTS.has(status)) return new (FAULTS.get(status))();
-  if (isUnavailable(status)) return new Unavailable(wordsOf(status), cause);
   if (MESSAGE_FAULTS.has(status)) {
     const [reason, says] = MESSAGE_FAULTS.get(status);
     return new BadMessages(reason, told.message, told.offset, says);

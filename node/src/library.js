@@ -3,7 +3,7 @@
 // Pointers, lengths and times are BigInts, as they have 64 bits; a status is a number. A handle has an instance of the module for
 // itself, so that one that stops, or that has no memory left, takes no other with it.
 
-import { ofBundles, ofDocuments, ofStatus, wordsOf, Closed, OutOfMemory, Stopped } from "./errors.js";
+import { isUnavailable, ofBundles, ofDocuments, ofStatus, wordsOf, Closed, OutOfMemory, Stopped, Unavailable } from "./errors.js";
 
 /** What a call answers that did what it is for. */
 export const OK = 0;
@@ -41,15 +41,15 @@ const OUT_ROOM = ROOM - OUT;
 const PACING_FIRST = [0n, 0n, 10n];
 
 const NEEDS = [
-  "room", "free_room", "svid_version", "svid_id_parse", "svid_key_spki", "svid_bearer_token", "svid_token_says", "svid_token_signature", "svid_id_allows", "svid_batch_of", "svid_report",
-  "svid_validator_open_by_lengths", "svid_validator_close", "svid_validator_bundles", "svid_validator_withdraw", "svid_validator_tick",
+  "room", "free_room", "svid_version", "svid_id_parse", "svid_key_spki", "svid_bearer_token", "svid_token_says", "svid_token_signature",
+  "svid_id_allows", "svid_batch_of", "svid_report", "svid_validator_open_by_lengths", "svid_validator_close", "svid_validator_bundles", "svid_validator_withdraw", "svid_validator_tick",
   "svid_validator_take", "svid_validator_parts", "svid_validator_size", "svid_validator_summary", "svid_validator_answer", "svid_bundles_open",
   "svid_bundles_close", "svid_bundles_ask", "svid_bundles_question", "svid_bundles_judge", "svid_bundles_join", "svid_token_open",
   "svid_token_close", "svid_validator_ask_token", "svid_validator_judge_token", "svid_member_open", "svid_member_know", "svid_member_ready",
   "svid_member_come", "svid_member_judge", "svid_member_send", "svid_member_found", "svid_member_leave", "svid_member_overdue",
   "svid_member_due", "svid_member_rules", "svid_withdrawal_come", "svid_withdrawal_told", "svid_withdrawal_overdue", "svid_pacing_may_send",
   "svid_pacing_due", "svid_pacing_sent", "svid_pacing_answered", "svid_pacing_unanswered", "svid_claim_owner", "svid_claim_owner_of_caller",
-  "svid_claim_until", "svid_claim_deaf", "svid_entries_write",
+  "svid_claim_until", "svid_claim_deaf", "svid_entries_write", "svid_strsentence",
 ];
 
 const encoder = new TextEncoder();
@@ -200,9 +200,9 @@ export class Library {
     const length = this.#lendToken(token);
     const rows = this.#written("svid_bundles_ask", this.#handle, this.#at(TOKEN), length, MOST_CANDIDATES);
     if (rows.status >= FIRST_REFUSAL) return null;
-    if (rows.status !== OK) throw this.#fault(rows.status);
+    if (rows.status !== OK) throw this.fault(rows.status);
     const made = this.#written("svid_token_signature", this.#at(TOKEN), length, this.#at(SMALL));
-    if (made.status !== OK) throw this.#fault(made.status);
+    if (made.status !== OK) throw this.fault(made.status);
     const signed = this.#seen(this.#at(TOKEN), this.#word(this.#at(SMALL)));
     return { rows: rowsOf(rows.bytes, 0), signed, signature: made.bytes };
   }
@@ -211,7 +211,7 @@ export class Library {
   question(token, number) {
     const length = this.#lendToken(token);
     const status = this.#call("svid_bundles_question", this.#handle, this.#at(TOKEN), length, BigInt(number), this.#at(QUESTION));
-    if (status !== OK) throw this.#fault(status);
+    if (status !== OK) throw this.fault(status);
     return this.#seen(this.#at(QUESTION), DIGEST);
   }
 
@@ -226,7 +226,7 @@ export class Library {
       const audiences = this.#audiences(own, lend, room);
       const lent = [this.#at(QUESTION), yes ? 1n : 0n, this.#at(TOKEN), length, this.#at(OUT), BigInt(OUT_ROOM), this.#at(USED)];
       const status = this.#call("svid_bundles_judge", this.#handle, setting, ...audiences, ...lent);
-      if (status !== OK) throw this.#fault(status);
+      if (status !== OK) throw this.fault(status);
       return this.#accepted();
     });
   }
@@ -252,7 +252,7 @@ export class Library {
       this.#setWords(entry, [1n]);
       this.#set(entry + 8n, this.#seen(at, USE));
       const status = this.#call("svid_entries_write", entry, 1n, small, BigInt(BATCH));
-      if (status !== OK) throw this.#fault(status);
+      if (status !== OK) throw this.fault(status);
     } else this.#run("svid_batch_of", at, small);
     return { ...this.#use(at), withdrawn, message: this.#seen(small, BATCH) };
   }
@@ -263,14 +263,14 @@ export class Library {
 
   // -- Tokens that are read once
 
-  /** Reads a token, for the calls of a request and `judge`. Close it in the end. Throws Refusal for what is none, and then advances the record too. */
+  /** Reads a token. Close it in the end. Throws Refusal for what is none, and then advances the record too. */
   read(now, token) {
     const length = this.#lendToken(token), at = this.#spare.pop() ?? this.#closed();
     const status = this.#call("svid_token_open", at, this.#at(TOKEN), length);
     if (status === OK) return { at, bytes: this.#seen(this.#at(TOKEN), length) };
     this.#spare.push(at);
     this.tick(now);
-    throw this.#fault(status);
+    throw this.fault(status);
   }
 
   /** Closes a token. Does nothing once all is closed. */
@@ -287,7 +287,7 @@ export class Library {
   keysOf({ at, bytes }) {
     const { status, bytes: all } = this.#written("svid_validator_ask_token", this.#handle, at, MOST_CANDIDATES);
     if (status >= FIRST_REFUSAL) return null;
-    if (status !== OK) throw this.#fault(status);
+    if (status !== OK) throw this.fault(status);
     const view = viewOf(all), length = view.getUint32(0), begins = WORD + view.getUint32(4);
     return { rows: rowsOf(all, begins), signed: bytes.subarray(0, length), signature: all.subarray(WORD, begins) };
   }
@@ -295,7 +295,7 @@ export class Library {
   /** Says what a check would, and adds nothing. `shown` has the key, and what it signed, or is null where no key did. Throws Refusal. */
   judge(now, token, shown) {
     const status = this.#call("svid_validator_judge_token", this.#handle, now, ...this.#shown(shown), token.at, ...this.#outputs());
-    if (status !== OK) throw this.#fault(status);
+    if (status !== OK) throw this.fault(status);
     return this.#accepted();
   }
 
@@ -364,7 +364,7 @@ export class Library {
 
   #judged(name, given, token, shown) {
     const status = this.#call(name, this.#handle, ...given, ...this.#shown(shown), token.at, ...this.#outputs(), this.#at(DEED));
-    if (status === CLOSED || status === JUMP) throw this.#fault(status); // (nothing happened)
+    if (status === CLOSED || status === JUMP) throw this.fault(status); // (nothing happened)
     const subject = status === OK ? this.#subject() : null;
     return { deed: this.#deed(), subject };
   }
@@ -423,10 +423,9 @@ export class Library {
 
   // What the last call says is to be done. `use` is that of a claim, and of an acceptance.
   #deed() {
-    const at = this.#at(DEED), what = this.#word(at), number = this.#word(at + 8n), status = Number(this.#word(at + 16n)), next = this.#word(at + 24n);
-    const isAccepted = what === ANSWER && status === OK;
+    const at = this.#at(DEED), what = this.#word(at), status = Number(this.#word(at + 16n)), isAccepted = what === ANSWER && status === OK;
     const use = isAccepted ? this.#used(at + 32n) : what === CLAIM ? this.#use(at + 32n) : null;
-    return { what, number, status, next, use };
+    return { what, number: this.#word(at + 8n), status, next: this.#word(at + 24n), use };
   }
 
   // Makes a call about withdrawals: the one that has ended, if one has.
@@ -439,7 +438,7 @@ export class Library {
   // Makes a call on the handle that tells nothing.
   #make(name, ...given) {
     const status = this.#run(name, this.#handle, ...given);
-    if (status !== OK) throw ofStatus(status);
+    if (status !== OK) throw this.fault(status);
   }
 
   // -- Claims in a store
@@ -486,7 +485,7 @@ export class Library {
           size = this.#length();
           return null;
         }
-        if (status !== OK) throw this.#fault(status);
+        if (status !== OK) throw this.fault(status);
         const [expires, count] = this.#words(this.#at(SMALL) + 32n, 2);
         let at = out;
         const [alg, spiffeId, trustDomain, keyId, ...audiences] = this.#words(lens, Number(count)).map((it) => {
@@ -539,21 +538,21 @@ export class Library {
     this.#open();
     this.#set(this.#at(SMALL), key);
     const status = this.#call("svid_validator_withdraw", this.#handle, now, this.#at(SMALL), expires, this.#at(USED));
-    if (status !== OK) throw this.#fault(status);
+    if (status !== OK) throw this.fault(status);
     return this.#used(this.#at(USED), true);
   }
 
   /** Advances the record. */
   tick(now) {
     const status = this.#call("svid_validator_tick", this.#handle, now);
-    if (status !== OK) throw this.#fault(status);
+    if (status !== OK) throw this.fault(status);
   }
 
   /** Takes messages. */
   take(now, messages) {
     this.#within(({ lend }) => {
       const status = this.#call("svid_validator_take", this.#handle, now, ...lend(messages));
-      if (status !== OK) throw this.#fault(status);
+      if (status !== OK) throw this.fault(status);
     });
   }
 
@@ -565,7 +564,7 @@ export class Library {
         const at = room(PART), out = room(size);
         this.#set(at, part);
         const status = this.#call("svid_validator_parts", this.#handle, at, out, BigInt(size));
-        if (status !== OK) throw this.#fault(status);
+        if (status !== OK) throw this.fault(status);
         part.set(this.#seen(at, PART));
         done = this.#word(at + 8n) === 1n;
         return this.#seen(out, this.#length());
@@ -576,7 +575,7 @@ export class Library {
   /** The moment of the record, and how many uses it has. */
   size() {
     const status = this.#call("svid_validator_size", this.#handle, this.#at(SMALL));
-    if (status !== OK) throw this.#fault(status);
+    if (status !== OK) throw this.fault(status);
     const [moment, uses] = this.#words(this.#at(SMALL), 2);
     return { moment, uses: Number(uses) };
   }
@@ -635,12 +634,19 @@ export class Library {
   // The text of a call that is OK.
   #text(call) {
     const { status, bytes } = call();
-    if (status !== OK) throw this.#fault(status);
+    if (status !== OK) throw this.fault(status);
     return bytes;
   }
 
-  #fault(status) {
-    return ofStatus(status, this.#told());
+  /** The error for a status that is not OK. `cause` is what the store threw last. */
+  fault(status, cause) {
+    return isUnavailable(status) ? new Unavailable(this.sentence(status), cause) : ofStatus(status, this.#told());
+  }
+
+  /** What a status says in words: what is wrong, and what to do. */
+  sentence(status) {
+    const at = Number(this.#run("svid_strsentence", status));
+    return textOf(this.#bytes.subarray(at, this.#bytes.indexOf(0, at)));
   }
 
   // What a call told beside its status.

@@ -4,13 +4,16 @@
 // and what the library says is to be done.
 
 import { Claims, up } from "./claims.js";
-import { Closed, Jump, NotAllowed, Refusal, SvidError, Unavailable, isUnavailable, ofStatus, wordsOf } from "./errors.js";
+import { Closed, Jump, NotAllowed, Refusal, SvidError, Unavailable, isUnavailable } from "./errors.js";
 import { ANSWER, ANY, AT_DISK, AT_LOG, AT_STORE, CLAIM, JUDGE, NONE, NOTHING, OK, acceptedOf } from "./library.js";
 
 const NO_SIGNATURE = "BadSignature";
 const NOBODY = new Uint8Array(32);
 const LONGEST_TIMER = 2 ** 31 - 1;
 const MAY_LACK_IT = "the token is withdrawn here, but the group's store may not have that: withdraw it again";
+
+// Those in which somebody waits: a timer alone does not keep them.
+const waiting = new Set();
 
 const least = (one, other) => (one < other ? one : other);
 
@@ -55,6 +58,7 @@ export class Member {
     this.#claims?.close();
     this.#library.close();
     this.fail(new Closed());
+    clearTimeout(this.#timer);
   }
 
   /** Answers a token. `clock` gives the time of each call, and `caller` are 32 bytes. Throws Refusal, NotAllowed, Unavailable and Unverifiable. */
@@ -114,8 +118,8 @@ export class Member {
       this.#know(now, true);
     }
     const status = this.#library.ready();
-    if (status !== OK && !isUnavailable(status)) throw ofStatus(status);
-    return status === OK ? null : wordsOf(status);
+    if (status !== OK && !isUnavailable(status)) throw this.#library.fault(status);
+    return status === OK ? null : this.#library.sentence(status);
   }
 
   // -- For the claims
@@ -204,7 +208,7 @@ export class Member {
 
   #answer(request, { status, use }) {
     if (status === OK) return request.resolve(acceptedOf(request.subject, use));
-    const why = ofStatus(status, undefined, this.#claims?.why);
+    const why = this.#library.fault(status, this.#claims?.why);
     request.reject(why.name === NO_SIGNATURE && request.unverifiable ? request.unverifiable : why);
   }
 
@@ -239,21 +243,27 @@ export class Member {
 
   // -- Times
 
-  // Sets the timer for what is due next, where somebody waits.
+  // Sees to it that there is a timer for what is due next, where somebody waits. It stays set where nobody does, and keeps nothing then: to set one
+  // anew would take a tenth of a check.
   #watch() {
     const waits = this.#open.size + this.#withdrawals.size > 0;
-    if (waits === (this.#timer !== undefined)) return;
-    clearTimeout(this.#timer);
-    this.#timer = undefined;
-    if (!waits) return;
-    const due = this.#library.due();
-    const pause = Math.min(Math.max(Number(due) - performance.now(), 0), LONGEST_TIMER);
-    this.#timer = setTimeout(() => this.#late(), pause);
+    if (waits === waiting.has(this) && (this.#timer || !waits)) return;
+    if (!waits) {
+      waiting.delete(this);
+      this.#timer?.unref?.();
+      return;
+    }
+    waiting.add(this);
+    this.#timer?.ref?.(); // (what comes later is due later)
+    if (this.#timer) return;
+    const self = new WeakRef(this), pause = Math.ceil(Number(this.#library.due()) - performance.now());
+    this.#timer = setTimeout(() => self.deref()?.#late(), Math.min(Math.max(pause, 0), LONGEST_TIMER));
   }
 
   // Whatever is due is answered that it is late.
   #late() {
     this.#timer = undefined;
+    if (!waiting.has(this)) return;
     this.#safely(() => {
       const moment = up();
       while (this.#hand(this.#library.overdue(moment)).what !== NOTHING);

@@ -469,28 +469,56 @@ test("a library that has stopped answers all that wait", async () => {
   validator.close();
 });
 
-test("a validator that is dropped is freed, also while its store is away", async () => {
+// What a program says that ends by itself. It has the package, a collector of what nobody refers to, options of a validator, and a good token.
+async function programSays(body) {
   const program = `import { setFlagsFromString } from "node:v8";
     import { runInNewContext } from "node:vm";
     import { MemoryStore, Validator } from ${JSON.stringify(`${PACKAGE}/index.js`)};
     setFlagsFromString("--expose-gc");
-    const gc = runInNewContext("gc"), freed = [];
-    const watch = new FinalizationRegistry((it) => freed.push(it));
-    let isAway = true;
-    const store = { put: async (claims) => { if (isAway) throw new Error("away"); return []; }, withdraw: async () => {} };
-    const open = async (name, it) => watch.register(await Validator.open({ audiences: "a", bundles: "{}", mode: "strict", wait: 0.05, store: it }), name);
-    await open("there", new MemoryStore());
-    await open("away", store);
-    const begun = performance.now();
-    while (freed.length < 2 && performance.now() - begun < ${PATIENCE * 1000}) {
-      await new Promise((resolve) => setTimeout(resolve, 5));
-      gc();
+    const gc = runInNewContext("gc"), terms = ${JSON.stringify(terms)}, token = ${JSON.stringify(token(one))};
+    const end = performance.now() + ${PATIENCE * 1000};
+    async function collectUntil(holds) {
+      while (!holds() && performance.now() < end) {
+        await new Promise((resolve) => setTimeout(resolve, 5));
+        gc();
+      }
     }
-    console.log(freed.sort().join());
+    ${body}`;
+  const words = ["--input-type=module", "--eval", program];
+  return (await promisify(execFile)(process.execPath, words, { timeout: 2 * PATIENCE * 1000 })).stdout;
+}
+
+test("a validator that is dropped is freed, also while its store is away", async () => {
+  const stdout = await programSays(`let started = 0, freed = 0;
+    const watch = new FinalizationRegistry(() => (freed += 1)), instantiate = WebAssembly.instantiate;
+    WebAssembly.instantiate = async (...given) => {
+      const instance = await instantiate(...given);
+      watch.register(instance.exports.memory, (started += 1));
+      return instance;
+    };
+    const store = { put: () => Promise.reject(new Error("away")), withdraw: async () => {} };
+    const open = async (options) => (await Validator.open({ ...terms, ...options })).check(token).catch(() => {});
+    await open({ wait: 600 });
+    await open({ wait: 600, mode: "strict", store: new MemoryStore() });
+    await open({ wait: 0.05, mode: "strict", store });
+    await collectUntil(() => freed === started);
+    console.log(freed, "of", started);
     // (neither does one that is kept keep the process)
-    globalThis.kept = await Validator.open({ audiences: "a", bundles: "{}", mode: "strict", wait: 0.05, store });`;
-  const { stdout } = await promisify(execFile)(process.execPath, ["--input-type=module", "--eval", program], { timeout: 2 * PATIENCE * 1000 });
-  assert.equal(stdout, "away,there\n");
+    globalThis.kept = await Validator.open({ ...terms, mode: "strict", wait: 0.05, store });`);
+  assert.equal(stdout, "4 of 4\n");
+});
+
+test("a check has its answer though its validator was dropped", async () => {
+  const stdout = await programSays(`let puts = 0;
+    const store = { put: (claims) => (claims.length ? (puts++, new Promise(() => {})) : []), withdraw: async () => {} };
+    const check = async () => (await Validator.open({ ...terms, mode: "strict", wait: 0.3, store })).check(token);
+    let answer;
+    check().catch((why) => (answer = why.name));
+    await collectUntil(() => puts);
+    for (let n = 0; n < 5; n++) gc();
+    // (nothing else keeps the process from here on)
+    process.on("exit", () => console.log(answer));`);
+  assert.equal(stdout, "Unavailable\n");
 });
 
 // -- Readiness

@@ -11,7 +11,7 @@ const one = issuer(), bundles = one.bundles;
 const terms = { audiences: ["ledger"], bundles };
 
 test("1,000 tokens, each sent four times at once, are each accepted once", async () => {
-  const validator = await Validator.open(terms);
+  const validator = await Validator.open({ ...terms, wait: 600 });
   const tokens = Array.from({ length: 1000 }, () => token(one));
   const answers = await Promise.all([0, 1, 2, 3].flatMap(() => tokens.map(async (it) => [it, await said(validator.check(it))])));
   assert.deepEqual(counted(answers.map(([, it]) => it)), { accepted: 1000, Replayed: 3000 });
@@ -391,7 +391,6 @@ test("no memory is answered, and accepts nothing", async () => {
   const { validator, calls } = await watched();
   const spare = exhausted(calls), text = token(one);
   assert.equal(calls.room(1n), 0n);
-  // (all that a check lends stands ready, so that the library itself lacks memory)
   assert.equal(await said(validator.check(text)), "OutOfMemory");
   assert.throws(() => validator.take(new Uint8Array(5)), { name: "OutOfMemory", message: "There was no memory. Make the call again." });
   assert.throws(() => validator.renew(bundles), { name: "OutOfMemory" });
@@ -403,6 +402,23 @@ test("no memory is answered, and accepts nothing", async () => {
   assert.equal(validator.size().uses, 0);
   assert.equal(await said(validator.check(text)), "accepted");
   assert.equal(await said(validator.check(text)), "Replayed");
+  validator.close();
+});
+
+test("no memory for a check is answered wherever it is wanted", async () => {
+  const { validator, calls } = await watched(), text = token(one);
+  await validator.check(token(one)); // (a key is read, and what a check lends stands ready: the library itself lacks memory)
+  let refused = 0;
+  for (const it of exhausted(calls)) {
+    const answer = await said(validator.check(text));
+    if (answer === "accepted") break;
+    assert.equal(answer, "OutOfMemory");
+    refused += 1;
+    calls.free_room(it);
+  }
+  assert.ok(refused > 5, `${refused} were refused`);
+  assert.equal(await said(validator.check(text)), "Replayed");
+  assert.equal(validator.size().uses, 2);
   validator.close();
 });
 

@@ -4,7 +4,7 @@ import assert from "node:assert/strict";
 import { test } from "node:test";
 import { imported, listed, now } from "./making.mjs";
 
-const { Validator } = await imported(), { ofStatus } = await imported("src/errors.js");
+const { Validator } = await imported(), { Library } = await imported("src/library.js");
 const { LISTED, sentences, wholeClause } = await listed();
 
 const open = (options = {}) => Validator.open({ audiences: "ledger", bundles: "{}", ...options });
@@ -52,9 +52,12 @@ test("texts that are no SPIFFE IDs, and no patterns", async () => {
   validator.close();
 });
 
-test("why there is no answer now, and why no tokens are to be sent here", () => {
-  for (const name of ["CLAIM_FAR", "CLAIM_DEAF", "LATE", "LEFT", "STORE_UNREACHED", "JUMPED", "STORE_AWAY", "DEAF"]) {
-    const { name: kind, message } = ofStatus(LISTED.get(name).number);
-    assert.deepEqual([kind, message], ["Unavailable", sentences(name)]);
+test("why there is no answer now, and why no tokens are to be sent here", async () => {
+  const library = await Library.start(), unready = ["STORE_UNREACHED", "JUMPED", "STORE_AWAY", "DEAF"];
+  for (const name of ["CLAIM_FAR", "CLAIM_DEAF", "LATE", "NOT_KEPT", "LEFT", "ENDED", ...unready]) {
+    const cause = new Error("away"), why = library.fault(LISTED.get(name).number, cause);
+    assert.deepEqual([why.name, why.message, why.cause], ["Unavailable", sentences(name), cause]);
   }
+  assert.equal(library.fault(7777).name, "SvidError");
+  library.close();
 });

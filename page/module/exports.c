@@ -8,23 +8,16 @@ _Bool __rattle_enter(void);
 void __rattle_leave(void);
 void __rattle_trap(void);
 
-#define EXPORT(name, parameters, arguments)                                             \
-    __attribute__((export_name(#name))) uint32_t exported_##name parameters {           \
-        uint32_t status;                                                                \
-        if (__rattle_enter()) __rattle_trap();                                          \
-        status = name arguments;                                                        \
-        __rattle_leave();                                                               \
-        return status;                                                                  \
-    }
-
-#define EXPORT_TIME(name, parameters, arguments)                                        \
-    __attribute__((export_name(#name))) uint64_t exported_##name parameters {           \
-        uint64_t answer;                                                                \
+#define EXPORT_OF(type, name, parameters, arguments)                                    \
+    __attribute__((export_name(#name))) type exported_##name parameters {               \
+        type answer;                                                                    \
         if (__rattle_enter()) __rattle_trap();                                          \
         answer = name arguments;                                                        \
         __rattle_leave();                                                               \
         return answer;                                                                  \
     }
+
+#define EXPORT(name, parameters, arguments) EXPORT_OF(uint32_t, name, parameters, arguments)
 
 #define EXPORT_VOID(name, parameters, arguments)                                        \
     __attribute__((export_name(#name))) void exported_##name parameters {               \
@@ -137,8 +130,9 @@ EXPORT(svid_bundles_judge,
         svid_told *told),
        (b, setting, own, own_len, lens, lens_len, yes, yes_len, token, token_len, out, out_len, used, told))
 EXPORT_VOID(svid_bundles_close, (svid_bundles *b), (b))
-/* (a helper of the header, so that JavaScript writes no message) */
+/* (helpers of the header, so that JavaScript writes no message, and has no sentences of a member) */
 EXPORT_VOID(svid_batch_of, (const svid_use *used, uint8_t *out), (used, out))
+EXPORT_OF(const char *, svid_strsentence, (uint32_t status), (status))
 
 EXPORT(svid_token_open, (svid_token *t, const uint8_t *token, size_t token_len, svid_told *told), (t, token, token_len, told))
 EXPORT_VOID(svid_token_close, (svid_token *t), (t))
@@ -176,13 +170,13 @@ EXPORT(svid_withdrawal_told,
        (v, number, keeper, ok, made))
 EXPORT(svid_withdrawal_overdue, (svid_validator *v, uint64_t up, svid_withdrawal *made), (v, up, made))
 EXPORT(svid_pacing_may_send, (const svid_pacing *p, uint64_t up, uint64_t waiting), (p, up, waiting))
-EXPORT_TIME(svid_pacing_due, (const svid_pacing *p), (p))
+EXPORT_OF(uint64_t, svid_pacing_due, (const svid_pacing *p), (p))
 EXPORT_VOID(svid_pacing_sent, (svid_pacing *p, uint64_t up), (p, up))
 EXPORT_VOID(svid_pacing_answered, (svid_pacing *p), (p))
-EXPORT_TIME(svid_pacing_unanswered, (svid_pacing *p), (p))
+EXPORT_OF(uint64_t, svid_pacing_unanswered, (svid_pacing *p), (p))
 EXPORT_VOID(svid_claim_owner,
             (const uint8_t *validator_id, const uint8_t *life, uint64_t exp, uint8_t *owner),
             (validator_id, life, exp, owner))
 EXPORT_VOID(svid_claim_owner_of_caller, (const uint8_t *caller, uint64_t exp, uint8_t *owner), (caller, exp, owner))
-EXPORT_TIME(svid_claim_until, (uint64_t exp, uint64_t margin), (exp, margin))
-EXPORT_TIME(svid_claim_deaf, (uint64_t time, uint64_t lasts, uint64_t before), (time, lasts, before))
+EXPORT_OF(uint64_t, svid_claim_until, (uint64_t exp, uint64_t margin), (exp, margin))
+EXPORT_OF(uint64_t, svid_claim_deaf, (uint64_t time, uint64_t lasts, uint64_t before), (time, lasts, before))
