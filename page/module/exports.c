@@ -27,8 +27,8 @@ void __rattle_trap(void);
     }
 
 EXPORT(svid_version, (void), ())
-EXPORT(svid_status_name, (uint32_t status, uint8_t *out, size_t out_len, svid_told *told), (status, out, out_len, told))
-EXPORT(svid_status_sentence, (uint32_t status, uint8_t *out, size_t out_len, svid_told *told), (status, out, out_len, told))
+EXPORT(svid_status_name, (uint32_t number, uint8_t *out, size_t out_len, svid_told *told), (number, out, out_len, told))
+EXPORT(svid_status_sentence, (uint32_t number, uint8_t *out, size_t out_len, svid_told *told), (number, out, out_len, told))
 EXPORT(svid_id_parse, (const uint8_t *text, size_t text_len, svid_id *out), (text, text_len, out))
 EXPORT(svid_key_spki,
        (const uint8_t *key, size_t key_len, const uint8_t *alg, size_t alg_len, size_t most_bits, uint8_t *out, size_t out_len,
