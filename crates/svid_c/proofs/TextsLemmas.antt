@@ -1,7 +1,7 @@
 -- The texts of the code are those of the statuses.
 use Rattle.std.proofs.Common.{◌≡◌, ◌∙◌, ℕ, List, [], ◌∷◌, ◌++◌, Bool, true, false, map, refl, sym, ap, ◌==◌, if◌then◌else◌}
 use Rattle.svid_c.specs.Statuses.{Texts}
-use Rattle.svid_c.specs.Texts.{Shown, nothing, row_in, seen, seen_row, shown, shown_row}
+use Rattle.svid_c.specs.Texts.{nothing, row_in, seen, seen_row, shown, shown_row}
 use Rattle.svid_c.specs.declared.words.Words.{Words}
 
 module _ {X Y : Type 0} (show : X → Y) where
