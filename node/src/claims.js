@@ -14,7 +14,7 @@ export class Claims {
   #store;
   #member;
   #waiting = [];
-  #later = []; // without an answer: `when` they are put again
+  #later = []; // those without an answer, and when they are put again
   #asks = true; // whether the store is to say that it is there
   #silent; // since when it does not answer
   #timer;

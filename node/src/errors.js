@@ -184,7 +184,7 @@ const WORDS = new Map([
 ]);
 // lists:end
 
-// Why a claim does not count, and nobody knows of whom the token is; why a request has no answer; and why no tokens are to be sent here.
+// Statuses that say nothing of the token: of a claim, of a request, and of a validator that is to get no tokens.
 const CLAIM_FAR = 58, CLAIM_DEAF = 59, LATE = 201, LEFT = 203, ENDED = 211, DEAF = 222;
 
 /** Whether a status says that there is no answer now. */

@@ -10,7 +10,7 @@ const { MemoryStore, Validator, guard, protect } = await imported();
 // (Debian's packages stand where only `require` looks)
 const express = createRequire("/usr/share/nodejs/")("express");
 
-const one = issuer(), terms = { audiences: "ledger", bundles: one.bundles };
+const one = issuer(), terms = { audiences: "ledger", bundles: one.bundles, wait: 600 };
 
 const hello = (req, res) => res.end(`hello ${req.svid.spiffeId}`);
 const app = (validator, options) => {

@@ -9,8 +9,8 @@ import { PACKAGE, PATIENCE, counted, gate, imported, issuer, listed, now, said, 
 const { MemoryStore, Unavailable, Validator } = await imported();
 const { sentences } = await listed();
 
-const one = issuer(), terms = { audiences: "ledger", bundles: one.bundles };
 const LONG = 600; // seconds that no test waits
+const one = issuer(), terms = { audiences: "ledger", bundles: one.bundles, wait: LONG };
 const PREFIX = "spiffe://example.org/billing";
 
 // A store whose calls do `before` what is put, and `after` it, as a test wants.
@@ -225,12 +225,20 @@ test("what is no answer counts as none: the claim is put again", async () => {
   validator.close();
 });
 
-test("many claims share a call, and 256 at the most", async () => {
-  const store = new Fickle(), validator = await strict(store, { wait: LONG, verify: () => true }), hold = held(store);
+test("many claims share a call, and 256 at the most", async (t) => {
+  let moment = performance.now();
+  const clock = t.mock.method(performance, "now", () => moment);
+  const store = new Fickle(), validator = await strict(store, { verify: () => true }), hold = held(store);
   const answers = times(700, () => said(validator.check(token(one))));
-  await until(() => store.puts.flat().length === 700);
+  // (all claims wait by then, and the next call goes out 20 ms later)
+  await new Promise((resolve) => setImmediate(resolve));
+  await until(() => {
+    moment += 20;
+    return store.puts.flat().length === 700;
+  });
   hold.open();
   assert.deepEqual(counted(await Promise.all(answers)), { accepted: 700 });
+  clock.mock.restore();
   const counts = store.puts.map((it) => it.length);
   assert.equal(Math.max(...counts), 256);
   assert.ok(counts.length < 12, String(counts));
@@ -388,6 +396,14 @@ test("a verifier that takes too long is not waited for, and the token is not use
   slow.open(true);
   assert.equal(await inTime(validator, text), "accepted");
   assert.equal(validator.size().uses, 1);
+  validator.close();
+});
+
+test("a check has two seconds, unless an option says more", async () => {
+  const validator = await Validator.open({ ...terms, wait: undefined, verify: () => gate().passed }), begun = performance.now();
+  assert.equal(await said(validator.check(token(one))), "Unavailable");
+  const took = performance.now() - begun;
+  assert.ok(took > 1900 && took < 60_000, String(took));
   validator.close();
 });
 
