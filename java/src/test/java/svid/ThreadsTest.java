@@ -270,8 +270,8 @@ public class ThreadsTest {
     }
 
     /** The lock of a validator. */
-    private static Object lockOf(Validator validator) throws ReflectiveOperationException {
-        Field field = Validator.class.getDeclaredField("state");
+    static Object lockOf(Validator validator) throws ReflectiveOperationException {
+        Field field = Validator.class.getDeclaredField("member");
         field.setAccessible(true);
         return field.get(validator);
     }
