@@ -59,9 +59,9 @@ final class Member extends State {
             terms.setLong(Library.MemberTerms.LASTS, Times.sum(longest, Times.sum(options.ahead(), options.ahead())));
             terms.write(Library.MemberTerms.LIFE, life.getByteArray(0, Options.ID_LEN), 0, Options.ID_LEN);
             must(locked(v -> Library.svid_member_open(v, terms)));
-            if (options.callers() != null) {
+            if (options.mayCall() != null) {
                 byte[] own = lines(options.audiences());
-                byte[] callers = options.callers()
+                byte[] callers = options.mayCall()
                                          .stream()
                                          .map(IdPattern::toString)
                                          .collect(Collectors.joining("\n"))

@@ -232,7 +232,8 @@ public final class Options {
         return store;
     }
 
-    List<IdPattern> callers() {
+    /** Null for all. */
+    List<IdPattern> mayCall() {
         return callers;
     }
 

@@ -24,7 +24,7 @@ class State implements Runnable {
     /** Opens it, with an empty record. */
     State(Options options, byte[] bundles) {
         signatures = new Signatures(options.rsaBits());
-        callers = options.callers();
+        callers = options.mayCall();
         handle.clear(Library.Handle.SIZE);
         try (Room lent = new Room()) {
             List<byte[]> audiences = options.audiences();

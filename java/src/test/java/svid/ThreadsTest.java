@@ -122,7 +122,7 @@ public class ThreadsTest {
     }
 
     /** A provider whose verification does something, and says what that says, or else what another provider does. */
-    private static final class Meanwhile extends Provider {
+    static final class Meanwhile extends Provider {
         private static final long serialVersionUID = 1;
         private static final String NAME = "SHA256withECDSAinP1363Format";
 
