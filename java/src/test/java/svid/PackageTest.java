@@ -145,7 +145,11 @@ public class PackageTest {
 
     /** The status of the answer to a request with these header fields, and its challenge or its body. */
     private static String asked(int port, String... authorizations) throws IOException {
-        HttpURLConnection connection = (HttpURLConnection) new URL("http://127.0.0.1:" + port + "/").openConnection();
+        return asked("/", port, authorizations);
+    }
+
+    private static String asked(String path, int port, String... authorizations) throws IOException {
+        HttpURLConnection connection = (HttpURLConnection) new URL("http://127.0.0.1:" + port + path).openConnection();
         connection.setReadTimeout(30_000);
         for (String it : authorizations) {
             connection.addRequestProperty("Authorization", it);
@@ -176,6 +180,55 @@ public class PackageTest {
             assertEquals(0, validator.size().uses());
             validator.close();
             assertEquals("503 null", asked(port, bearer));
+        } finally {
+            server.stop(0);
+        }
+    }
+
+    /** A store that is away, as long as it is. */
+    private static final class Away implements Store {
+        final MemoryStore store = new MemoryStore();
+        volatile boolean isAway = true;
+
+        @Override
+        public List<Found> put(List<Claim> claims) throws IOException {
+            if (isAway) {
+                throw new IOException("the store is away");
+            }
+            return store.put(claims);
+        }
+
+        @Override
+        public void withdraw(TokenKey key, java.time.Instant expiry) {
+            store.withdraw(key, expiry);
+        }
+    }
+
+    /** In mode bound the handler says who sends the request. It answers 503 while the store is away, and 403 to who may not call. */
+    @Test
+    public void theHandlerOfAStore() throws Exception {
+        Away store = new Away();
+        Options options = Vectors.ledger().mode(Mode.BOUND).store(store).wait(java.time.Duration.ofMillis(500));
+        List<byte[]> who = new ArrayList<>(List.of(new byte[] {1}));
+        ProtectedHandler.Handler handler = (exchange, admission) -> exchange.sendResponseHeaders(204, -1);
+        HttpServer server = HttpServer.create(new InetSocketAddress(InetAddress.getLoopbackAddress(), 0), 0);
+        String bearer = "Bearer " + Making.token();
+        try (Validator validator = Validator.open(options, Making.bundles());
+                Validator closed = Validator.open(options.callers(IdPattern.of("spiffe://example.com")), Making.bundles())) {
+            server.createContext("/", new ProtectedHandler(validator, handler).caller(exchange -> who.get(0)));
+            server.createContext("/closed", new ProtectedHandler(closed, handler).caller(exchange -> who.get(0)));
+            server.start();
+            int port = server.getAddress().getPort();
+            assertEquals("503 null", asked(port, bearer));
+            store.isAway = false;
+            Making.until(() -> validator.isReady() && closed.isReady());
+            String forbidden = "403 Bearer error=\"insufficient_scope\", error_description=\"NotAllowed\"";
+            Making.until(() -> asked("/closed", port, bearer).equals(forbidden));
+            for (int n = 0; n < 2; n++) {
+                Making.until(() -> asked(port, bearer).equals("204 null"));
+            }
+            who.set(0, new byte[] {2});
+            assertEquals("401 Bearer error=\"invalid_token\", error_description=\"Replayed\"", asked(port, bearer));
         } finally {
             server.stop(0);
         }
