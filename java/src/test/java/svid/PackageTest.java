@@ -57,24 +57,26 @@ public class PackageTest {
         return matcher.results().map(it -> it.group(1)).toList();
     }
 
-    /** Compiles the program of a block against the jar, in a folder of its own, and gives the command that runs it. */
-    private static ProcessBuilder program(int block) throws Exception {
-        String source = blocks("java").get(block);
-        Matcher matcher = Pattern.compile("public class (\\w+)").matcher(source);
-        assertTrue(matcher.find());
-        Path folder = ROOM.getRoot().toPath().resolve(matcher.group(1));
+    /** The program of this name in README.md. */
+    private static String source(String name) {
+        return blocks("java").stream().filter(it -> it.contains("public class " + name + " {")).findFirst().orElseThrow();
+    }
+
+    /** Compiles a program of README.md against the jar, in a folder of its own, and gives the command that runs it. */
+    private static ProcessBuilder program(String name) throws Exception {
+        String source = source(name);
+        Path folder = ROOM.getRoot().toPath().resolve(name);
         String path = jar + ":" + JNA + ":" + folder;
         if (!Files.exists(folder)) {
             Files.createDirectory(folder);
-            Path file = folder.resolve(matcher.group(1) + ".java");
+            Path file = folder.resolve(name + ".java");
             Files.writeString(file, source);
             Files.createSymbolicLink(folder.resolve("examples"), Vectors.TOP.resolve("examples"));
             String[] words = {"-Xlint:all", "-Werror", "-cp", path, "-d", folder.toString(), file.toString()};
             assertEquals(0, ToolProvider.getSystemJavaCompiler().run(null, null, null, words));
         }
         String java = System.getProperty("java.home") + "/bin/java";
-        return new ProcessBuilder(
-                new ArrayList<>(List.of(java, "-XX:TieredStopAtLevel=1", "-XX:+UseSerialGC", "-cp", path, matcher.group(1))))
+        return new ProcessBuilder(new ArrayList<>(List.of(java, "-XX:TieredStopAtLevel=1", "-XX:+UseSerialGC", "-cp", path, name)))
                 .directory(folder.toFile())
                 .redirectErrorStream(true);
     }
@@ -103,19 +105,24 @@ public class PackageTest {
 
     @Test
     public void whatReadmeShows() throws Exception {
-        Process process = program(0).start();
-        String said = new String(process.getInputStream().readAllBytes(), StandardCharsets.UTF_8);
-        assertEquals(0, process.waitFor());
-        assertEquals(blocks("text").get(0), said);
+        List<String> names = List.of("Hello", "Group");
+        for (String name : names) {
+            Process process = program(name).start();
+            String said = new String(process.getInputStream().readAllBytes(), StandardCharsets.UTF_8);
+            assertEquals(said, 0, process.waitFor());
+            assertEquals(blocks("text").get(names.indexOf(name)), said);
+        }
     }
 
     /** The service accepts a token once, and refuses it the second time, also while others send half of a request. */
     @Test
     public void theServiceOfReadme() throws Exception {
-        String source = blocks("java").get(1);
-        List<String> own = source.lines().filter(it -> !it.isBlank() && !it.startsWith("import ") && !it.matches("[\\s{}();]*")).toList();
-        assertTrue(own.size() + " lines", own.size() <= MOST_LINES);
-        ProcessBuilder builder = program(1);
+        for (String name : List.of("Group", "Service")) {
+            Stream<String> own =
+                    source(name).lines().filter(it -> !it.isBlank() && !it.startsWith("import ") && !it.matches("[\\s{}();]*"));
+            assertTrue(name, own.count() <= MOST_LINES);
+        }
+        ProcessBuilder builder = program("Service");
         builder.command().addAll(List.of("examples/bundles.json", "0"));
         Process service = builder.start();
         List<Socket> slows = new ArrayList<>();
@@ -254,7 +261,7 @@ public class PackageTest {
     public void anotherLibrary() throws Exception {
         for (String named : List.of(Vectors.TOP + "/dist/x86_64/libsvid.so", "/nowhere/libsvid.so", Vectors.TOP + "/README.md",
                      System.getProperty("svid.other"))) {
-            ProcessBuilder builder = program(0);
+            ProcessBuilder builder = program("Hello");
             builder.command().add(1, "-Dsvid.library=" + named);
             Process process = builder.start();
             String said = new String(process.getInputStream().readAllBytes(), StandardCharsets.UTF_8);
@@ -288,7 +295,7 @@ public class PackageTest {
     /** The unpacked library is gone from the folder that it was loaded from. */
     @Test
     public void nothingIsLeftBehind() throws Exception {
-        ProcessBuilder builder = program(0);
+        ProcessBuilder builder = program("Hello");
         File folder = ROOM.newFolder();
         builder.command().add(1, "-Djava.io.tmpdir=" + folder);
         Process process = builder.start();
