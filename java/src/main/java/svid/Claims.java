@@ -19,7 +19,7 @@ final class Claims {
     /** How many claims share a call. */
     private static final int MOST = 256;
 
-    /** What follows is guarded by it. */
+    /** What follows is guarded by it. A thread that has it may wait for the lock of the validator. */
     final Object gate = new Object();
     final List<Member.Deed> waiting = new ArrayList<>();
     final Memory pacing = Library.allocated(Library.Pacing.SIZE);
@@ -31,10 +31,11 @@ final class Claims {
     private int idle; // threads that wait for claims
     private boolean asks = true; // whether the store is to say that it is there
     private long silent = Library.NONE; // since when the store does not answer
-    private boolean isThere;
     private boolean isClosing;
-    private Instant deaf = Instant.EPOCH;
-    private Throwable why;
+    // (these are read without the gate too: a thread that has the validator's lock must not wait for it)
+    private volatile boolean isThere;
+    private volatile Instant deaf = Instant.EPOCH;
+    private volatile Throwable why;
 
     /** Claims without an answer, and when they are put again. */
     private record Later(long when, List<Member.Deed> deeds) {}
@@ -87,9 +88,7 @@ final class Claims {
 
     /** Whether the store has answered once. */
     boolean isThere() {
-        synchronized (gate) {
-            return isThere;
-        }
+        return isThere;
     }
 
     /** Whether the store has not answered for longer than so many milliseconds. If so, it is asked again. */
@@ -106,16 +105,12 @@ final class Claims {
 
     /** Tokens that expire by then, in seconds, may have been claimed before the store lost entries. */
     long deaf() {
-        synchronized (gate) {
-            return Times.expiryOf(deaf);
-        }
+        return Times.expiryOf(deaf);
     }
 
     /** What the store threw, as long as it does not answer, or null. */
     Throwable why() {
-        synchronized (gate) {
-            return why;
-        }
+        return why;
     }
 
     /** Lets the threads end. Waits for nothing, since the store may not answer. */

@@ -911,6 +911,18 @@ public class MemberTest {
         }
     }
 
+    /** A thread that puts claims may wait for the lock of the validator. So nobody who has that lock waits for it. */
+    @Test
+    public void nobodyWaitsForTheClaimsUnderTheLock() throws Exception {
+        Fickle store = new Fickle();
+        store.before = AWAY;
+        try (Validator validator = open(strict(store).wait(Duration.ofMillis(1)))) {
+            synchronized (memberOf(validator).claims.gate) {
+                assertEquals("Unavailable", soon(() -> validator.check(token())));
+            }
+        }
+    }
+
     @Test
     public void aStoreThatIsAway() throws Exception {
         Fickle store = new Fickle();
