@@ -204,7 +204,8 @@ final class Member extends State {
                 Library.svid_claim_owner(whose, life, use.exp(), owner);
             }
             return new Store.Claim(TokenKey.of(use.key()), Owner.of(owner.getByteArray(0, Owner.LEN)), Times.instantOf(use.exp()));
-        } catch (SvidException.Closed why) {
+        } catch (SvidException why) {
+            // (its request is late then, or the validator is closed)
             return null;
         }
     }
