@@ -287,10 +287,11 @@ final class Member extends State {
                     // (nothing happened)
                     throw SvidException.of(status, told);
                 }
+                // (others may wait for what is to be done, so that comes before all that may fail)
+                hand();
                 if (status == 0) {
                     request.subject = subject();
                 }
-                hand();
                 return;
             }
         }
@@ -315,10 +316,10 @@ final class Member extends State {
             return;
         }
         synchronized (this) {
-            if (requests.containsKey(request.number)) {
-                must(Library.svid_member_leave(open(), up.getAsLong(), request.number, deed));
+            if (requests.containsKey(request.number) && Library.svid_member_leave(open(), up.getAsLong(), request.number, deed) == 0) {
                 hand();
             }
+            requests.remove(request.number);
         }
     }
 
