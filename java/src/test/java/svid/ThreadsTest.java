@@ -362,6 +362,29 @@ public class ThreadsTest {
         }
     }
 
+    /** While a signature is verified, others may call. */
+    @Test
+    public void othersCallDuringAVerification() throws Exception {
+        try (Validator validator = Validator.open(ledgerAt(NOW), bundles())) {
+            List<Long> uses = new ArrayList<>();
+            Provider provider = new Meanwhile(() -> {
+                try {
+                    uses.add(pool.submit(() -> validator.size().uses()).get(Making.PATIENCE, TimeUnit.SECONDS));
+                } catch (Exception why) {
+                    throw new AssertionError(why);
+                }
+                return null;
+            });
+            Security.insertProviderAt(provider, 1);
+            try {
+                assertEquals("accepted", checked(validator, tokens().get(0)));
+            } finally {
+                Security.removeProvider(provider.getName());
+            }
+            assertEquals(List.of(0L), uses);
+        }
+    }
+
     /** A signature of another length is none, whatever a provider says of it. */
     @Test
     public void aProviderThatTakesAnyLength() {
