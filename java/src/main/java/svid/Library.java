@@ -15,6 +15,22 @@ final class Library {
     static final int VERSION = 20000;
 
     static final long MOST_CANDIDATES = 3;
+
+    /** No number, no moment, and no limit: the greatest number of 64 bits. */
+    static final long NONE = -1;
+
+    /** What is to be done for a request: {@code svid_deeds}. */
+    static final int DEED_NOTHING = 0, DEED_JUDGE = 1, DEED_CLAIM = 3, DEED_ANSWER = 4;
+
+    /** The keepers of a withdrawal: {@code svid_keepers}. And what a keeper is of that may not have it. */
+    static final int AT_DISK = 0, AT_STORE = 1, AT_LOG = 2, MAY_LACK = 2;
+
+    /** For how long {@code svid_pacing} lets claims wait that the store did not answer, at first. */
+    static final long FIRST_PAUSE = 10;
+
+    /** The statuses of requests that have no answer about their token. */
+    static final int CLAIM_FAR = 58, CLAIM_DEAF = 59, LATE = 201, LEFT = 203, ENDED = 211, DEAF = 222;
+
     static final int USUAL_RSA_BITS = 4096;
     static final long ID_ROOM = 2048;
     static final long SPKI_ROOM = 2100;
@@ -29,7 +45,7 @@ final class Library {
 
     private Library() {}
 
-    /** {@code svid_validator}, and {@code svid_bundles} too. */
+    /** {@code svid_validator}, {@code svid_bundles} and {@code svid_token}. */
     static final class Handle { static final int WORD = 0, HELD = 8, SIZE = 16; }
 
     /** {@code svid_terms}. */
@@ -47,9 +63,6 @@ final class Library {
     /** {@code svid_said}. */
     static final class Said { static final int KEY = 0, EXP = 32, TEXTS = 40, SIZE = 48; }
 
-    /** {@code svid_signed}. */
-    static final class Signed { static final int LEN = 0, SIZE = 8; }
-
     /** {@code svid_size}. */
     static final class Size { static final int MOMENT = 0, USES = 8, SIZE = 16; }
 
@@ -62,6 +75,32 @@ final class Library {
     /** {@code svid_told}. */
     static final class Told { static final int LEN = 0, INPUT = 8, MESSAGE = 16, OFFSET = 24, MORE = 32, SIZE = 40; }
 
+    /** {@code svid_member_terms}. */
+    static final class MemberTerms {
+        static final int MODE = 0, DISK = 8, STORE = 16, LOG = 24, WAIT = 32, AHEAD = 40, LASTS = 48, LIFE = 56, SIZE = 72;
+    }
+
+    /** {@code svid_known}. */
+    static final class Known {
+        static final int BUNDLED = 0, LOADED = 8, OPENED = 16, HEARD = 24, JOINED = 32, CAUGHT_UP = 40, DRAINING = 48, JUMPED = 56,
+                         FULL = 64, AWAY = 72, DEAF = 80, ENDED = 88, SIZE = 96;
+    }
+
+    /** {@code svid_deed}. */
+    static final class Deed { static final int WHAT = 0, NUMBER = 8, STATUS = 16, NEXT = 24, USED = 32, SIZE = 96; }
+
+    /** {@code svid_found}. */
+    static final class Found { static final int TIME = 0, DEAF = 8, OWNER = 16, SIZE = 48; }
+
+    /** {@code svid_deadline}. */
+    static final class Deadline { static final int AT = 0, SIZE = 8; }
+
+    /** {@code svid_withdrawal}. */
+    static final class Withdrawal { static final int NUMBER = 0, DISK = 8, STORE = 16, LOG = 24, SIZE = 32; }
+
+    /** {@code svid_pacing}. */
+    static final class Pacing { static final int CALLS = 0, AT = 8, PAUSE = 16, SIZE = 24; }
+
     static native int svid_version();
 
     static native int svid_status_sentence(int status, Pointer out, long outLen, Pointer told);
@@ -71,13 +110,10 @@ final class Library {
 
     static native void svid_validator_close(Pointer v);
 
-    static native int svid_validator_ask(Pointer v, Pointer token, long tokenLen, long most, Pointer out, long outLen, Pointer told);
+    static native int svid_validator_ask_token(Pointer v, Pointer t, long most, Pointer out, long outLen, Pointer told);
 
-    static native int svid_validator_check(Pointer v, long now, Pointer yes, long yesLen, Pointer token, long tokenLen, Pointer out,
-            long outLen, Pointer used, Pointer told);
-
-    static native int svid_validator_judge(Pointer v, long now, Pointer yes, long yesLen, Pointer token, long tokenLen, Pointer out,
-            long outLen, Pointer used, Pointer told);
+    static native int svid_validator_judge_token(Pointer v, long now, Pointer key, long keyLen, Pointer input, long inputLen,
+            Pointer signature, long signatureLen, Pointer t, Pointer out, long outLen, Pointer used, Pointer told);
 
     static native int svid_validator_withdraw(Pointer v, long now, Pointer key, long exp, Pointer used, Pointer told);
 
@@ -95,6 +131,59 @@ final class Library {
 
     static native int svid_validator_renew_by(Pointer v, Pointer bundles, Pointer told);
 
+    static native int svid_token_open(Pointer t, Pointer token, long tokenLen, Pointer told);
+
+    static native void svid_token_close(Pointer t);
+
+    static native int svid_member_open(Pointer v, Pointer terms);
+
+    static native int svid_member_know(Pointer v, Pointer known);
+
+    static native int svid_member_ready(Pointer v);
+
+    static native int svid_member_come(Pointer v, long up, Pointer deed);
+
+    static native int svid_member_judge(Pointer v, long now, long up, long number, Pointer key, long keyLen, Pointer input, long inputLen,
+            Pointer signature, long signatureLen, Pointer t, Pointer out, long outLen, Pointer used, Pointer deed, Pointer told);
+
+    static native int svid_member_send(Pointer v, long up, long number, Pointer deed);
+
+    static native int svid_member_found(Pointer v, long now, long up, long number, Pointer caller, Pointer found, Pointer key, long keyLen,
+            Pointer input, long inputLen, Pointer signature, long signatureLen, Pointer t, Pointer out, long outLen, Pointer used,
+            Pointer deed, Pointer told);
+
+    static native int svid_member_leave(Pointer v, long up, long number, Pointer deed);
+
+    static native int svid_member_overdue(Pointer v, long up, Pointer deed);
+
+    static native int svid_member_due(Pointer v, Pointer out);
+
+    static native int svid_member_rules(Pointer v, Pointer own, long ownLen, long all, Pointer callers, long callersLen);
+
+    static native int svid_withdrawal_come(Pointer v, long up, Pointer made);
+
+    static native int svid_withdrawal_told(Pointer v, long number, long keeper, long ok, Pointer made);
+
+    static native int svid_withdrawal_overdue(Pointer v, long up, Pointer made);
+
+    static native int svid_pacing_may_send(Pointer p, long up, long waiting);
+
+    static native long svid_pacing_due(Pointer p);
+
+    static native void svid_pacing_sent(Pointer p, long up);
+
+    static native void svid_pacing_answered(Pointer p);
+
+    static native long svid_pacing_unanswered(Pointer p);
+
+    static native void svid_claim_owner(Pointer validatorId, Pointer life, long exp, Pointer owner);
+
+    static native void svid_claim_owner_of_caller(Pointer caller, long exp, Pointer owner);
+
+    static native long svid_claim_until(long exp, long margin);
+
+    static native long svid_claim_deaf(long time, long lasts, long before);
+
     static native int svid_bundles_join(
             Pointer bytes, long bytesLen, Pointer documents, long documentsLen, Pointer out, long outLen, Pointer told);
 
@@ -110,8 +199,6 @@ final class Library {
 
     static native int svid_token_says(
             Pointer token, long tokenLen, Pointer said, Pointer lens, long lensLen, Pointer out, long outLen, Pointer told);
-
-    static native int svid_token_signature(Pointer token, long tokenLen, Pointer over, Pointer out, long outLen, Pointer told);
 
     static native int svid_key_spki(
             Pointer key, long keyLen, Pointer alg, long algLen, long mostBits, Pointer out, long outLen, Pointer told);

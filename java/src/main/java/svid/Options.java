@@ -10,6 +10,7 @@ import java.time.Duration;
 import java.util.Arrays;
 import java.util.Collection;
 import java.util.List;
+import java.util.Objects;
 
 /**
  * What a validator is given for its whole life. Each method gives new options, and leaves these as they are.
@@ -22,7 +23,8 @@ public final class Options {
     /** The number of seconds that stands for no limit. */
     static final long ANY = -1;
 
-    private static final int ID_LEN = 16;
+    static final int ID_LEN = 16;
+    private static final Duration LONGEST_WAIT = Duration.ofDays(365_000);
 
     private List<byte[]> audiences;
     private long longest = ANY;
@@ -31,6 +33,10 @@ public final class Options {
     private byte[] validatorId;
     private int rsaBits = Library.USUAL_RSA_BITS;
     private Clock clock = Clock.systemUTC();
+    private Mode mode = Mode.ONCE;
+    private Store store; // null for none
+    private List<IdPattern> callers; // null for all
+    private long wait = 2000;
 
     private Options() {}
 
@@ -42,6 +48,10 @@ public final class Options {
         validatorId = from.validatorId;
         rsaBits = from.rsaBits;
         clock = from.clock;
+        mode = from.mode;
+        store = from.store;
+        callers = from.callers;
+        wait = from.wait;
     }
 
     /** Options of a validator with these audiences: this service's own names. A token is for it if one of them is in {@code aud}. */
@@ -124,8 +134,70 @@ public final class Options {
     /** The clock that tokens are judged by. Without it, that of the system. */
     public Options clock(Clock other) {
         Options made = new Options(this);
-        made.clock = java.util.Objects.requireNonNull(other);
+        made.clock = Objects.requireNonNull(other);
         return made;
+    }
+
+    /** How often a token is accepted. Without it, {@link Mode#ONCE}. */
+    public Options mode(Mode other) {
+        Options made = new Options(this);
+        made.mode = Objects.requireNonNull(other);
+        return made;
+    }
+
+    /** The store of the group, for {@link Mode#STRICT} and {@link Mode#BOUND}, and for no other mode. */
+    public Options store(Store shared) {
+        Options made = new Options(this);
+        made.store = Objects.requireNonNull(shared);
+        return made;
+    }
+
+    /**
+     * Who may call. A good token of another caller throws {@link SvidException.NotAllowed}, and is not used up. Without it all may call.
+     *
+     * @throws IllegalArgumentException where no pattern is given
+     */
+    public Options callers(IdPattern... patterns) {
+        return callers(Arrays.asList(patterns));
+    }
+
+    /** The same, of several patterns. */
+    public Options callers(Collection<IdPattern> patterns) {
+        Options made = new Options(this);
+        made.callers = named(patterns);
+        return made;
+    }
+
+    /** The patterns of those that may call. */
+    static List<IdPattern> named(Collection<IdPattern> patterns) {
+        if (patterns.isEmpty()) {
+            throw new IllegalArgumentException("callers is empty: name who may call, or leave the list out to let all call");
+        }
+        return List.copyOf(patterns);
+    }
+
+    /**
+     * How long a check or a withdrawal may take, until it throws {@link SvidException.Unavailable}. Without it, two seconds.
+     *
+     * @throws IllegalArgumentException where it is less than a millisecond
+     */
+    public Options wait(Duration limit) {
+        if (limit.compareTo(Duration.ofMillis(1)) < 0) {
+            throw new IllegalArgumentException("wait is a millisecond or more, and not " + limit);
+        }
+        Options made = new Options(this);
+        made.wait = limit.compareTo(LONGEST_WAIT) > 0 ? LONGEST_WAIT.toMillis() : limit.toMillis();
+        return made;
+    }
+
+    /** Throws where these options don't fit each other. */
+    void mustFit() {
+        if (mode.hasStore() != (store != null)) {
+            throw new IllegalArgumentException("give a store in the modes STRICT and BOUND, and in no other one");
+        }
+        if (callers != null && audiences.stream().anyMatch(it -> it.length == 0 || new String(it, StandardCharsets.UTF_8).contains("\n"))) {
+            throw new IllegalArgumentException("with callers, no audience is empty or has a line feed");
+        }
     }
 
     List<byte[]> audiences() {
@@ -152,17 +224,41 @@ public final class Options {
         return clock;
     }
 
+    Mode mode() {
+        return mode;
+    }
+
+    Store store() {
+        return store;
+    }
+
+    /** Null for all. */
+    List<IdPattern> mayCall() {
+        return callers;
+    }
+
+    /** How long a check or a withdrawal may take, in milliseconds. */
+    long waitMillis() {
+        return wait;
+    }
+
     /** The ID that was given, or a new one. */
     byte[] idOrRandom() {
         if (validatorId != null) {
             return validatorId;
         }
+        return random();
+    }
+
+    /** Random bytes for a validator ID, or for a life of a validator. */
+    static byte[] random() {
         byte[] random = new byte[ID_LEN];
         new SecureRandom().nextBytes(random);
         return random;
     }
 
-    private static long secondsOf(Duration limit) {
+    /** A limit in seconds. */
+    static long secondsOf(Duration limit) {
         if (limit.isNegative()) {
             throw new IllegalArgumentException("a limit is not negative: " + limit);
         }

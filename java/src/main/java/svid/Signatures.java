@@ -26,9 +26,7 @@ import java.util.concurrent.ConcurrentHashMap;
  * answers whether it did. It keeps the keys that it has read.
  */
 final class Signatures {
-    private static final int QUESTION = 32;
     private static final int MOST_KEYS = 4096;
-    private static final long USUAL = 1024;
 
     private final int mostBits;
     private final Map<String, Optional<PublicKey>> keys = new ConcurrentHashMap<>();
@@ -37,47 +35,59 @@ final class Signatures {
         this.mostBits = mostBits;
     }
 
-    /** The question of the key that made a signature, if one did; else why it is not known of one whether it did, if that is so. */
-    record Found(byte[] question, SvidException.Unverifiable unknown) {
-        static final Found NONE = new Found(null, null);
+    /**
+     * Which key made which signature over how many bytes of a token, as the library takes it; none where no key did. Then also why it is
+     * not known of one whether it did, if that is so.
+     */
+    record Found(Pointer key, long keyLen, long signed, Pointer signature, long signatureLen, SvidException.Unverifiable unknown) {
+        static final Found NONE = none(null);
+
+        private static Found none(SvidException.Unverifiable unknown) {
+            return new Found(null, 0, 0, null, 0, unknown);
+        }
+
+        /** Throws why it is not known whether the signature is good, where the library took it for a bad one. */
+        void mustBeKnown(int status) {
+            if (unknown != null && status == Refusal.Reason.BAD_SIGNATURE.number()) {
+                throw unknown;
+            }
+        }
     }
+
+    /** A field of what the library wrote. */
+    private record Part(Pointer at, byte[] bytes) {}
 
     /** Drops the keys of bundles that were replaced. */
     void forget() {
         keys.clear();
     }
 
-    /** Which of the keys made the token's signature. Rows are those of {@code svid_validator_ask}. */
-    Found find(Room room, byte[] rows, Pointer token, byte[] tokenBytes) {
-        Told told = new Told(room);
-        Pointer over = room.take(Library.Signed.SIZE);
-        Written signature = Written.by(
-                room, told, USUAL, (out, outLen) -> Library.svid_token_signature(token, tokenBytes.length, over, out, outLen, told.at));
-        if (Refusal.Reason.of(signature.status()) != null) {
-            return Found.NONE;
-        }
-        told.must(signature.status());
-        int signed = (int) over.getLong(Library.Signed.LEN);
+    /** Which of the keys made the token's signature. Rows are those of {@code svid_validator_ask_token}. */
+    Found find(Written rows, byte[] token) {
+        ByteBuffer rest = ByteBuffer.wrap(rows.bytes());
+        int signed = rest.getInt();
+        Part signature = next(rows, rest);
         SvidException.Unverifiable unknown = null;
-        for (ByteBuffer rest = ByteBuffer.wrap(rows); rest.hasRemaining();) {
-            byte[] question = next(rest, QUESTION);
-            String algorithm = new String(next(rest, rest.getInt()), StandardCharsets.UTF_8);
-            byte[] jwk = next(rest, rest.getInt());
+        while (rest.hasRemaining()) {
+            String algorithm = new String(next(rows, rest).bytes, StandardCharsets.UTF_8);
+            Part jwk = next(rows, rest);
             try {
-                if (isMadeBy(algorithm, jwk, tokenBytes, signed, signature.bytes())) {
-                    return new Found(question, null);
+                if (isMadeBy(algorithm, jwk.bytes, token, signed, signature.bytes)) {
+                    return new Found(jwk.at, jwk.bytes.length, signed, signature.at, signature.bytes.length, null);
                 }
             } catch (GeneralSecurityException | ProviderException why) {
                 unknown = new SvidException.Unverifiable(why);
             }
         }
-        return new Found(null, unknown);
+        return Found.none(unknown);
     }
 
-    private static byte[] next(ByteBuffer rest, int len) {
-        byte[] bytes = new byte[len];
+    /** The field that begins here, which has its length before it. */
+    private static Part next(Written rows, ByteBuffer rest) {
+        byte[] bytes = new byte[rest.getInt()];
+        Pointer at = rows.at().share(rest.position());
         rest.get(bytes);
-        return bytes;
+        return new Part(at, bytes);
     }
 
     /** Whether the key made the signature of the token's first bytes. */

@@ -5,7 +5,7 @@ import java.util.Optional;
 /**
  * There is no answer about a token, or a call did nothing. Whatever it is, no token was accepted: answer a request with status 503.
  *
- * <p>Each kind is a class of its own in this one.
+ * <p>Each kind is a class of its own in this one. To one of them, {@link NotAllowed}, the answer is 403.
  */
 public abstract sealed class SvidException extends RuntimeException {
     private static final long serialVersionUID = 1;
@@ -16,6 +16,9 @@ public abstract sealed class SvidException extends RuntimeException {
 
     static SvidException of(int number, Told told) {
         Status status = Status.of(number);
+        if (Unavailable.is(number)) {
+            return new Unavailable(number, null);
+        }
         if (status == null) {
             return new Unexpected(number);
         }
@@ -37,6 +40,8 @@ public abstract sealed class SvidException extends RuntimeException {
                 return new TooFar();
             case JUMP:
                 return new Jump();
+            case NOT_ALLOWED:
+                return new NotAllowed();
             case BUNDLES_NOT_OBJECT:
                 return new BadBundles(status, 0);
             case BUNDLES_DOMAIN:
@@ -53,6 +58,52 @@ public abstract sealed class SvidException extends RuntimeException {
 
         OutOfMemory(OutOfMemoryError cause) {
             super(Status.NO_MEMORY.says(), cause);
+        }
+    }
+
+    /**
+     * No token was accepted: the store failed, or there was no answer in time. The token may be used up all the same: its client needs a
+     * new one. Of {@link Validator#withdraw(String)}: the token is withdrawn here, and others may still accept it. The cause is what the
+     * store threw last, if it did.
+     */
+    public static final class Unavailable extends SvidException {
+        private static final long serialVersionUID = 1;
+
+        Unavailable(int number, Throwable cause) {
+            this(saidOf(number), cause);
+        }
+
+        Unavailable(String message, Throwable cause) {
+            super(message, cause);
+        }
+
+        /** Whether a status of the library says this. */
+        static boolean is(int number) {
+            return number == Library.CLAIM_FAR || number == Library.CLAIM_DEAF || number >= Library.LATE && number <= Library.LEFT
+                    || isUnready(number);
+        }
+
+        /** Whether a status of the library says why no tokens are to be sent to a validator. */
+        static boolean isUnready(int number) {
+            return number >= Library.ENDED && number <= Library.DEAF;
+        }
+
+        /** What the library says of such a status. */
+        static String saidOf(int number) {
+            Words words = Words.of(number);
+            return words == null ? "status " + number : words.whole("");
+        }
+    }
+
+    /**
+     * The token is good, and none of {@link Options#callers(IdPattern...)} allows its subject. The token is not used up: answer with status
+     * 403. Of {@link Validator#admit(java.util.List)} it is a {@link Denied.NotAllowed}.
+     */
+    public static final class NotAllowed extends SvidException {
+        private static final long serialVersionUID = 1;
+
+        NotAllowed() {
+            super("the token is good, and its subject is none of the callers that may call", null);
         }
     }
 

@@ -1,20 +1,24 @@
 package svid;
 
-import com.sun.jna.Memory;
 import com.sun.jna.Pointer;
 import java.lang.ref.Cleaner;
 import java.lang.ref.Reference;
 import java.nio.charset.StandardCharsets;
+import java.security.MessageDigest;
+import java.security.NoSuchAlgorithmException;
 import java.time.Instant;
 import java.util.Collection;
 import java.util.List;
+import java.util.Objects;
+import java.util.Optional;
+import java.util.function.LongSupplier;
 
 /**
  * Checks JWT-SVIDs, and remembers which were used or withdrawn until they expire. This memory is its <i>record</i>.
  *
- * <p>Make one for the whole process. Any number of threads may call it at once: signatures are verified while other threads check, and each
- * token is accepted once. Tokens are judged at the record's <i>moment</i>, the greatest time that it has seen, so a clock that is set back
- * makes no expired token good.
+ * <p>Make one for the whole process. Any number of threads may call it at once: signatures are verified while other threads check, and by
+ * default each token is accepted once ({@link Options#mode}). Tokens are judged at the record's <i>moment</i>, the greatest time that it
+ * has seen, so a clock that is set back makes no expired token good.
  *
  * <p>Each method throws {@link SvidException.Closed} after {@link #close}, {@link SvidException.OutOfMemory}, and, where it looks at the
  * clock,
@@ -25,51 +29,13 @@ public final class Validator implements AutoCloseable {
     private static final long USUAL = 8192;
 
     private final Options options;
-    private final Signatures signatures;
-    private final State state;
+    private final Member member;
     private final Cleaner.Cleanable cleanable;
 
-    private Validator(Options options, State state) {
+    private Validator(Options options, Member member) {
         this.options = options;
-        this.state = state;
-        signatures = new Signatures(options.rsaBits());
-        cleanable = CLEANER.register(this, state);
-    }
-
-    /** The library's validator. Its monitor is the lock for each call. */
-    private static final class State implements Runnable {
-        private final Memory handle = Library.allocated(Library.Handle.SIZE);
-        private boolean isClosed;
-        private long edition; // how often the bundles were renewed
-
-        State() {
-            handle.clear();
-        }
-
-        /** The handle, for one call under the lock. */
-        Pointer open() {
-            if (isClosed) {
-                throw new SvidException.Closed();
-            }
-            return handle;
-        }
-
-        @Override
-        public synchronized void run() {
-            isClosed = true;
-            Library.svid_validator_close(handle);
-        }
-    }
-
-    /** A call of the library on an open validator. */
-    private interface Call {
-        int on(Pointer handle);
-    }
-
-    /** {@code svid_validator_check}, or {@code svid_validator_judge}. */
-    private interface Judging {
-        int on(Pointer v, long now, Pointer yes, long yesLen, Pointer token, long tokenLen, Pointer out, long outLen, Pointer used,
-                Pointer told);
+        this.member = member;
+        cleanable = CLEANER.register(this, member);
     }
 
     /**
@@ -77,36 +43,20 @@ public final class Validator implements AutoCloseable {
      *
      * @param bundles the keys of each trust domain as JSON: an object from trust domain names to JWK sets, such as
      *     <code>{"example.org": {"keys": [..]}}</code>
+     * <p>With a store it waits until the store answers, but no longer than {@link Options#wait(java.time.Duration)}. It opens the validator
+     * all the same, which then accepts tokens once the store is there.
+     *
      * @throws SvidException.BadBundles where the bundles can't be read
      * @throws SvidException.TooMuch where they are too long
+     * @throws IllegalArgumentException where the options don't fit each other: a store without {@link Mode#STRICT} or {@link Mode#BOUND},
+     *         say
      */
     public static Validator open(Options options, byte[] bundles) {
-        State state = new State();
-        try (Room room = new Room()) {
-            Told told = new Told(room);
-            List<byte[]> audiences = options.audiences();
-            Pointer lens = room.take(8L * audiences.size());
-            long len = 0;
-            for (int number = 0; number < audiences.size(); number++) {
-                lens.setLong(8L * number, audiences.get(number).length);
-                len += audiences.get(number).length;
-            }
-            Pointer own = room.take(len);
-            long at = 0;
-            for (byte[] audience : audiences) {
-                own.write(at, audience, 0, audience.length);
-                at += audience.length;
-            }
-            byte[] id = options.idOrRandom();
-            Pointer terms = room.take(Library.Terms.SIZE);
-            terms.setLong(Library.Terms.LONGEST, options.longest());
-            terms.setLong(Library.Terms.AHEAD, options.ahead());
-            terms.setLong(Library.Terms.STEP, options.step());
-            terms.write(Library.Terms.VALIDATOR_ID, id, 0, id.length);
-            told.must(Library.svid_validator_open_by_lengths(
-                    state.handle, terms, own, len, lens, audiences.size(), room.put(bundles), bundles.length, told.at));
-        }
-        return new Validator(options, state);
+        options.mustFit();
+        Member member = new Member(options, bundles);
+        Validator made = new Validator(options, member);
+        member.begin();
+        return made;
     }
 
     /** The same, with the bundles as a text. */
@@ -115,23 +65,62 @@ public final class Validator implements AutoCloseable {
     }
 
     /**
-     * Accepts a token, once: the record gains its use.
+     * Accepts a token, as often as {@link Options#mode} says: by default once, and the record gains its use.
      *
      * @throws Refusal by the first reason that holds
+     * @throws SvidException.NotAllowed where the token is good, and {@link Options#callers(IdPattern...)} does not allow its subject
+     * @throws SvidException.Unavailable where the store fails, or where there is no answer in time
      * @throws SvidException.Unverifiable where java.security can't say whether the signature is good
+     * @throws IllegalArgumentException of a validator of {@link Mode#BOUND}: it wants to know the caller
      */
     public Admission check(String token) throws Refusal {
-        return check(now(), token);
-    }
-
-    Admission check(long now, String token) throws Refusal {
-        return judged(Library::svid_validator_check, now, token);
+        return check(this::now, token, null);
     }
 
     /**
-     * Answers what {@link #check} would, but the record gains no use: {@code check} may still accept the token.
+     * Accepts a token from one caller alone, in {@link Mode#BOUND}. From another caller it is refused as {@code Replayed}.
+     *
+     * @param caller bytes that tell who presents the token, as its address or its certificate
+     * @throws Refusal by the first reason that holds
+     * @throws SvidException.NotAllowed where the token is good, and {@link Options#callers(IdPattern...)} does not allow its subject
+     * @throws SvidException.Unavailable where the store fails, or where there is no answer in time
+     * @throws SvidException.Unverifiable where java.security can't say whether the signature is good
+     * @throws IllegalArgumentException of a validator of another mode
+     */
+    public Admission check(String token, byte[] caller) throws Refusal {
+        return check(this::now, token, Objects.requireNonNull(caller));
+    }
+
+    Admission check(long now, String token) throws Refusal {
+        return check(() -> now, token, null);
+    }
+
+    private Admission check(LongSupplier clock, String token, byte[] caller) throws Refusal {
+        if (caller == null == (options.mode() == Mode.BOUND)) {
+            throw new IllegalArgumentException("give a caller in the mode BOUND, and in no other one");
+        }
+        try {
+            return member.check(token.getBytes(StandardCharsets.UTF_8), clock, caller == null ? null : digest(caller));
+        } finally {
+            Reference.reachabilityFence(this);
+        }
+    }
+
+    private static byte[] digest(byte[] caller) {
+        try {
+            return MessageDigest.getInstance("SHA-256").digest(caller);
+        } catch (NoSuchAlgorithmException why) {
+            throw new IllegalStateException("java.security has no SHA-256: add its provider, SUN", why);
+        }
+    }
+
+    /**
+     * Answers what {@link #check(String)} would, but the record gains no use: {@code check} may still accept the token.
+     *
+     * <p>It asks no store, so that a token which another validator accepted may seem good to it.
      *
      * @throws Refusal by the first reason that holds
+     * @throws SvidException.NotAllowed where the token is good, and {@link Options#callers(IdPattern...)} does not allow its subject
      * @throws SvidException.Unverifiable where java.security can't say whether the signature is good
      */
     public Admission judge(String token) throws Refusal {
@@ -139,35 +128,65 @@ public final class Validator implements AutoCloseable {
     }
 
     Admission judge(long now, String token) throws Refusal {
-        return judged(Library::svid_validator_judge, now, token);
+        try {
+            return member.judge(token.getBytes(StandardCharsets.UTF_8), now);
+        } finally {
+            Reference.reachabilityFence(this);
+        }
     }
 
     /**
-     * Accepts the one bearer token of a request, once.
+     * Accepts the one bearer token of a request, as {@link #check(String)} does.
      *
      * @param values those of all header fields {@code Authorization} of the request; null where it has none
-     * @throws Denied with the answer that is due
+     * @throws Denied with the answer that is due: of a good token {@link Denied.NotAllowed}
+     * @throws SvidException.Unavailable where the store fails, or where there is no answer in time: answer with status 503
      * @throws SvidException.Unverifiable where java.security can't say whether the signature is good
      */
     public Admission admit(List<String> values) throws Denied {
-        return check(bearer(values));
+        return admit(values, null, null);
     }
 
     /**
-     * The same, where only some may call. The token of another caller is judged, and not used up.
+     * The same in {@link Mode#BOUND}, as {@link #check(String, byte[])} does.
+     *
+     * @param caller bytes that tell who presents the token, as its address or its certificate
+     * @throws Denied with the answer that is due: of a good token {@link Denied.NotAllowed}
+     * @throws SvidException.Unavailable where the store fails, or where there is no answer in time: answer with status 503
+     * @throws SvidException.Unverifiable where java.security can't say whether the signature is good
+     */
+    public Admission admit(List<String> values, byte[] caller) throws Denied {
+        return admit(values, null, Objects.requireNonNull(caller));
+    }
+
+    /**
+     * The same, where only some may call. The token of another caller is judged, and not used up. If the same may call in all requests, say
+     * that by {@link Options#callers(IdPattern...)} instead.
      *
      * @param callers patterns of the IDs that may call; no pattern lets nobody in
      * @throws Denied with the answer that is due: of a good token {@link Denied.NotAllowed}
+     * @throws SvidException.Unavailable where the store fails, or where there is no answer in time: answer with status 503
      * @throws SvidException.Unverifiable where java.security can't say whether the signature is good
      */
     public Admission admit(List<String> values, Collection<IdPattern> callers) throws Denied {
+        return admit(values, Objects.requireNonNull(callers), null);
+    }
+
+    /** The same, for all callers where there is no list, and without a caller where that does not count. */
+    Admission admit(List<String> values, Collection<IdPattern> callers, byte[] caller) throws Denied {
         String token = bearer(values);
-        SpiffeId caller = says(token).spiffeId();
-        if (callers.stream().noneMatch(it -> it.allows(caller))) {
-            judge(token);
+        try {
+            if (callers != null) {
+                SpiffeId subject = says(token).spiffeId();
+                if (callers.stream().noneMatch(it -> it.allows(subject))) {
+                    judge(token);
+                    throw new Denied.NotAllowed();
+                }
+            }
+            return check(this::now, token, caller);
+        } catch (SvidException.NotAllowed why) {
             throw new Denied.NotAllowed();
         }
-        return check(token);
     }
 
     /**
@@ -204,10 +223,12 @@ public final class Validator implements AutoCloseable {
 
     /**
      * Withdraws a token until it expires: from now on it is refused as {@code Withdrawn}. It verifies no signature: the token is withdrawn
-     * that has this trust domain and {@code jti}, or this text where it has no {@code jti}.
+     * that has this trust domain and {@code jti}, or this text where it has no {@code jti}. Where there is a store, all validators that
+     * share it refuse the token then.
      *
      * @return a message for {@link #take} of other validators, which then refuse the token too
      * @throws SvidException.Gone where the token has expired
+     * @throws SvidException.Unavailable where the store may not have that: withdraw the token again
      * @throws Refusal for what is no JWT-SVID
      */
     public byte[] withdraw(String token) throws Refusal {
@@ -220,19 +241,35 @@ public final class Validator implements AutoCloseable {
      *
      * @return a message for {@link #take} of other validators, which then refuse the token too
      * @throws SvidException.Gone where the token has expired
+     * @throws SvidException.Unavailable where the store may not have that: withdraw the token again
      */
     public byte[] withdraw(TokenKey key, Instant expiry) {
         return withdraw(now(), key, Times.expiryOf(expiry));
     }
 
     byte[] withdraw(long now, TokenKey key, long expiry) {
-        try (Room room = new Room()) {
-            Told told = new Told(room);
-            Pointer used = room.take(Library.Use.SIZE);
-            Pointer text = room.put(key.bytes());
-            told.must(locked(v -> Library.svid_validator_withdraw(v, now, text, expiry, used, told.at)));
-            return Admission.Use.read(used).message(true);
+        try {
+            return member.withdraw(now, key, expiry);
+        } finally {
+            Reference.reachabilityFence(this);
         }
+    }
+
+    /**
+     * Says the first reason why no tokens are to be sent to this validator, as a sentence; empty if it is ready. Ask it where a load
+     * balancer asks, as at a path /readyz: it also asks the store again, and advances the record.
+     */
+    public Optional<String> unready() {
+        try {
+            return Optional.ofNullable(member.unready(now()));
+        } finally {
+            Reference.reachabilityFence(this);
+        }
+    }
+
+    /** Whether tokens are to be sent to this validator: {@link #unready} says nothing. */
+    public boolean isReady() {
+        return unready().isEmpty();
     }
 
     /** Advances the record to the time of the clock, and drops what has expired by then. */
@@ -241,9 +278,10 @@ public final class Validator implements AutoCloseable {
     }
 
     void tick(long now) {
-        try (Room room = new Room()) {
-            Told told = new Told(room);
-            told.must(locked(v -> Library.svid_validator_tick(v, now, told.at)));
+        try {
+            member.tick(now);
+        } finally {
+            Reference.reachabilityFence(this);
         }
     }
 
@@ -336,21 +374,10 @@ public final class Validator implements AutoCloseable {
      * @throws SvidException.TooMuch where they are too long: the old ones stay
      */
     public void renew(byte[] bundles) {
-        try (Room room = new Room()) {
-            Told told = new Told(room);
-            Pointer fresh = room.take(Library.Handle.SIZE);
-            fresh.clear(Library.Handle.SIZE);
-            told.must(Library.svid_bundles_open(fresh, room.put(bundles), bundles.length, told.at));
-            try {
-                told.must(locked(v -> {
-                    state.edition++;
-                    return Library.svid_validator_renew_by(v, fresh, told.at);
-                }));
-                signatures.forget();
-            } finally {
-                // (now it has the old ones)
-                Library.svid_bundles_close(fresh);
-            }
+        try {
+            member.renew(bundles);
+        } finally {
+            Reference.reachabilityFence(this);
         }
     }
 
@@ -359,23 +386,24 @@ public final class Validator implements AutoCloseable {
         renew(Options.utf8("the bundles", bundles));
     }
 
-    /** Frees the record and the bundles. It waits for calls of other threads. Closing twice does nothing. */
+    /**
+     * Frees the record and the bundles. It waits for calls of the library by other threads. Threads that wait for an answer get
+     * {@link SvidException.Closed}. Closing twice does nothing.
+     */
     @Override
     public void close() {
         cleanable.clean();
         // (another thread may have begun with that, and not have ended)
-        state.run();
+        member.run();
     }
 
     private long now() {
         return Times.now(options.clock());
     }
 
-    private int locked(Call call) {
+    private int locked(Member.Call call) {
         try {
-            synchronized (state) {
-                return call.on(state.open());
-            }
+            return member.locked(call);
         } finally {
             Reference.reachabilityFence(this);
         }
@@ -393,56 +421,5 @@ public final class Validator implements AutoCloseable {
             told.must(written.status());
             return written.bytes();
         }
-    }
-
-    /** Lists the keys that may have signed a token, verifies its signature by them, and then judges it. */
-    private Admission judged(Judging judging, long now, String token) throws Refusal {
-        byte[] bytes = token.getBytes(StandardCharsets.UTF_8);
-        try (Room room = new Room()) {
-            Told told = new Told(room);
-            Pointer text = room.put(bytes);
-            // (all that the answer needs is there before the token is used up)
-            Pointer id = room.take(Library.ID_ROOM);
-            Pointer used = room.take(Library.Use.SIZE);
-            Pointer yes = room.take(TokenKey.LEN);
-            while (true) {
-                long[] edition = new long[1];
-                Signatures.Found found = found(room, text, bytes, edition);
-                boolean isYes = found.question() != null;
-                if (isYes) {
-                    yes.write(0, found.question(), 0, TokenKey.LEN);
-                }
-                int status;
-                synchronized (state) {
-                    Pointer handle = state.open();
-                    if (state.edition != edition[0]) {
-                        // (the bundles were renewed meanwhile, so that other keys count)
-                        continue;
-                    }
-                    status = judging.on(handle, now, yes, isYes ? 1 : 0, text, bytes.length, id, Library.ID_ROOM, used, told.at);
-                }
-                if (found.unknown() != null && status == Refusal.Reason.BAD_SIGNATURE.number()) {
-                    throw found.unknown();
-                }
-                told.accept(status);
-                return new Admission(SpiffeId.of(Written.bytesOf(id, told.len())), Admission.Use.read(used));
-            }
-        } finally {
-            Reference.reachabilityFence(this);
-        }
-    }
-
-    private Signatures.Found found(Room room, Pointer text, byte[] token, long[] edition) {
-        Told told = new Told(room);
-        Written rows = Written.by(room, told, USUAL, (out, outLen) -> locked(v -> {
-            edition[0] = state.edition;
-            return Library.svid_validator_ask(v, text, token.length, Library.MOST_CANDIDATES, out, outLen, told.at);
-        }));
-        // (another reason may come before this one, and the record is to see the time)
-        if (Refusal.Reason.of(rows.status()) != null) {
-            return Signatures.Found.NONE;
-        }
-        told.must(rows.status());
-        return signatures.find(room, rows.bytes(), text, token);
     }
 }

@@ -2,8 +2,8 @@ package svid;
 
 import com.sun.jna.Pointer;
 
-/** A text that the library wrote; it has no bytes unless the status is OK. */
-record Written(int status, byte[] bytes) {
+/** A text that the library wrote, and where it stands; it has no bytes unless the status is OK. */
+record Written(int status, Pointer at, byte[] bytes) {
     private static final byte[] NONE = {};
 
     /** A call that writes a text into a room. */
@@ -19,7 +19,7 @@ record Written(int status, byte[] bytes) {
             if (status == Status.TOO_SHORT.number() && told.len() > size) {
                 continue;
             }
-            return new Written(status, status == 0 ? bytesOf(out, told.len()) : NONE);
+            return new Written(status, out, status == 0 ? bytesOf(out, told.len()) : NONE);
         }
     }
 

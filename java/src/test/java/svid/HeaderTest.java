@@ -53,8 +53,10 @@ public class HeaderTest {
         List<String> names = new ArrayList<>();
         List<Long> got = new ArrayList<>();
         for (Class<?> it : Library.class.getDeclaredClasses()) {
-            List<String> structs = it == Library.Handle.class ? List.of("svid_validator", "svid_bundles")
-                                                              : List.of("svid_" + it.getSimpleName().toLowerCase(Locale.ROOT));
+            List<String> structs =
+                    it == Library.Handle.class ? List.of("svid_validator", "svid_bundles", "svid_token")
+                                               : List.of("svid_"
+                                                       + it.getSimpleName().replaceAll("(.)([A-Z])", "$1_$2").toLowerCase(Locale.ROOT));
             for (String struct : structs) {
                 for (Field field : it.getDeclaredFields()) {
                     boolean isSize = field.getName().equals("SIZE");
@@ -93,6 +95,17 @@ public class HeaderTest {
                 "SVID_VERSION", "SVID_MOST_CANDIDATES", "SVID_USUAL_RSA_BITS", "SVID_ID_ROOM", "SVID_SPKI_ROOM", "SVID_SUMMARY_LEN"));
         List<Long> got = new ArrayList<>(List.of((long) Library.VERSION, Library.MOST_CANDIDATES, (long) Library.USUAL_RSA_BITS,
                 Library.ID_ROOM, Library.SPKI_ROOM, Library.SUMMARY_LEN));
+        for (String it : List.of("DEED_NOTHING", "DEED_JUDGE", "DEED_CLAIM", "DEED_ANSWER", "AT_DISK", "AT_STORE", "AT_LOG", "CLAIM_FAR",
+                     "CLAIM_DEAF", "LATE", "LEFT", "ENDED", "DEAF")) {
+            names.add("SVID_" + it);
+            got.add((long) Library.class.getDeclaredField(it).getInt(null));
+        }
+        names.add("((svid_pacing) SVID_PACING_FIRST).pause");
+        got.add(Library.FIRST_PAUSE);
+        for (Mode it : Mode.values()) {
+            names.add("SVID_" + it.name());
+            got.add((long) it.number());
+        }
         for (Status it : Status.values()) {
             names.add("SVID_" + it.name());
             got.add((long) it.number());
@@ -106,7 +119,7 @@ public class HeaderTest {
 
     /** What a parameter of the header is in Java. */
     private static String inJava(String parameter) {
-        if (parameter.contains("*")) {
+        if (parameter.contains("*") || parameter.contains("[")) {
             return "Pointer";
         }
         return parameter.startsWith("size_t ") || parameter.startsWith("uint64_t ") ? "long"
@@ -123,7 +136,7 @@ public class HeaderTest {
                 continue;
             }
             count++;
-            String returns = it.getReturnType() == void.class ? "void" : "uint32_t";
+            String returns = it.getReturnType() == void.class ? "void" : it.getReturnType() == long.class ? "uint64_t" : "uint32_t";
             String parameters = matched("(?m)^" + returns + " " + it.getName() + "\\(([^)]*)\\);");
             List<String> due = Arrays.stream(parameters.split(","))
                                        .map(String::strip)

@@ -12,8 +12,10 @@ import static svid.Vectors.tokens;
 
 import com.sun.jna.Function;
 import java.nio.charset.StandardCharsets;
+import java.time.Duration;
 import java.util.List;
 import java.util.Map;
+import java.util.function.Supplier;
 import org.junit.Test;
 
 /**
@@ -38,13 +40,17 @@ public class MemoryTest {
 
     /** Makes the call with each of its allocations refused, until it needs no further one. Says how many were refused. */
     private static int refused(Begin begin, Call call) throws Exception {
+        return refused(() -> ledgerAt(NOW), begin, call);
+    }
+
+    private static int refused(Supplier<Options> options, Begin begin, Call call) throws Exception {
         Object due;
-        try (Validator validator = Validator.open(ledgerAt(NOW), bundles())) {
+        try (Validator validator = Validator.open(options.get(), bundles())) {
             begin.on(validator);
             due = call.on(validator);
         }
         for (int count = 0; count < 100_000; count++) {
-            try (Validator validator = Validator.open(ledgerAt(NOW), bundles())) {
+            try (Validator validator = Validator.open(options.get(), bundles())) {
                 begin.on(validator);
                 long uses = validator.size().uses();
                 Object got = null;
@@ -90,6 +96,38 @@ public class MemoryTest {
         assertTrue(refused(MemoryTest::nothing, it -> it.judge(token).spiffeId()) > 0);
         assertTrue(refused(MemoryTest::nothing, it -> it.admit(List.of("Bearer " + token)).key()) > 0);
         assertTrue(refused(it -> it.check(token), it -> assertThrows(Refusal.class, () -> rethrown(it, token)).reason()) > 0);
+    }
+
+    /** A check in each mode, where some may call. */
+    @Test
+    public void members() throws Exception {
+        String token = tokens().get(0);
+        byte[] caller = {1};
+        IdPattern ours = IdPattern.of("spiffe://example.org/billing/*");
+        IdPattern others = IdPattern.of("spiffe://example.org/other");
+        for (Mode mode : Mode.values()) {
+            Supplier<Options> options = () -> {
+                Options made = ledgerAt(NOW).mode(mode).wait(Duration.ofSeconds(Making.PATIENCE));
+                return mode.hasStore() ? made.store(new MemoryStore(Vectors.clock(NOW), Duration.ofMinutes(1), Duration.ofHours(1))) : made;
+            };
+            Call check = it -> (mode == Mode.BOUND ? it.check(token, caller) : it.check(token)).spiffeId();
+            assertTrue(mode.toString(), refused(() -> options.get().callers(ours), MemoryTest::nothing, check) > 0);
+            Call notAllowed = it -> assertThrows(SvidException.NotAllowed.class, () -> rethrown(it, check)).getMessage();
+            assertTrue(mode.toString(), refused(() -> options.get().callers(others), MemoryTest::nothing, notAllowed) > 0);
+            assertTrue(refused(options, MemoryTest::nothing, it -> {
+                it.withdraw(token);
+                return it.size();
+            }) > 0);
+        }
+    }
+
+    /** A call whose want of memory is no answer. */
+    private static void rethrown(Validator validator, Call call) throws Exception {
+        try {
+            call.on(validator);
+        } catch (SvidException.OutOfMemory why) {
+            call.on(validator);
+        }
     }
 
     /** A check whose want of memory is no refusal. */

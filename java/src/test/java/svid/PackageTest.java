@@ -57,24 +57,26 @@ public class PackageTest {
         return matcher.results().map(it -> it.group(1)).toList();
     }
 
-    /** Compiles the program of a block against the jar, in a folder of its own, and gives the command that runs it. */
-    private static ProcessBuilder program(int block) throws Exception {
-        String source = blocks("java").get(block);
-        Matcher matcher = Pattern.compile("public class (\\w+)").matcher(source);
-        assertTrue(matcher.find());
-        Path folder = ROOM.getRoot().toPath().resolve(matcher.group(1));
+    /** The program of this name in README.md. */
+    private static String source(String name) {
+        return blocks("java").stream().filter(it -> it.contains("public class " + name + " {")).findFirst().orElseThrow();
+    }
+
+    /** Compiles a program of README.md against the jar, in a folder of its own, and gives the command that runs it. */
+    private static ProcessBuilder program(String name) throws Exception {
+        String source = source(name);
+        Path folder = ROOM.getRoot().toPath().resolve(name);
         String path = jar + ":" + JNA + ":" + folder;
         if (!Files.exists(folder)) {
             Files.createDirectory(folder);
-            Path file = folder.resolve(matcher.group(1) + ".java");
+            Path file = folder.resolve(name + ".java");
             Files.writeString(file, source);
             Files.createSymbolicLink(folder.resolve("examples"), Vectors.TOP.resolve("examples"));
             String[] words = {"-Xlint:all", "-Werror", "-cp", path, "-d", folder.toString(), file.toString()};
             assertEquals(0, ToolProvider.getSystemJavaCompiler().run(null, null, null, words));
         }
         String java = System.getProperty("java.home") + "/bin/java";
-        return new ProcessBuilder(
-                new ArrayList<>(List.of(java, "-XX:TieredStopAtLevel=1", "-XX:+UseSerialGC", "-cp", path, matcher.group(1))))
+        return new ProcessBuilder(new ArrayList<>(List.of(java, "-XX:TieredStopAtLevel=1", "-XX:+UseSerialGC", "-cp", path, name)))
                 .directory(folder.toFile())
                 .redirectErrorStream(true);
     }
@@ -103,19 +105,24 @@ public class PackageTest {
 
     @Test
     public void whatReadmeShows() throws Exception {
-        Process process = program(0).start();
-        String said = new String(process.getInputStream().readAllBytes(), StandardCharsets.UTF_8);
-        assertEquals(0, process.waitFor());
-        assertEquals(blocks("text").get(0), said);
+        List<String> names = List.of("Hello", "Group");
+        for (String name : names) {
+            Process process = program(name).start();
+            String said = new String(process.getInputStream().readAllBytes(), StandardCharsets.UTF_8);
+            assertEquals(said, 0, process.waitFor());
+            assertEquals(blocks("text").get(names.indexOf(name)), said);
+        }
     }
 
     /** The service accepts a token once, and refuses it the second time, also while others send half of a request. */
     @Test
     public void theServiceOfReadme() throws Exception {
-        String source = blocks("java").get(1);
-        List<String> own = source.lines().filter(it -> !it.isBlank() && !it.startsWith("import ") && !it.matches("[\\s{}();]*")).toList();
-        assertTrue(own.size() + " lines", own.size() <= MOST_LINES);
-        ProcessBuilder builder = program(1);
+        for (String name : List.of("Group", "Service")) {
+            Stream<String> own =
+                    source(name).lines().filter(it -> !it.isBlank() && !it.startsWith("import ") && !it.matches("[\\s{}();]*"));
+            assertTrue(name, own.count() <= MOST_LINES);
+        }
+        ProcessBuilder builder = program("Service");
         builder.command().addAll(List.of("examples/bundles.json", "0"));
         Process service = builder.start();
         List<Socket> slows = new ArrayList<>();
@@ -145,7 +152,11 @@ public class PackageTest {
 
     /** The status of the answer to a request with these header fields, and its challenge or its body. */
     private static String asked(int port, String... authorizations) throws IOException {
-        HttpURLConnection connection = (HttpURLConnection) new URL("http://127.0.0.1:" + port + "/").openConnection();
+        return asked("/", port, authorizations);
+    }
+
+    private static String asked(String path, int port, String... authorizations) throws IOException {
+        HttpURLConnection connection = (HttpURLConnection) new URL("http://127.0.0.1:" + port + path).openConnection();
         connection.setReadTimeout(30_000);
         for (String it : authorizations) {
             connection.addRequestProperty("Authorization", it);
@@ -181,6 +192,55 @@ public class PackageTest {
         }
     }
 
+    /** A store that is away, as long as it is. */
+    private static final class Away implements Store {
+        final MemoryStore store = new MemoryStore();
+        volatile boolean isAway = true;
+
+        @Override
+        public List<Found> put(List<Claim> claims) throws IOException {
+            if (isAway) {
+                throw new IOException("the store is away");
+            }
+            return store.put(claims);
+        }
+
+        @Override
+        public void withdraw(TokenKey key, java.time.Instant expiry) {
+            store.withdraw(key, expiry);
+        }
+    }
+
+    /** In mode bound the handler says who sends the request. It answers 503 while the store is away, and 403 to who may not call. */
+    @Test
+    public void theHandlerOfAStore() throws Exception {
+        Away store = new Away();
+        Options options = Vectors.ledger().mode(Mode.BOUND).store(store).wait(java.time.Duration.ofMillis(500));
+        List<byte[]> who = new ArrayList<>(List.of(new byte[] {1}));
+        ProtectedHandler.Handler handler = (exchange, admission) -> exchange.sendResponseHeaders(204, -1);
+        HttpServer server = HttpServer.create(new InetSocketAddress(InetAddress.getLoopbackAddress(), 0), 0);
+        String bearer = "Bearer " + Making.token();
+        try (Validator validator = Validator.open(options, Making.bundles());
+                Validator closed = Validator.open(options.callers(IdPattern.of("spiffe://example.com")), Making.bundles())) {
+            server.createContext("/", new ProtectedHandler(validator, handler).caller(exchange -> who.get(0)));
+            server.createContext("/closed", new ProtectedHandler(closed, handler).caller(exchange -> who.get(0)));
+            server.start();
+            int port = server.getAddress().getPort();
+            assertEquals("503 null", asked(port, bearer));
+            store.isAway = false;
+            Making.until(() -> validator.isReady() && closed.isReady());
+            String forbidden = "403 Bearer error=\"insufficient_scope\", error_description=\"NotAllowed\"";
+            Making.until(() -> asked("/closed", port, bearer).equals(forbidden));
+            for (int n = 0; n < 2; n++) {
+                Making.until(() -> asked(port, bearer).equals("204 null"));
+            }
+            who.set(0, new byte[] {2});
+            assertEquals("401 Bearer error=\"invalid_token\", error_description=\"Replayed\"", asked(port, bearer));
+        } finally {
+            server.stop(0);
+        }
+    }
+
     /** The version and the dependency of pom.xml, and the folder of the library. */
     @Test
     public void thePom() throws Exception {
@@ -201,7 +261,7 @@ public class PackageTest {
     public void anotherLibrary() throws Exception {
         for (String named : List.of(Vectors.TOP + "/dist/x86_64/libsvid.so", "/nowhere/libsvid.so", Vectors.TOP + "/README.md",
                      System.getProperty("svid.other"))) {
-            ProcessBuilder builder = program(0);
+            ProcessBuilder builder = program("Hello");
             builder.command().add(1, "-Dsvid.library=" + named);
             Process process = builder.start();
             String said = new String(process.getInputStream().readAllBytes(), StandardCharsets.UTF_8);
@@ -235,7 +295,7 @@ public class PackageTest {
     /** The unpacked library is gone from the folder that it was loaded from. */
     @Test
     public void nothingIsLeftBehind() throws Exception {
-        ProcessBuilder builder = program(0);
+        ProcessBuilder builder = program("Hello");
         File folder = ROOM.newFolder();
         builder.command().add(1, "-Djava.io.tmpdir=" + folder);
         Process process = builder.start();

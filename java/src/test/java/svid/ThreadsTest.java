@@ -122,7 +122,7 @@ public class ThreadsTest {
     }
 
     /** A provider whose verification does something, and says what that says, or else what another provider does. */
-    private static final class Meanwhile extends Provider {
+    static final class Meanwhile extends Provider {
         private static final long serialVersionUID = 1;
         private static final String NAME = "SHA256withECDSAinP1363Format";
 
@@ -270,8 +270,8 @@ public class ThreadsTest {
     }
 
     /** The lock of a validator. */
-    private static Object lockOf(Validator validator) throws ReflectiveOperationException {
-        Field field = Validator.class.getDeclaredField("state");
+    static Object lockOf(Validator validator) throws ReflectiveOperationException {
+        Field field = Validator.class.getDeclaredField("member");
         field.setAccessible(true);
         return field.get(validator);
     }
@@ -359,6 +359,29 @@ public class ThreadsTest {
             assertEquals(List.of("accepted"), answers);
         } finally {
             Security.removeProvider(provider.getName());
+        }
+    }
+
+    /** While a signature is verified, others may call. */
+    @Test
+    public void othersCallDuringAVerification() throws Exception {
+        try (Validator validator = Validator.open(ledgerAt(NOW), bundles())) {
+            List<Long> uses = new ArrayList<>();
+            Provider provider = new Meanwhile(() -> {
+                try {
+                    uses.add(pool.submit(() -> validator.size().uses()).get(Making.PATIENCE, TimeUnit.SECONDS));
+                } catch (Exception why) {
+                    throw new AssertionError(why);
+                }
+                return null;
+            });
+            Security.insertProviderAt(provider, 1);
+            try {
+                assertEquals("accepted", checked(validator, tokens().get(0)));
+            } finally {
+                Security.removeProvider(provider.getName());
+            }
+            assertEquals(List.of(0L), uses);
         }
     }
 

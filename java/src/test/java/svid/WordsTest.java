@@ -12,6 +12,7 @@ import static svid.Vectors.of;
 
 import com.google.gson.JsonObject;
 import java.io.ByteArrayOutputStream;
+import java.util.ArrayList;
 import java.util.HashMap;
 import java.util.HashSet;
 import java.util.List;
@@ -25,7 +26,7 @@ import org.junit.function.ThrowingRunnable;
 
 /** What an error says, in the words of lists/statuses.toml. */
 public class WordsTest {
-    private static final Pattern FIELD = Pattern.compile("(?m)^(\\w+) = \"(.*)\"$");
+    private static final Pattern FIELD = Pattern.compile("(?m)^(\\w+) = \"?(.*?)\"?$");
     private static final Map<String, Map<String, String>> LISTED = new HashMap<>();
 
     static {
@@ -69,6 +70,24 @@ public class WordsTest {
 
     private static void says(String due, ThrowingRunnable call) {
         assertEquals(due, assertThrows(Exception.class, call).getMessage());
+    }
+
+    /** Why there is no answer, and why no tokens are to be sent: all that the list has of a member, and two of a claim. */
+    @Test
+    public void requests() {
+        List<String> names = new ArrayList<>(List.of("CLAIM_FAR", "CLAIM_DEAF"));
+        LISTED.forEach((name, fields) -> {
+            if (Integer.parseInt(fields.get("number")) > 200) {
+                names.add(name);
+            }
+        });
+        assertEquals(17, names.size());
+        for (String name : names) {
+            int number = Integer.parseInt(field(name, "number"));
+            says(sentence(name, ""), () -> { throw(SvidException.Unavailable) SvidException.of(number, null); });
+        }
+        says("the token is good, and its subject is none of the callers that may call",
+                () -> { throw SvidException.of(Status.NOT_ALLOWED.number(), null); });
     }
 
     @Test

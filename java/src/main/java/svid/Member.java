@@ -1,0 +1,474 @@
+package svid;
+
+import com.sun.jna.Pointer;
+import java.io.ByteArrayOutputStream;
+import java.nio.charset.StandardCharsets;
+import java.util.HashMap;
+import java.util.List;
+import java.util.Map;
+import java.util.concurrent.BlockingQueue;
+import java.util.concurrent.LinkedBlockingQueue;
+import java.util.concurrent.TimeUnit;
+import java.util.function.LongSupplier;
+import java.util.stream.Collectors;
+
+/**
+ * A validator that answers requests. The library decides (include/svid.h, "A member"). Here stand a map from the numbers of requests to the
+ * threads that wait for their answers, and what the library says is to be done.
+ */
+final class Member extends State {
+    private static final byte[] NOBODY = new byte[Owner.LEN];
+    private static final String MAY_LACK = "the token is withdrawn here, but the group's store may not have that: withdraw it again";
+
+    /** The clock that only goes ahead, in milliseconds. */
+    volatile LongSupplier up = Times::up;
+    /** Null for no store. */
+    final Claims claims;
+    /** The requests that have no answer yet, by their numbers. */
+    final Map<Long, Request> requests = new HashMap<>();
+    /** The withdrawals that have not ended, by their numbers. */
+    final Map<Long, BlockingQueue<End>> withdrawals = new HashMap<>();
+
+    private final long wait;
+    private final long longest;
+    private final boolean isBound;
+    private final Pointer deed = room.take(Library.Deed.SIZE);
+    private final Pointer usedOfDeed = deed.share(Library.Deed.USED);
+    private final Pointer due = room.take(Library.Deadline.SIZE);
+    private final Pointer made = room.take(Library.Withdrawal.SIZE);
+    private final Pointer known = room.take(Library.Known.SIZE);
+    private final Pointer life = room.put(Options.random());
+    private final Pointer whose = room.take(Owner.LEN);
+    private final Pointer owner = room.take(Owner.LEN);
+
+    /** Opens it. It judges no token before {@link #begin}. */
+    Member(Options options, byte[] bundles) {
+        super(options, bundles);
+        wait = options.waitMillis();
+        longest = options.longest();
+        isBound = options.mode() == Mode.BOUND;
+        claims = options.store() == null ? null : new Claims(options.store(), this);
+        try (Room lent = new Room()) {
+            Pointer terms = lent.take(Library.MemberTerms.SIZE);
+            terms.setLong(Library.MemberTerms.MODE, options.mode().number());
+            terms.setLong(Library.MemberTerms.DISK, 0);
+            terms.setLong(Library.MemberTerms.STORE, claims == null ? 0 : 1);
+            terms.setLong(Library.MemberTerms.LOG, 0);
+            terms.setLong(Library.MemberTerms.WAIT, wait);
+            terms.setLong(Library.MemberTerms.AHEAD, options.ahead());
+            terms.setLong(Library.MemberTerms.LASTS, Times.sum(longest, Times.sum(options.ahead(), options.ahead())));
+            terms.write(Library.MemberTerms.LIFE, life.getByteArray(0, Options.ID_LEN), 0, Options.ID_LEN);
+            must(locked(v -> Library.svid_member_open(v, terms)));
+            if (options.mayCall() != null) {
+                byte[] own = lines(options.audiences());
+                byte[] callers = options.mayCall()
+                                         .stream()
+                                         .map(IdPattern::toString)
+                                         .collect(Collectors.joining("\n"))
+                                         .getBytes(StandardCharsets.UTF_8);
+                must(locked(v -> Library.svid_member_rules(v, lent.put(own), own.length, 0, lent.put(callers), callers.length)));
+            }
+        } catch (Throwable why) {
+            run();
+            throw why;
+        }
+    }
+
+    private static byte[] lines(List<byte[]> texts) {
+        ByteArrayOutputStream joined = new ByteArrayOutputStream();
+        for (byte[] it : texts) {
+            joined.writeBytes(it);
+            joined.write('\n');
+        }
+        return joined.toByteArray();
+    }
+
+    /** Tokens are judged from now on, or once the store is there. Waits for that, but no longer than a request does. */
+    void begin() {
+        know(0, false);
+        if (claims != null) {
+            claims.begin(wait);
+        }
+    }
+
+    @Override
+    public void run() {
+        if (claims != null) {
+            claims.close();
+        }
+        super.run();
+    }
+
+    /** Whoever waits for an answer gets none. */
+    @Override
+    void ended() {
+        requests.values().forEach(it -> it.steps.add(new Failure(new SvidException.Closed())));
+        withdrawals.values().forEach(it -> it.add(new End(false, new SvidException.Closed())));
+        requests.clear();
+        withdrawals.clear();
+    }
+
+    /** What comes to a request. */
+    sealed interface Step permits Deed, Answer, Failure {}
+
+    /** {@code svid_deed}: what is to be done for a request. It has a use where that counts, or else null. */
+    record Deed(int what, long number, int status, long next, Admission.Use used) implements Step {}
+
+    /** What the store says of its claim. */
+    private record Answer(Store.Found found) implements Step {}
+
+    /** Why no answer comes. */
+    private record Failure(SvidException why) implements Step {}
+
+    /** How a withdrawal ended: whether a keeper may lack it, and why it has no end. */
+    record End(boolean mayLack, SvidException why) {}
+
+    /** A token on its way to an answer. Its thread does what comes by {@code steps}. */
+    static final class Request {
+        private final Token token;
+        private final LongSupplier clock;
+        private final byte[] caller;
+        private final BlockingQueue<Step> steps = new LinkedBlockingQueue<>();
+        private long number = Library.NONE;
+        private SpiffeId subject;
+        private boolean isAnswered;
+
+        private Request(Token token, LongSupplier clock, byte[] caller) {
+            this.token = token;
+            this.clock = clock;
+            this.caller = caller;
+        }
+    }
+
+    /**
+     * Answers a token.
+     *
+     * @param clock gives the time of each call
+     * @param caller 32 bytes that say who presents the token, or null
+     */
+    Admission check(byte[] bytes, LongSupplier clock, byte[] caller) throws Refusal {
+        try (Token token = read(bytes, clock.getAsLong())) {
+            Request request = new Request(token, clock, caller == null ? NOBODY : caller);
+            try {
+                come(request);
+                return seenThrough(request);
+            } finally {
+                leave(request);
+            }
+        }
+    }
+
+    /** Withdraws a token, here and in the store, and gives the message of that. */
+    byte[] withdraw(long now, TokenKey key, long expiry) {
+        Admission.Use use = withdrawn(now, key, expiry);
+        if (claims != null) {
+            bring(key, expiry);
+        }
+        return use.message(true);
+    }
+
+    /** The first reason why no tokens are to be sent here, as a sentence, or null. */
+    String unready(long now) {
+        try {
+            tick(now);
+            know(now, false);
+        } catch (SvidException.Jump why) {
+            know(now, true);
+        }
+        int status = locked(Library::svid_member_ready);
+        if (SvidException.Unavailable.isUnready(status)) {
+            return SvidException.Unavailable.saidOf(status);
+        }
+        must(status);
+        return null;
+    }
+
+    // -- For the claims
+
+    /** The claim of a request, if it is to go out now, or else null. */
+    synchronized Store.Claim send(Deed claimed) {
+        try {
+            Pointer v = open();
+            Request request = requests.get(claimed.number);
+            must(Library.svid_member_send(v, up.getAsLong(), claimed.number, deed));
+            if (request == null || deed.getLong(Library.Deed.WHAT) != Library.DEED_CLAIM) {
+                hand();
+                return null;
+            }
+            Admission.Use use = claimed.used;
+            if (isBound) {
+                whose.write(0, request.caller, 0, Owner.LEN);
+                Library.svid_claim_owner_of_caller(whose, use.exp(), owner);
+            } else {
+                whose.write(0, use.validatorId(), 0, Options.ID_LEN);
+                Library.svid_claim_owner(whose, life, use.exp(), owner);
+            }
+            return new Store.Claim(TokenKey.of(use.key()), Owner.of(owner.getByteArray(0, Owner.LEN)), Times.instantOf(use.exp()));
+        } catch (SvidException why) {
+            // (its request is late then, or the validator is closed)
+            return null;
+        }
+    }
+
+    /** The store has answered the claim of a request. */
+    synchronized void found(long number, Store.Found found) {
+        Request request = requests.get(number);
+        if (request != null) {
+            request.steps.add(new Answer(found));
+        }
+    }
+
+    /** The store is there. */
+    void reached() {
+        know(0, false);
+    }
+
+    // -- The way of a request
+
+    private synchronized void come(Request request) {
+        must(Library.svid_member_come(open(), up.getAsLong(), deed));
+        Deed read = deed();
+        request.number = read.number;
+        requests.put(read.number, request);
+        request.steps.add(read);
+    }
+
+    /** Does what is to be done for a request, until it is answered. */
+    private Admission seenThrough(Request request) throws Refusal {
+        while (true) {
+            Step step = next(request.steps);
+            if (step instanceof Failure failure) {
+                throw failure.why;
+            } else if (step instanceof Answer answer) {
+                ask(request, answer.found);
+            } else if (step instanceof Deed read && read.what == Library.DEED_JUDGE) {
+                ask(request, null);
+            } else if (step instanceof Deed read && read.what == Library.DEED_CLAIM) {
+                claims.add(read);
+            } else if (step instanceof Deed read && read.what == Library.DEED_ANSWER) {
+                return answered(request, read);
+            } else {
+                throw new IllegalStateException("libsvid wants what this package can't do: " + step);
+            }
+        }
+    }
+
+    /** Makes the call by which the library judges the token, with what the store has found, if it has. */
+    private void ask(Request request, Store.Found answer) {
+        Token token = request.token;
+        Pointer caller = null;
+        Pointer answered = null;
+        if (answer != null) {
+            caller = token.room.put(request.caller);
+            answered = token.room.take(Library.Found.SIZE);
+            answered.setLong(Library.Found.TIME, Times.expiryOf(answer.time()));
+            answered.setLong(Library.Found.DEAF, Times.expiryOf(answer.deaf()));
+            answered.write(Library.Found.OWNER, answer.owner().bytes(), 0, Owner.LEN);
+        }
+        while (true) {
+            if (token.edition != edition) {
+                find(token);
+            }
+            long now = request.clock.getAsLong();
+            synchronized (this) {
+                Pointer v = open();
+                if (token.edition != edition) {
+                    // (the bundles were renewed meanwhile, so that other keys count)
+                    continue;
+                }
+                Signatures.Found shown = token.found;
+                int status = answer == null ? Library.svid_member_judge(v, now, up.getAsLong(), request.number, shown.key(), shown.keyLen(),
+                                     token.input(), shown.signed(), shown.signature(), shown.signatureLen(), token.at, out, Library.ID_ROOM,
+                                     used, deed, told.at)
+                                            : Library.svid_member_found(v, now, up.getAsLong(), request.number, caller, answered,
+                                                    shown.key(), shown.keyLen(), token.input(), shown.signed(), shown.signature(),
+                                                    shown.signatureLen(), token.at, out, Library.ID_ROOM, used, deed, told.at);
+                if (status == Status.CLOSED.number() || status == Status.JUMP.number()) {
+                    // (nothing happened)
+                    throw SvidException.of(status, told);
+                }
+                // (others may wait for what is to be done, so that comes before all that may fail)
+                hand();
+                if (status == 0) {
+                    request.subject = subject();
+                }
+                return;
+            }
+        }
+    }
+
+    private Admission answered(Request request, Deed read) throws Refusal {
+        request.isAnswered = true;
+        if (read.status == 0) {
+            return new Admission(request.subject, read.used);
+        }
+        request.token.found.mustBeKnown(read.status);
+        Refusal.Reason reason = Refusal.Reason.of(read.status);
+        if (reason != null) {
+            throw new Refusal(reason);
+        }
+        throw fault(read.status);
+    }
+
+    /** Nobody waits for the answer any more. */
+    private void leave(Request request) {
+        if (request.isAnswered) {
+            return;
+        }
+        synchronized (this) {
+            if (requests.containsKey(request.number) && Library.svid_member_leave(open(), up.getAsLong(), request.number, deed) == 0) {
+                hand();
+            }
+            requests.remove(request.number);
+        }
+    }
+
+    /** The next one of these. Whatever is due meanwhile is answered that it is late. */
+    private <T> T next(BlockingQueue<T> steps) {
+        while (true) {
+            T step = steps.poll();
+            if (step != null) {
+                return step;
+            }
+            try {
+                step = steps.poll(untilDue(), TimeUnit.MILLISECONDS);
+            } catch (InterruptedException why) {
+                Thread.currentThread().interrupt();
+                throw new SvidException.Unavailable("the thread was interrupted while it waited for an answer: make the call again", why);
+            }
+            if (step != null) {
+                return step;
+            }
+            overdue();
+        }
+    }
+
+    /** For how many milliseconds nothing is due. */
+    synchronized long untilDue() {
+        must(Library.svid_member_due(open(), due));
+        long at = due.getLong(Library.Deadline.AT);
+        return at < 0 ? Long.MAX_VALUE : Math.max(at - up.getAsLong(), 0);
+    }
+
+    /** Answers whatever is due. */
+    synchronized void overdue() {
+        Pointer v = open();
+        long moment = up.getAsLong();
+        do {
+            must(Library.svid_member_overdue(v, moment, deed));
+        } while (hand().what != Library.DEED_NOTHING);
+        do {
+            must(Library.svid_withdrawal_overdue(v, moment, made));
+        } while (handEnd());
+    }
+
+    // -- Withdrawals
+
+    /** Brings a withdrawal to the store. */
+    private void bring(TokenKey key, long expiry) {
+        BlockingQueue<End> ends = new LinkedBlockingQueue<>();
+        long number;
+        synchronized (this) {
+            must(Library.svid_withdrawal_come(open(), up.getAsLong(), made));
+            number = made.getLong(Library.Withdrawal.NUMBER);
+            withdrawals.put(number, ends);
+        }
+        try {
+            told(number, Library.AT_LOG, true);
+            told(number, Library.AT_DISK, true);
+            Throwable[] cause = new Throwable[1];
+            claims.withdraw(key, Times.instantOf(expiry), why -> {
+                cause[0] = why;
+                told(number, Library.AT_STORE, why == null);
+            });
+            End end = next(ends);
+            if (end.why != null) {
+                throw end.why;
+            }
+            if (end.mayLack) {
+                throw new SvidException.Unavailable(MAY_LACK, cause[0]);
+            }
+        } finally {
+            synchronized (this) {
+                withdrawals.remove(number);
+            }
+        }
+    }
+
+    /** A keeper has a withdrawal, or may not have it. */
+    private synchronized void told(long number, int keeper, boolean isThere) {
+        must(Library.svid_withdrawal_told(open(), number, keeper, isThere ? 1 : 0, made));
+        handEnd();
+    }
+
+    /** Hands on the withdrawal that has ended, if one has. */
+    private boolean handEnd() {
+        long number = made.getLong(Library.Withdrawal.NUMBER);
+        BlockingQueue<End> ends = withdrawals.remove(number);
+        if (ends != null) {
+            ends.add(new End(made.getLong(Library.Withdrawal.STORE) == Library.MAY_LACK, null));
+        }
+        return number != Library.NONE;
+    }
+
+    // -- With the lock held
+
+    /** What the last call says is to be done. */
+    private Deed deed() {
+        int what = (int) deed.getLong(Library.Deed.WHAT);
+        int status = (int) deed.getLong(Library.Deed.STATUS);
+        boolean hasUse = what == Library.DEED_CLAIM || what == Library.DEED_ANSWER && status == 0;
+        return new Deed(what, deed.getLong(Library.Deed.NUMBER), status, deed.getLong(Library.Deed.NEXT),
+                hasUse ? Admission.Use.read(usedOfDeed) : null);
+    }
+
+    /** Hands what is to be done to the thread whose request it is for. */
+    private Deed hand() {
+        Deed read = deed();
+        Request request = null;
+        if (read.what == Library.DEED_ANSWER) {
+            request = requests.remove(read.number);
+            Request next = requests.get(read.next);
+            if (next != null) {
+                next.steps.add(new Deed(Library.DEED_JUDGE, read.next, 0, Library.NONE, null));
+            }
+        } else if (read.what != Library.DEED_NOTHING) {
+            request = requests.get(read.number);
+        }
+        if (request != null) {
+            request.steps.add(read);
+        }
+        return read;
+    }
+
+    private void must(int status) {
+        if (status != 0) {
+            throw fault(status);
+        }
+    }
+
+    private SvidException fault(int status) {
+        return SvidException.Unavailable.is(status) ? new SvidException.Unavailable(status, claims == null ? null : claims.why())
+                                                    : SvidException.of(status, told);
+    }
+
+    /** Tells the library what the validator has. */
+    private void know(long now, boolean isJumped) {
+        boolean isOpened = claims == null || claims.isThere();
+        boolean isAway = claims != null && claims.isAway(wait);
+        boolean isDeaf = claims != null && Long.compareUnsigned(claims.deaf(), Times.sum(now, longest)) >= 0;
+        synchronized (this) {
+            Pointer v = open();
+            known.clear(Library.Known.SIZE);
+            for (int it : new int[] {
+                         Library.Known.BUNDLED, Library.Known.LOADED, Library.Known.HEARD, Library.Known.JOINED, Library.Known.CAUGHT_UP}) {
+                known.setLong(it, 1);
+            }
+            known.setLong(Library.Known.OPENED, isOpened ? 1 : 0);
+            known.setLong(Library.Known.JUMPED, isJumped ? 1 : 0);
+            known.setLong(Library.Known.AWAY, isAway ? 1 : 0);
+            known.setLong(Library.Known.DEAF, isDeaf ? 1 : 0);
+            must(Library.svid_member_know(v, known));
+        }
+    }
+}
