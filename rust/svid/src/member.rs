@@ -174,6 +174,7 @@ impl Member {
     ///
     /// Those of [`Validator::open`], and [`Error::Messages`] for claims beside a record that are none.
     pub fn open(options: &Options, bundles: &[u8], start: &LogStart<'_>) -> Result<Member, Error> {
+        options.fit_a_validator()?;
         let mut core = Core::open(options, bundles)?;
         core.log(start).map(|()| Member { core })
     }
