@@ -292,6 +292,19 @@ impl Claims {
         }
     }
 
+    /// How many claims wait for a call.
+    #[cfg(test)]
+    pub fn waiting(&self) -> usize {
+        self.gate().waiting.len()
+    }
+
+    /// Lets the library take it that so many calls are under way.
+    #[cfg(test)]
+    pub fn let_be_under_way(&self, calls: u64) {
+        self.gate().pacing.calls = calls;
+        self.comes.notify_one();
+    }
+
     fn gate(&self) -> MutexGuard<'_, Gate> {
         self.gate.lock().unwrap_or_else(PoisonError::into_inner)
     }

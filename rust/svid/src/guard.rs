@@ -41,9 +41,9 @@ use crate::verify::Verify;
 /// ```
 #[derive(Debug)]
 pub struct Guard<V> {
-    requests: Arc<Requests>,
+    pub(crate) requests: Arc<Requests>,
     verifier: V,
-    journal: Option<Arc<Journal>>,
+    pub(crate) journal: Option<Arc<Journal>>,
     snapshot: Mutex<Option<JoinHandle<()>>>, // the last thread that took one
 }
 

@@ -3,6 +3,9 @@
 //! The C library decides (svid.h, "A member"). Here stand the locks, the clocks, and what the threads of requests do that the library says is to
 //! be done.
 
+#[cfg(test)]
+mod tests;
+
 use std::fmt;
 use std::sync::{Arc, Mutex, MutexGuard, PoisonError, Weak};
 use std::thread;
@@ -29,7 +32,7 @@ pub(crate) struct Requests {
     longest: u64,
     life: [u8; 16],
     is_bound: bool,
-    claims: Option<Arc<Claims>>,
+    pub(crate) claims: Option<Arc<Claims>>,
     warns: Option<Arc<Warns>>,
 }
 

@@ -148,6 +148,20 @@ impl Journal {
         Journal::open_by(Folder::hold(folder.as_ref(), Faults::default())?)
     }
 
+    /// One whose calls of the system can be let fail, and how.
+    #[cfg(test)]
+    pub(crate) fn failing(path: &Path) -> (Journal, Faults) {
+        let faults = Faults::default();
+        let folder = Folder::hold(path, faults.clone()).expect("nobody has it");
+        (Journal::open_by(folder).expect("it is well"), faults)
+    }
+
+    /// Lets the next write find that a snapshot is due.
+    #[cfg(test)]
+    pub(crate) fn let_a_snapshot_be_due(&self) {
+        lock(&self.keeper.switch).wants = true;
+    }
+
     fn open_by(folder: Folder) -> Result<Journal, JournalError> {
         for name in [SNAPSHOT, ID_FILE, FRAMES] {
             let name = format!("{name}{UNFINISHED}");
