@@ -32,7 +32,7 @@ pub(crate) struct Core {
     edition: u64, // how often the bundles were replaced
     /// Its member alone accepts tokens.
     pub is_guarded: bool,
-    pub waiting: Waiting,
+    waiting: Waiting,
 }
 
 impl Core {

@@ -35,6 +35,10 @@
 #[cfg(test)]
 extern crate self as svid;
 
+#[cfg(test)]
+#[path = "../tests/common/mod.rs"]
+mod common;
+
 #[macro_use]
 mod named;
 

@@ -184,6 +184,7 @@ impl Member {
     /// # Errors
     ///
     /// [`Error::Messages`] for claims beside a record that are none, and [`Error::NoMemory`]; with the validator, which reads none then.
+    #[allow(clippy::result_large_err)] // (it gives the validator back)
     pub fn from_validator(validator: Validator, start: &LogStart<'_>) -> Result<Member, (Validator, Error)> {
         let mut core = validator.core;
         match core.log(start) {

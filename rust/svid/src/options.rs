@@ -186,9 +186,9 @@ impl Options {
     }
 
     /// The audiences and who may call, each as lines, if not all may.
-    pub(crate) fn rules(&self) -> Result<Option<(Vec<u8>, Vec<u8>)>, Error> {
+    pub(crate) fn rules(&self) -> Result<Option<Rules>, Error> {
         match &self.callers {
-            Some(callers) => Ok(Some((lines(&self.audiences)?, lines(callers)?))),
+            Some(callers) => Ok(Some(Rules { own: lines(&self.audiences)?, callers: lines(callers)? })),
             None => Ok(None),
         }
     }
@@ -211,6 +211,12 @@ impl fmt::Debug for Options {
             .field("wait", &self.wait)
             .finish_non_exhaustive()
     }
+}
+
+/// Audiences and patterns of who may call, each as lines.
+pub(crate) struct Rules {
+    pub own: Vec<u8>,
+    pub callers: Vec<u8>,
 }
 
 /// Texts as lines.

@@ -34,6 +34,8 @@ pub(crate) struct Requests {
     is_bound: bool,
     pub(crate) claims: Option<Arc<Claims>>,
     warns: Option<Arc<Warns>>,
+    /// What the disk did not take last: the number of the request, and its use as a message.
+    unkept: Mutex<Option<(u64, [u8; ffi::BATCH_OF_LEN])>>,
 }
 
 /// Gives the time of a call.
@@ -60,8 +62,8 @@ impl Requests {
             life,
         })?;
         let rules = options.rules()?;
-        if let Some((own, callers)) = &rules {
-            core.rules(own, callers)?;
+        if let Some(rules) = &rules {
+            core.rules(&rules.own, &rules.callers)?;
         }
         core.is_guarded = mode != Mode::Once || has_disk || rules.is_some();
         Ok(Arc::new(Requests {
@@ -73,6 +75,7 @@ impl Requests {
             is_bound: mode == Mode::Bound,
             claims: store.as_ref().map(|store| Claims::new(Arc::clone(store), clock)),
             warns: options.warns.clone(),
+            unkept: Mutex::new(None),
         }))
     }
 
@@ -282,7 +285,7 @@ impl Requests {
 
     /// Tries again to keep the last use that the disk did not take.
     fn keep_again(self: &Arc<Requests>, journal: &Journal) {
-        let unkept = self.validator().core.waiting.unkept.take();
+        let unkept = self.unkept.lock().unwrap_or_else(PoisonError::into_inner).take();
         if let Some((number, message)) = unkept {
             journal.keep(&message, Told { to: Arc::downgrade(self), of: Of::Use { number, message } });
         }
@@ -406,7 +409,8 @@ impl Told {
         let told = match self.of {
             Of::Use { number, message } => {
                 core.writes(number, false);
-                core.waiting.unkept = if ended.is_ok() { None } else { Some((number, message)) };
+                let unkept = if ended.is_ok() { None } else { Some((number, message)) };
+                *requests.unkept.lock().unwrap_or_else(PoisonError::into_inner) = unkept;
                 core.wrote(up, number, ended.is_ok())
             }
             Of::Withdrawal { number, keeper } => core.withdrawal_told(number, keeper, ended.is_ok()),

@@ -14,8 +14,6 @@ use crate::record::{text_of, Accepted, Use};
 pub(crate) struct Waiting {
     requests: HashMap<u64, Request>,
     withdrawals: HashMap<u64, Ending>,
-    /// What the disk did not take last: the number of the request, and its use as a message.
-    pub unkept: Option<(u64, [u8; ffi::BATCH_OF_LEN])>,
 }
 
 /// A request that has no answer yet, and what comes to its thread.

@@ -1,8 +1,5 @@
 //! Requests, and their answers: the modes, the store of a group, deadlines and readiness.
 
-#[path = "../../tests/common/mod.rs"]
-mod common;
-
 use std::collections::hash_map::RandomState;
 use std::fmt::Display;
 use std::hash::{BuildHasher, Hasher};
@@ -11,7 +8,7 @@ use std::sync::{Arc, Mutex};
 use std::thread::{self, JoinHandle};
 use std::time::{Duration, Instant};
 
-use self::common::*;
+use crate::common::*;
 use crate::journal::Journal;
 use crate::key::Candidate;
 use crate::*;
@@ -115,7 +112,7 @@ fn bound(store: &Arc<impl Store + 'static>) -> Options {
 }
 
 fn memory() -> MemoryStore {
-    MemoryStore::new().clock(|| time())
+    MemoryStore::new().clock(time)
 }
 
 /// What a check comes to, in a word.
@@ -482,8 +479,10 @@ fn an_answer_that_is_lost() {
     assert_eq!(check(&guard, &fresh(1)), "Replayed");
 }
 
-/// A store that answers what a test makes of the answers of another one.
-struct Theirs(Box<dyn Fn(Vec<Found>) -> Result<Vec<Found>, StoreError> + Send + Sync>);
+type Answer = Result<Vec<Found>, StoreError>;
+
+/// A store that answers what a test makes of good answers.
+struct Theirs(Box<dyn Fn(Vec<Found>) -> Answer + Send + Sync>);
 
 impl Store for Theirs {
     fn put(&self, claims: &[Claim]) -> Result<Vec<Found>, StoreError> {
@@ -508,7 +507,7 @@ fn an_entry_of_another_owner() {
 /// It counts as no answer: the claim is put again.
 #[test]
 fn an_answer_that_is_none() {
-    let wrongs: [fn(Vec<Found>) -> Result<Vec<Found>, StoreError>; 3] =
+    let wrongs: [fn(Vec<Found>) -> Answer; 3] =
         [|_| Ok(Vec::new()), |it| Ok([&it[..], &it[..]].concat()), |_| std::panic::panic_any("a test")];
     for wrong in wrongs {
         let count = Arc::new(AtomicUsize::new(0));
