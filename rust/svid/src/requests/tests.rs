@@ -11,6 +11,8 @@ use std::time::{Duration, Instant};
 use crate::common::*;
 use crate::journal::Journal;
 use crate::key::Candidate;
+use crate::presented::Presented;
+use crate::requests::{Due, Step};
 use crate::*;
 
 const SUBJECT: &str = "spiffe://example.org/billing/api";
@@ -91,12 +93,16 @@ fn plain() -> By<fn()> {
     By(|| {})
 }
 
-fn opened(options: &Options) -> Plain {
-    Guard::open(options, &bundles(), plain()).expect("it opens")
+fn opened(options: &Options) -> Arc<Plain> {
+    verifying(options, plain())
 }
 
-fn kept(options: &Options, journal: Journal) -> Plain {
-    Guard::with_journal(options, &bundles(), plain(), journal).expect("it opens")
+fn verifying<F: Fn()>(options: &Options, verifier: By<F>) -> Arc<Guard<By<F>>> {
+    Arc::new(Guard::open(options, &bundles(), verifier).expect("it opens"))
+}
+
+fn kept(options: &Options, journal: Journal) -> Arc<Plain> {
+    Arc::new(Guard::with_journal(options, &bundles(), plain(), journal).expect("it opens"))
 }
 
 fn at(room: &Room) -> Journal {
@@ -125,18 +131,26 @@ fn word<T>(answer: Result<T, Error>) -> String {
     }
 }
 
-fn check<F: Fn()>(guard: &Guard<By<F>>, token: &str) -> String {
-    let answer = guard.check_at(time(), token);
-    if let Ok(it) = &answer {
-        assert_eq!((it.spiffe_id(), it.expires()), (SUBJECT, time() + 600));
-    }
-    word(answer)
+/// What a check comes to. It is made in a thread of its own, for which nobody waits without an end.
+fn check<F: Fn() + Send + Sync + 'static>(guard: &Arc<Guard<By<F>>>, token: &str) -> String {
+    answer(soon(guard, token))
 }
 
-/// A check in a thread of its own.
 fn soon<F: Fn() + Send + Sync + 'static>(guard: &Arc<Guard<By<F>>>, token: &str) -> JoinHandle<String> {
     let (guard, token) = (Arc::clone(guard), token.to_owned());
-    thread::spawn(move || check(&guard, &token))
+    thread::spawn(move || {
+        let answer = guard.check_at(time(), token);
+        if let Ok(it) = &answer {
+            assert_eq!((it.spiffe_id(), it.expires()), (SUBJECT, time() + 600));
+        }
+        word(answer)
+    })
+}
+
+/// Why a check is not accepted, in words.
+fn words_of(guard: &Arc<Plain>, token: &str) -> String {
+    let (guard, token) = (Arc::clone(guard), token.to_owned());
+    answer(thread::spawn(move || guard.check_at(time(), token))).unwrap_err().to_string()
 }
 
 fn answer<T>(of: JoinHandle<T>) -> T {
@@ -158,8 +172,9 @@ fn unready<V>(guard: &Guard<V>) -> String {
 }
 
 /// A withdrawal of the token of this number, which has the expiry of all.
-fn withdraw<V>(guard: &Guard<V>, number: usize) -> Result<Use, Error> {
-    guard.withdraw_at(time(), Said::of(fresh(number)).expect("it is a token").key(), time() + 600)
+fn withdraw(guard: &Arc<Plain>, number: usize) -> Result<Use, Error> {
+    let (guard, key) = (Arc::clone(guard), Said::of(fresh(number)).expect("it is a token").key());
+    answer(thread::spawn(move || guard.withdraw_at(time(), key, time() + 600)))
 }
 
 /// A store whose calls do `before` what is put, and `after` it, as a test wants.
@@ -235,7 +250,7 @@ fn away() -> Result<(), StoreError> {
 }
 
 /// What a check comes to, once it is not too late: a wait may be short for a busy machine.
-fn in_time(guard: &Plain, token: &str) -> String {
+fn in_time(guard: &Arc<Plain>, token: &str) -> String {
     let mut said = String::new();
     until(|| {
         said = check(guard, token);
@@ -320,7 +335,7 @@ fn a_guard_alone_checks_what_it_guards() {
 #[test]
 fn one_of_many_threads_is_accepted() {
     let store = Fickle::new();
-    let guard = Arc::new(opened(&strict(&store).wait(LONG)));
+    let guard = opened(&strict(&store).wait(LONG));
     let go = store.hold();
     let calls: Vec<_> = (0..THREADS).map(|_| soon(&guard, &fresh(1))).collect();
     until(|| !store.counts().is_empty() && guard.validator().core.waits() == THREADS);
@@ -336,7 +351,7 @@ fn one_of_many_threads_is_accepted() {
 #[test]
 fn validators_of_one_store() {
     let store = Arc::new(memory());
-    let guards = [(); 2].map(|()| Arc::new(opened(&strict(&store).wait(LONG))));
+    let guards = [(); 2].map(|()| opened(&strict(&store).wait(LONG)));
     let calls: Vec<_> = (0..80).map(|it| soon(&guards[it % 2], &fresh(it / 4))).collect();
     let said: Vec<_> = calls.into_iter().map(answer).collect();
     for four in said.chunks(4) {
@@ -364,7 +379,7 @@ fn a_store_that_fails_now_and_then() {
     };
     let fault = Arc::new(fault);
     let (before, after) = (Arc::clone(&fault), fault);
-    let guards = [(); 2].map(|()| Arc::new(opened(&strict(&store).wait(Duration::from_millis(50)))));
+    let guards = [(); 2].map(|()| opened(&strict(&store).wait(Duration::from_millis(50))));
     store.before(move || before());
     store.after(move || after());
     let works: Vec<_> = (0..8)
@@ -470,7 +485,8 @@ fn a_store_that_never_answers() {
 #[test]
 fn an_answer_that_is_lost() {
     let (store, fails) = (Fickle::new(), AtomicBool::new(true));
-    let guard = opened(&strict(&store).wait(LONG));
+    // (who is warned must not end the claims)
+    let guard = opened(&strict(&store).wait(LONG).warns(|_| std::panic::panic_any("a test")));
     store.after(move || if fails.swap(false, Ordering::Relaxed) { away() } else { Ok(()) });
     assert_eq!(check(&guard, &fresh(1)), "accepted");
     assert_eq!(store.counts(), [1, 1]);
@@ -530,7 +546,7 @@ fn an_answer_that_is_none() {
 #[test]
 fn many_claims_share_a_call() {
     let store = Fickle::new();
-    let guard = Arc::new(opened(&strict(&store).wait(LONG)));
+    let guard = opened(&strict(&store).wait(LONG));
     let claims = guard.requests.claims.as_ref().expect("it has a store");
     claims.let_be_under_way(64); // (as many as may be)
     let count = 300;
@@ -546,7 +562,7 @@ fn many_claims_share_a_call() {
 #[test]
 fn a_call_that_hangs_does_not_hold_up_the_others() {
     let store = Fickle::new();
-    let guard = Arc::new(opened(&strict(&store).wait(LONG)));
+    let guard = opened(&strict(&store).wait(LONG));
     let go = store.hold();
     let first = soon(&guard, &fresh(1));
     until(|| !store.counts().is_empty());
@@ -580,8 +596,8 @@ fn a_store_that_has_lost_entries() {
     assert_eq!(check(&guard, &fresh(1)), "accepted");
     assert_eq!(unready(&guard), "");
     store.lose();
-    let why = guard.check_at(time(), fresh(2)).unwrap_err();
-    assert!(why.to_string().contains("before the store lost entries"), "{why}");
+    let why = words_of(&guard, &fresh(2));
+    assert!(why.contains("before the store lost entries"), "{why}");
     assert!(unready(&guard).starts_with("the store has lost entries"));
     assert_eq!(guard.unready_at(time() + 60), None);
 }
@@ -589,8 +605,8 @@ fn a_store_that_has_lost_entries() {
 #[test]
 fn a_token_that_lives_longer_than_the_store_keeps_it() {
     let store = Arc::new(MemoryStore::new().clock(|| time() - 3600));
-    let why = opened(&strict(&store).longest(3600)).check_at(time(), fresh(1)).unwrap_err();
-    assert!(why.to_string().contains("lasts seconds past the store's time"), "{why}");
+    let why = words_of(&opened(&strict(&store).longest(3600)), &fresh(1));
+    assert!(why.contains("lasts seconds past the store's time"), "{why}");
 }
 
 #[test]
@@ -689,7 +705,7 @@ fn a_verifier_that_takes_too_long() {
     let is_slow = Arc::clone(&slow);
     let begun = Instant::now();
     let verifier = By(move || until(|| !is_slow.load(Ordering::Acquire) || begun.elapsed() > 3 * SHORT));
-    let guard = Guard::open(&ledger().wait(SHORT), &bundles(), verifier).expect("it opens");
+    let guard = verifying(&ledger().wait(SHORT), verifier);
     assert_eq!(check(&guard, &fresh(1)), "Unavailable");
     assert_eq!(uses(&guard), 0);
     assert!(nothing_waits(&guard));
@@ -700,12 +716,58 @@ fn a_verifier_that_takes_too_long() {
 #[test]
 fn those_that_wait_are_late_one_by_one() {
     let store = Fickle::new();
-    let guard = Arc::new(opened(&strict(&store).wait(SHORT)));
+    let guard = opened(&strict(&store).wait(SHORT));
     let go = store.hold();
     let calls: Vec<_> = (0..8).map(|it| soon(&guard, &fresh(it % 4))).collect();
     assert!(calls.into_iter().map(answer).all(|it| it == "Unavailable"));
     assert!(nothing_waits(&guard));
     go.store(true, Ordering::Release);
+}
+
+/// No thread waits for the lock while another one verifies.
+#[test]
+fn a_slow_verifier_holds_up_nobody() {
+    let (is_first, go) = (AtomicBool::new(true), Arc::new(AtomicBool::new(false)));
+    let (begun, goes) = (Arc::new(AtomicBool::new(false)), Arc::clone(&go));
+    let begins = Arc::clone(&begun);
+    let verifier = By(move || {
+        if is_first.swap(false, Ordering::Relaxed) {
+            begins.store(true, Ordering::Release);
+            until(|| goes.load(Ordering::Acquire));
+        }
+    });
+    let guard = verifying(&ledger().wait(LONG), verifier);
+    let first = soon(&guard, &fresh(1));
+    until(|| begun.load(Ordering::Acquire));
+    assert_eq!(check(&guard, &fresh(2)), "accepted");
+    go.store(true, Ordering::Release);
+    assert_eq!(answer(first), "accepted");
+}
+
+/// It is asked about right before it goes out.
+#[test]
+fn a_claim_of_who_does_not_know_yet_that_it_is_late() {
+    let (guard, token) = (opened(&strict(&Arc::new(memory())).wait(SHORT)), fresh(1));
+    let requests = &guard.requests;
+    let mut read = Presented::read(token.as_bytes()).expect("it is a token");
+    let mut validator = guard.validator();
+    let (core, up) = (&mut validator.core, requests.clock.up());
+    let number = core.come(up, [0; 32]).expect("it judges");
+    let len = core.keys_of(&mut read).expect("there is memory");
+    read.look(len, &plain()).expect("there is memory");
+    core.judge_request(time(), up, number, &mut read, None).expect("it is judged");
+    let used = match core.step(up, number) {
+        Ok(Some(Step::Deed(deed))) if deed.what == ffi::DEED_CLAIM => deed.used,
+        _ => panic!("no claim is due"),
+    };
+    let at = core.due().expect("it is open");
+    drop(validator);
+    let due = Due { number, used };
+    assert!(requests.send(&due).is_some());
+    until(|| requests.clock.up() >= at);
+    assert!(requests.send(&due).is_none());
+    assert!(matches!(guard.validator().core.step(at, number), Ok(Some(Step::Deed(deed))) if deed.status() == ffi::LATE));
+    assert!(nothing_waits(&guard));
 }
 
 /// Who waits behind a request that ends by a panic has its turn.
@@ -717,7 +779,7 @@ fn a_panic_leaves_nobody_behind() {
             std::panic::panic_any("a test");
         }
     });
-    let guard = Arc::new(Guard::open(&strict(&store).wait(LONG), &bundles(), verifier).expect("it opens"));
+    let guard = verifying(&strict(&store).wait(LONG), verifier);
     assert!(soon(&guard, &fresh(1)).join().is_err());
     assert!(nothing_waits(&guard));
     assert_eq!(guard.validator().core.due(), Ok(u64::MAX));
@@ -747,8 +809,7 @@ fn a_disk_that_fails() {
     let guard = kept(&options, journal);
     assert_eq!(unready(&guard), "");
     faults.let_fail(&["write", "write"]);
-    let why = guard.check_at(time(), fresh(1)).unwrap_err();
-    assert_eq!(why.to_string(), "the state folder did not take the acceptance: mend the disk");
+    assert_eq!(words_of(&guard, &fresh(1)), "the state folder did not take the acceptance: mend the disk");
     assert!(heard.lock().unwrap()[0].starts_with("the state folder did not keep an entry: "));
     assert_eq!(unready(&guard), KEEPS_NOTHING);
     until(|| unready(&guard).is_empty()); // (each look tries to keep that use)
@@ -784,7 +845,7 @@ fn a_store_that_is_not_there_yet() {
     let guard = opened(&options);
     let due = "the group's store was not reached yet";
     assert_eq!(unready(&guard), due);
-    assert_eq!(guard.check_at(time(), fresh(1)).unwrap_err().to_string(), due);
+    assert_eq!(words_of(&guard, &fresh(1)), due);
     assert!(store.counts().is_empty());
     assert_eq!(heard.lock().unwrap().first().map(String::as_str), Some("the group's store does not answer: the store is away"));
     store.is_well();
@@ -817,13 +878,27 @@ fn a_clock_that_jumps() {
 #[test]
 fn renewed_bundles_count_for_who_waits() {
     let store = Fickle::new();
-    let guard = Arc::new(opened(&strict(&store).wait(LONG)));
+    let guard = opened(&strict(&store).wait(LONG));
     let go = store.hold();
     let calls: Vec<_> = (0..2).map(|_| soon(&guard, &fresh(1))).collect();
     until(|| !store.counts().is_empty() && guard.validator().core.waits() == 2);
     guard.renew(br#"{"example.org":{"keys":[]}}"#).expect("they are good");
     go.store(true, Ordering::Release);
     assert!(calls.into_iter().map(answer).all(|it| it == "NoKey"));
+}
+
+/// A key that is spelt otherwise by then lets its tokens in.
+#[test]
+fn keys_are_looked_for_again_in_renewed_bundles() {
+    let store = Fickle::new();
+    let guard = opened(&strict(&store).wait(LONG));
+    let go = store.hold();
+    let call = soon(&guard, &fresh(1));
+    until(|| !store.counts().is_empty());
+    let text = String::from_utf8(bundles()).expect("a text");
+    guard.renew(text.replace("\"ec-1\"", "\"ec-1\", \"alg\": \"ES256\"").as_bytes()).expect("they are good");
+    go.store(true, Ordering::Release);
+    assert_eq!(answer(call), "accepted");
 }
 
 // -- Answers to requests, and snapshots
@@ -856,6 +931,7 @@ fn a_guard_takes_snapshots_by_itself() {
     assert!(room.0.join("snapshot").exists(), "one is taken at the start");
     std::fs::remove_file(room.0.join("snapshot")).expect("it is there");
     let journal = guard.journal.as_ref().expect("it has one");
+    assert_eq!(guard.validator().validator_id(), journal.validator_id());
     until(|| {
         journal.let_a_snapshot_be_due();
         check(&guard, &fresh(another())) == "accepted" && room.0.join("snapshot").exists()
