@@ -267,8 +267,6 @@ impl Claims {
                 requests.found(due.number, found);
             }
         }
-        // (a call that waited for this one to end may go out)
-        self.comes.notify_one();
     }
 
     /// A call has ended without an answer: its claims are put again.
@@ -277,13 +275,12 @@ impl Claims {
         // SAFETY: the pacing is lent to this call alone.
         let pause = unsafe { ffi::svid_pacing_unanswered(&mut gate.pacing) };
         let when = self.clock.up().saturating_add(pause);
-        gate.asks_at = Some(when);
+        gate.asks_at = Some(gate.asks_at.map_or(when, |it| it.min(when)));
         // (without memory for them, their requests are late)
         if gate.later.try_reserve(dues.len()).is_ok() {
             gate.later.extend(dues.iter().map(|due| (when, *due)));
         }
         drop(gate);
-        self.comes.notify_one();
         if pause == Pacing::FIRST.pause {
             // (it had answered before)
             if let Some(requests) = requests.upgrade() {

@@ -198,6 +198,10 @@ impl Options {
     }
 }
 
+// (nothing in it changes but in the store, which is told so: it is called again after a panic)
+impl std::panic::UnwindSafe for Options {}
+impl std::panic::RefUnwindSafe for Options {}
+
 impl fmt::Debug for Options {
     fn fmt(&self, f: &mut fmt::Formatter<'_>) -> fmt::Result {
         f.debug_struct("Options")

@@ -311,6 +311,10 @@ impl Requests {
     }
 }
 
+// What a thread leaves that panics is whole: each call of the library is, and so is what stands beside it.
+impl std::panic::UnwindSafe for Requests {}
+impl std::panic::RefUnwindSafe for Requests {}
+
 impl fmt::Debug for Requests {
     fn fmt(&self, f: &mut fmt::Formatter<'_>) -> fmt::Result {
         f.debug_struct("Requests").field("validator", &self.validator).field("wait", &self.wait).finish_non_exhaustive()

@@ -330,6 +330,10 @@ impl Journal {
     }
 }
 
+// What a thread leaves that panics is whole (see `lock`), and the handle of the writer is only taken at the end.
+impl std::panic::UnwindSafe for Journal {}
+impl std::panic::RefUnwindSafe for Journal {}
+
 impl Drop for Journal {
     fn drop(&mut self) {
         lock(&self.keeper.gate).is_closing = true;
