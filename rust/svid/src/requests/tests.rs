@@ -495,6 +495,28 @@ fn an_answer_that_is_lost() {
     assert_eq!(check(&guard, &fresh(1)), "Replayed");
 }
 
+/// Nothing comes of it.
+#[test]
+fn an_answer_that_comes_again() {
+    let store = Fickle::new();
+    let guard = opened(&strict(&store).wait(LONG));
+    let go = store.hold();
+    let call = soon(&guard, &fresh(1));
+    until(|| !store.counts().is_empty());
+    let claim = store.puts.lock().unwrap()[0][0];
+    let found = Found { owner: claim.owner, time: time(), deaf: 0 };
+    let again = || (0..4).for_each(|number| guard.requests.found(number, &found));
+    again();
+    again();
+    assert_eq!(answer(call), "accepted");
+    go.store(true, Ordering::Release);
+    again();
+    assert_eq!(check(&guard, &fresh(1)), "Replayed");
+    again();
+    assert_eq!(uses(&guard), 1);
+    assert!(nothing_waits(&guard));
+}
+
 type Answer = Result<Vec<Found>, StoreError>;
 
 /// A store that answers what a test makes of good answers.
