@@ -470,6 +470,7 @@ fn a_store_that_never_answers() {
     let store = Fickle::new();
     let (options, heard) = hearing(strict(&store).wait(SHORT));
     let guard = opened(&options);
+    until(|| unready(&guard).is_empty());
     store.before(away);
     for _ in 0..2 {
         assert_eq!(check(&guard, &fresh(1)), "Unavailable");
@@ -769,7 +770,8 @@ fn a_slow_verifier_holds_up_nobody() {
 /// It is asked about right before it goes out.
 #[test]
 fn a_claim_of_who_does_not_know_yet_that_it_is_late() {
-    let (guard, token) = (opened(&strict(&Arc::new(memory())).wait(SHORT)), fresh(1));
+    let (guard, token) = (opened(&strict(&Arc::new(memory())).wait(Duration::from_secs(2))), fresh(1));
+    until(|| unready(&guard).is_empty());
     let requests = &guard.requests;
     let mut read = Presented::read(token.as_bytes()).expect("it is a token");
     let mut validator = guard.validator();
@@ -851,8 +853,10 @@ fn a_disk_that_hangs() {
     });
     let guard = kept(&ledger().wait(SHORT), journal);
     is_held.store(true, Ordering::Release);
-    assert_eq!(check(&guard, &fresh(1)), "Unavailable");
-    assert_eq!(unready(&guard), KEEPS_NOTHING);
+    until(|| {
+        assert_eq!(check(&guard, &fresh(another())), "Unavailable");
+        unready(&guard) == KEEPS_NOTHING
+    });
     assert!(nothing_waits(&guard));
     is_held.store(false, Ordering::Release);
     until(|| unready(&guard).is_empty());
@@ -879,7 +883,7 @@ fn a_store_that_is_not_there_yet() {
 fn a_store_that_goes_away() {
     let store = Fickle::new();
     let guard = opened(&strict(&store).wait(SHORT));
-    assert_eq!(unready(&guard), "");
+    until(|| unready(&guard).is_empty());
     store.before(away);
     assert_eq!(check(&guard, &fresh(1)), "Unavailable");
     until(|| unready(&guard).starts_with("the group's store does not answer"));
@@ -928,12 +932,12 @@ fn keys_are_looked_for_again_in_renewed_bundles() {
 #[test]
 fn answers_to_requests() {
     let store = Fickle::new();
-    let guard = opened(&strict(&store).wait(SHORT).callers(["spiffe://example.org"]));
+    let guard = opened(&strict(&store).wait(LONG).callers(["spiffe://example.org"]));
     let header = |token: String| [format!("Bearer {token}")];
     assert!(guard.admit(&header(fresh(1))).is_ok());
     assert_eq!(guard.admit(&header(fresh(1))).unwrap_err(), Denied::Refused(Refusal::Replayed));
     store.before(away);
-    let denied = guard.admit(&header(fresh(2))).unwrap_err();
+    let denied = opened(&strict(&store).wait(SHORT)).admit(&header(fresh(2))).unwrap_err();
     assert_eq!((denied.status(), denied.challenge()), (503, None));
     let denied = guard.admit_from(|| Caller([0; 32]), &header(fresh(2))).unwrap_err();
     assert_eq!(denied, Denied::Failed(Error::Options(OptionsFault::Presenter)));
