@@ -35,12 +35,21 @@ fn patience() -> Duration {
 }
 
 /// Waits for something that must come.
-fn until(mut holds: impl FnMut() -> bool) {
+fn until(holds: impl FnMut() -> bool) {
+    within(patience(), holds);
+}
+
+fn within(patience: Duration, mut holds: impl FnMut() -> bool) {
     let begun = Instant::now();
     while !holds() {
-        assert!(begun.elapsed() < patience(), "it does not come");
+        assert!(begun.elapsed() < patience, "it does not come");
         thread::sleep(Duration::from_millis(1));
     }
+}
+
+/// Holds up a call until a test lets it go on: for longer than the test has patience.
+fn held(go: &AtomicBool) {
+    within(3 * patience(), || go.load(Ordering::Acquire));
 }
 
 fn base64(bytes: &[u8]) -> String {
@@ -220,7 +229,7 @@ impl Fickle {
         let go = Arc::new(AtomicBool::new(false));
         let waits = Arc::clone(&go);
         self.before(move || {
-            until(|| waits.load(Ordering::Acquire));
+            held(&waits);
             Ok(())
         });
         go
@@ -756,7 +765,7 @@ fn a_slow_verifier_holds_up_nobody() {
     let verifier = By(move || {
         if is_first.swap(false, Ordering::Relaxed) {
             begins.store(true, Ordering::Release);
-            until(|| goes.load(Ordering::Acquire));
+            held(&goes);
         }
     });
     let guard = verifying(&ledger().wait(LONG), verifier);
@@ -845,20 +854,20 @@ fn a_disk_that_fails() {
 
 #[test]
 fn a_disk_that_hangs() {
-    let (room, is_held) = (Room::new("hangs"), Arc::new(AtomicBool::new(false)));
-    let (journal, held) = (at(&room), Arc::clone(&is_held));
+    let (room, goes) = (Room::new("hangs"), Arc::new(AtomicBool::new(true)));
+    let (journal, go) = (at(&room), Arc::clone(&goes));
     journal.bear(move || {
-        until(|| !held.load(Ordering::Acquire));
+        held(&go);
         None
     });
     let guard = kept(&ledger().wait(SHORT), journal);
-    is_held.store(true, Ordering::Release);
+    goes.store(false, Ordering::Release);
     until(|| {
         assert_eq!(check(&guard, &fresh(another())), "Unavailable");
         unready(&guard) == KEEPS_NOTHING
     });
     assert!(nothing_waits(&guard));
-    is_held.store(false, Ordering::Release);
+    goes.store(true, Ordering::Release);
     until(|| unready(&guard).is_empty());
     until(|| check(&guard, &fresh(another())) == "accepted");
 }
