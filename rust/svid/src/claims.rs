@@ -8,7 +8,7 @@ use std::time::{Duration, Instant};
 use crate::error::Error;
 use crate::ffi::{self, Pacing};
 use crate::record::TokenKey;
-use crate::requests::{Requests, Told};
+use crate::requests::{Report, Requests};
 use crate::store::{Claim, Found, Store, StoreError};
 
 /// How many claims share a call.
@@ -119,11 +119,11 @@ impl Claims {
     }
 
     /// Withdraws a token in the background, and tells how that went.
-    pub fn withdraw(&self, key: TokenKey, expires: u64, told: Told) {
-        let (store, other) = (Arc::clone(&self.store), told.clone());
+    pub fn withdraw(&self, key: TokenKey, expires: u64, report: Report) {
+        let (store, other) = (Arc::clone(&self.store), report.clone());
         let work = move || {
             let done = catch_unwind(AssertUnwindSafe(|| store.withdraw(key, expires))).unwrap_or_else(|_| Err(panicked()));
-            told.tell_of_store(done);
+            report.tell_of_store(done);
         };
         if let Err(why) = thread::Builder::new().name("svid-withdraw".to_owned()).spawn(work) {
             other.tell_of_store(Err(why.into()));

@@ -16,8 +16,8 @@ use crate::error::Error;
 use crate::ffi;
 use crate::handle::{unsupported, Core, Step};
 use crate::journal::{Journal, JournalError};
+use crate::open_token::OpenToken;
 use crate::options::{Mode, Options, Warns};
-use crate::presented::Presented;
 use crate::record::{Accepted, TokenKey, Use, ValidatorId};
 use crate::store::{Claim, Found, StoreError};
 use crate::unavailable::Unavailable;
@@ -164,7 +164,7 @@ impl Requests {
             (used, validator.core.withdrawal_comes(self.clock.up())?)
         };
         let left = Withdrawal { requests: self, number };
-        let told = |keeper| Told { to: Arc::downgrade(self), of: Of::Withdrawal { number, keeper } };
+        let told = |keeper| Report { to: Arc::downgrade(self), about: About::Withdrawal { number, keeper } };
         told(ffi::AT_LOG).tell(&Ok(()));
         match &self.claims {
             Some(claims) => claims.withdraw(key, expires, told(ffi::AT_STORE)),
@@ -241,8 +241,8 @@ impl Requests {
     // -- The way of a request
 
     /// Reads a token. What is none advances the record too.
-    fn read<'t>(&self, text: &'t [u8], now: Now<'_>) -> Result<Presented<'t>, Error> {
-        Presented::read(text).or_else(|why| {
+    fn read<'t>(&self, text: &'t [u8], now: Now<'_>) -> Result<OpenToken<'t>, Error> {
+        OpenToken::read(text).or_else(|why| {
             self.validator().core.tick(now()?)?;
             Err(why)
         })
@@ -279,7 +279,7 @@ impl Requests {
     fn keep(self: &Arc<Requests>, journal: &Journal, number: u64, used: &ffi::Use) -> Result<(), Error> {
         let message = Use::of(used, false).message()?;
         self.validator().core.writes(number, true);
-        journal.keep(&message, Told { to: Arc::downgrade(self), of: Of::Use { number, message } });
+        journal.keep(&message, Report { to: Arc::downgrade(self), about: About::Use { number, message } });
         Ok(())
     }
 
@@ -287,7 +287,7 @@ impl Requests {
     fn keep_again(self: &Arc<Requests>, journal: &Journal) {
         let unkept = self.unkept.lock().unwrap_or_else(PoisonError::into_inner).take();
         if let Some((number, message)) = unkept {
-            journal.keep(&message, Told { to: Arc::downgrade(self), of: Of::Use { number, message } });
+            journal.keep(&message, Report { to: Arc::downgrade(self), about: About::Use { number, message } });
         }
     }
 
@@ -325,7 +325,7 @@ impl fmt::Debug for Requests {
 struct Request<'a, 't> {
     requests: &'a Requests,
     number: u64,
-    token: Presented<'t>,
+    token: OpenToken<'t>,
     now: Now<'a>,
     subject: Option<String>,
     is_over: bool,
@@ -341,8 +341,8 @@ impl Request<'_, '_> {
             let core = &mut validator.core;
             if core.has_asked(&self.token) {
                 let up = self.requests.clock.up();
-                let judged = core.judge_request(now, up, self.number, &mut self.token, found)?;
-                self.subject = judged.subject.or_else(|| self.subject.take());
+                let subject = core.judge_request(now, up, self.number, &mut self.token, found)?;
+                self.subject = subject.or_else(|| self.subject.take());
                 let step = core.step(up, self.number);
                 self.is_over = matches!(step, Ok(Some(Step::Deed(deed))) if deed.what == ffi::DEED_ANSWER);
                 return step;
@@ -385,20 +385,20 @@ impl Drop for Withdrawal<'_> {
     }
 }
 
-/// Whom to tell that a keeper has something, or may not have it.
+/// Tells a request or a withdrawal that a keeper has its entry, or may not have it.
 #[derive(Clone)]
-pub(crate) struct Told {
+pub(crate) struct Report {
     to: Weak<Requests>,
-    of: Of,
+    about: About,
 }
 
 #[derive(Clone, Copy)]
-enum Of {
+enum About {
     Use { number: u64, message: [u8; ffi::BATCH_OF_LEN] },
     Withdrawal { number: u64, keeper: u64 },
 }
 
-impl Told {
+impl Report {
     /// How a write to the state folder went.
     pub fn tell(self, ended: &Result<(), JournalError>) {
         let requests = match self.to.upgrade() {
@@ -410,14 +410,14 @@ impl Told {
         }
         let (up, mut validator) = (requests.clock.up(), requests.validator());
         let core = &mut validator.core;
-        let told = match self.of {
-            Of::Use { number, message } => {
+        let told = match self.about {
+            About::Use { number, message } => {
                 core.writes(number, false);
                 let unkept = if ended.is_ok() { None } else { Some((number, message)) };
                 *requests.unkept.lock().unwrap_or_else(PoisonError::into_inner) = unkept;
                 core.wrote(up, number, ended.is_ok())
             }
-            Of::Withdrawal { number, keeper } => core.withdrawal_told(number, keeper, ended.is_ok()),
+            About::Withdrawal { number, keeper } => core.withdrawal_told(number, keeper, ended.is_ok()),
         };
         drop(validator);
         if let Err(why) = told {
@@ -427,8 +427,8 @@ impl Told {
 
     /// How a withdrawal at the store went.
     pub fn tell_of_store(self, ended: Result<(), StoreError>) {
-        let (requests, number, keeper) = match (self.to.upgrade(), self.of) {
-            (Some(requests), Of::Withdrawal { number, keeper }) => (requests, number, keeper),
+        let (requests, number, keeper) = match (self.to.upgrade(), self.about) {
+            (Some(requests), About::Withdrawal { number, keeper }) => (requests, number, keeper),
             _ => return,
         };
         if let Err(why) = &ended {

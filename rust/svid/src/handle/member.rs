@@ -6,7 +6,7 @@ use std::thread::{self, Thread};
 use super::{done, Core};
 use crate::error::Error;
 use crate::ffi::{self, Deed, Known, MemberTerms, Told, Withdrawal};
-use crate::presented::Presented;
+use crate::open_token::OpenToken;
 use crate::record::{text_of, Accepted, Use};
 
 /// Who waits for the answers of a member.
@@ -43,12 +43,6 @@ pub(crate) enum Step {
     Found(ffi::Found),
 }
 
-/// What a call that judges a request says.
-pub(crate) struct Judged {
-    /// The SPIFFE ID of its subject, if it may be accepted.
-    pub subject: Option<String>,
-}
-
 impl Core {
     pub fn open_member(&mut self, terms: &MemberTerms) -> Result<(), Error> {
         // SAFETY: the handle is open, and nothing overlaps.
@@ -72,10 +66,10 @@ impl Core {
     }
 
     /// Asks for the keys of a token that was read, among those of the bundles now. Gives how many bytes the rows have: 0 if there is none.
-    pub fn keys_of(&mut self, token: &mut Presented<'_>) -> Result<usize, Error> {
+    pub fn keys_of(&mut self, token: &mut OpenToken<'_>) -> Result<usize, Error> {
         token.edition = Some(self.edition);
         let (raw, mut told) = (&mut self.raw, Told::default());
-        let Presented { raw: read, rows, .. } = token;
+        let OpenToken { raw: read, rows, .. } = token;
         let asked = ffi::written(rows, &mut told, |out, out_len, told| {
             // SAFETY: both handles are open, and `out` is the room with its length.
             unsafe { ffi::svid_validator_ask_token(raw, read, ffi::MOST_CANDIDATES, out, out_len, told) }
@@ -88,12 +82,12 @@ impl Core {
     }
 
     /// Whether these bundles were asked for the keys of a token.
-    pub fn has_asked(&self, token: &Presented<'_>) -> bool {
+    pub fn has_asked(&self, token: &OpenToken<'_>) -> bool {
         token.edition == Some(self.edition)
     }
 
     /// Says what a check would of a token that was read, and adds nothing.
-    pub fn judge_read(&mut self, now: u64, token: &mut Presented<'_>) -> Result<Accepted, Error> {
+    pub fn judge_read(&mut self, now: u64, token: &mut OpenToken<'_>) -> Result<Accepted, Error> {
         let (mut told, mut used) = (Told::default(), ffi::Use::default());
         self.spare.try_reserve_exact(ffi::ID_ROOM).map_err(|_| Error::NoMemory)?;
         let (read, shown) = token.lent();
@@ -135,15 +129,16 @@ impl Core {
         Ok(deed.number)
     }
 
-    /// Lets the library judge the token of a request, with what the store has found, if it has.
+    /// Lets the library judge the token of a request, with what the store has found, if it has. Gives the SPIFFE ID of its subject, if it may be
+    /// accepted.
     pub fn judge_request(
         &mut self,
         now: u64,
         up: u64,
         number: u64,
-        token: &mut Presented<'_>,
+        token: &mut OpenToken<'_>,
         found: Option<&ffi::Found>,
-    ) -> Result<Judged, Error> {
+    ) -> Result<Option<String>, Error> {
         let (mut told, mut used, mut deed) = (Told::default(), ffi::Use::default(), Deed::default());
         // (what was accepted can be told, so this comes before the call)
         self.spare.try_reserve_exact(ffi::ID_ROOM).map_err(|_| Error::NoMemory)?;
@@ -209,7 +204,7 @@ impl Core {
             _ => None,
         };
         self.hand(deed, Some(number));
-        Ok(Judged { subject })
+        Ok(subject)
     }
 
     /// What is to be done for a request, if that is known. An answer takes it from those that wait.

@@ -25,7 +25,7 @@ use crate::error::Error;
 use crate::ffi;
 use crate::member::LogPosition;
 use crate::record::ValidatorId;
-use crate::requests::Told;
+use crate::requests::Report;
 use crate::validator::Parts;
 
 /// What a journal grows by: to force a new length to the disk takes longer than the bytes.
@@ -131,8 +131,8 @@ struct Gate {
 #[derive(Default)]
 struct Commit {
     messages: Mutex<Vec<u8>>,
-    /// Who is told of that.
-    told: Mutex<Vec<Told>>,
+    /// Who hears of that.
+    reports: Mutex<Vec<Report>>,
     result: Mutex<Option<Result<(), JournalError>>>,
     ended: Condvar,
 }
@@ -287,9 +287,9 @@ impl Journal {
     }
 
     /// Lets the messages go to the disk with the next write, and tells how that went. The writer does so, or this thread if there is no room.
-    pub(crate) fn keep(&self, messages: &[u8], told: Told) {
-        if let Err(why) = self.keeper.join(messages, Some(told.clone())) {
-            told.tell(&Err(why));
+    pub(crate) fn keep(&self, messages: &[u8], report: Report) {
+        if let Err(why) = self.keeper.join(messages, Some(report.clone())) {
+            report.tell(&Err(why));
         }
     }
 
@@ -370,7 +370,7 @@ impl Keeper {
     }
 
     /// Adds messages to what the next write takes.
-    fn join(&self, messages: &[u8], told: Option<Told>) -> Result<Arc<Commit>, JournalError> {
+    fn join(&self, messages: &[u8], report: Option<Report>) -> Result<Arc<Commit>, JournalError> {
         if messages.len() > MOST {
             return Err(JournalError::TooLong);
         }
@@ -382,10 +382,10 @@ impl Keeper {
             return Err(JournalError::Full);
         }
         all.try_reserve(messages.len()).map_err(|_| JournalError::NoMemory)?;
-        if let Some(told) = told {
-            let mut of_all = lock(&commit.told);
-            of_all.try_reserve(1).map_err(|_| JournalError::NoMemory)?;
-            of_all.push(told);
+        if let Some(report) = report {
+            let mut reports = lock(&commit.reports);
+            reports.try_reserve(1).map_err(|_| JournalError::NoMemory)?;
+            reports.push(report);
         }
         all.extend_from_slice(messages);
         drop(all);
@@ -418,8 +418,8 @@ impl Keeper {
                     *lock(&commit.result) = Some(result.clone());
                     commit.ended.notify_all();
                     self.is_due.store(self.wants_snapshot(), Ordering::Relaxed);
-                    let told = std::mem::take(&mut *lock(&commit.told));
-                    told.into_iter().for_each(|it| it.tell(&result));
+                    let reports = std::mem::take(&mut *lock(&commit.reports));
+                    reports.into_iter().for_each(|it| it.tell(&result));
                 }
                 None if is_closing => break,
                 None => {

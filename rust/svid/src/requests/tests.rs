@@ -11,7 +11,7 @@ use std::time::{Duration, Instant};
 use crate::common::*;
 use crate::journal::Journal;
 use crate::key::Candidate;
-use crate::presented::Presented;
+use crate::open_token::OpenToken;
 use crate::requests::{Due, Step};
 use crate::*;
 
@@ -495,8 +495,7 @@ fn a_store_that_never_answers() {
 #[test]
 fn an_answer_that_is_lost() {
     let (store, fails) = (Fickle::new(), AtomicBool::new(true));
-    // (who is warned must not end the claims)
-    let guard = opened(&strict(&store).wait(LONG).warns(|_| std::panic::panic_any("a test")));
+    let guard = opened(&strict(&store).wait(LONG));
     store.after(move || if fails.swap(false, Ordering::Relaxed) { away() } else { Ok(()) });
     assert_eq!(check(&guard, &fresh(1)), "accepted");
     assert_eq!(store.counts(), [1, 1]);
@@ -782,7 +781,7 @@ fn a_claim_of_who_does_not_know_yet_that_it_is_late() {
     let (guard, token) = (opened(&strict(&Arc::new(memory())).wait(Duration::from_secs(2))), fresh(1));
     until(|| unready(&guard).is_empty());
     let requests = &guard.requests;
-    let mut read = Presented::read(token.as_bytes()).expect("it is a token");
+    let mut read = OpenToken::read(token.as_bytes()).expect("it is a token");
     let mut validator = guard.validator();
     let (core, up) = (&mut validator.core, requests.clock.up());
     let number = core.come(up, [0; 32]).expect("it judges");
@@ -850,6 +849,20 @@ fn a_disk_that_fails() {
     assert_eq!(check(&guard, &fresh(1)), "Replayed");
     drop(guard);
     assert_eq!(uses(&kept(&ledger(), at(&room))), 2);
+}
+
+/// It ends neither what writes to the disk nor what puts claims.
+#[test]
+fn who_is_warned_may_panic() {
+    let (room, store) = (Room::new("warned"), Fickle::new());
+    let (journal, faults) = Journal::failing(&room.0);
+    let guard = kept(&strict(&store).wait(LONG).warns(|_| std::panic::panic_any("a test")), journal);
+    faults.let_fail(&["write"]);
+    assert_eq!(word(withdraw(&guard, 1)), "Unavailable");
+    withdraw(&guard, 1).expect("the disk is well");
+    let fails = AtomicUsize::new(3);
+    store.after(move || fails.fetch_update(Ordering::Relaxed, Ordering::Relaxed, |it| it.checked_sub(1)).map_or(Ok(()), |_| away()));
+    assert_eq!(check(&guard, &fresh(2)), "accepted");
 }
 
 #[test]

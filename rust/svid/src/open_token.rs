@@ -12,7 +12,7 @@ const ROOM: usize = 4096;
 
 /// A token that the library has read, and the key that made its signature.
 #[derive(Debug)]
-pub(crate) struct Presented<'a> {
+pub(crate) struct OpenToken<'a> {
     pub raw: Handle,
     text: &'a [u8],
     /// What `svid_validator_ask_token` writes.
@@ -39,11 +39,11 @@ pub(crate) struct Evidence<'a> {
     pub signature: &'a [u8],
 }
 
-impl<'a> Presented<'a> {
+impl<'a> OpenToken<'a> {
     /// Reads a token.
-    pub fn read(text: &'a [u8]) -> Result<Presented<'a>, Error> {
+    pub fn read(text: &'a [u8]) -> Result<OpenToken<'a>, Error> {
         let (rows, mut told) = (Vec::new(), Told::default());
-        let mut token = Presented { raw: Handle::CLOSED, text, rows, edition: None, shown: None, is_unsupported: false };
+        let mut token = OpenToken { raw: Handle::CLOSED, text, rows, edition: None, shown: None, is_unsupported: false };
         ffi::grow(&mut token.rows, ROOM).map_err(|_| Error::NoMemory)?;
         // SAFETY: the handle is closed, the text is a slice with its length, and nothing overlaps.
         let status = unsafe { ffi::svid_token_open(&mut token.raw, text.as_ptr(), text.len(), &mut told) };
@@ -94,7 +94,7 @@ impl<'a> Presented<'a> {
     }
 }
 
-impl Drop for Presented<'_> {
+impl Drop for OpenToken<'_> {
     fn drop(&mut self) {
         // SAFETY: this is the last call with the handle. (It does nothing to one that was not opened.)
         unsafe { ffi::svid_token_close(&mut self.raw) }
