@@ -244,7 +244,8 @@ impl Claims {
             let due = unsafe { ffi::svid_pacing_due(&gate.pacing) };
             at = Some(at.map_or(due, |it| it.min(due)));
         }
-        at.map(|it| Duration::from_millis(it.saturating_sub(self.clock.up())).min(LONGEST))
+        // (where there is no memory for the claims that are due, a moment passes)
+        at.map(|it| Duration::from_millis(it.saturating_sub(self.clock.up()).max(1)).min(LONGEST))
     }
 
     /// The store has answered a call.
