@@ -1,10 +1,10 @@
 //! Measures a check without its signature, for rust/bench: `checks FOLDER` opens a validator with the bundles of the folder, asks for and checks
 //! each of its tokens with the answer yes to each question, and prints the median microseconds of an ask and of a check, and those of a check
-//! with its signature left out. Times are of this thread on the processor.
+//! of a validator and of a guard with the signature left out. Times are of this thread on the processor.
 
 use std::os::raw::{c_int, c_long};
 
-use svid::{Candidate, Options, Question, Unverified, Validator, ValidatorId, Verify};
+use svid::{Candidate, Guard, Options, Question, Unverified, Validator, ValidatorId, Verify};
 
 const NOW: u64 = 1_767_225_600;
 const THREAD: c_int = 3; // CLOCK_THREAD_CPUTIME_ID of Linux
@@ -68,5 +68,11 @@ fn main() {
         validator.check(NOW, token, &All).unwrap();
         both.push(clock() - from);
     }
-    println!("{:.2} {:.2} {:.2}", median(&mut asks), median(&mut checks), median(&mut both));
+    let (guard, mut guarded) = (Guard::open(&options, &bundles, All).unwrap(), Vec::new());
+    for token in tokens.lines() {
+        let from = clock();
+        guard.check_at(NOW, token).unwrap();
+        guarded.push(clock() - from);
+    }
+    println!("{:.2} {:.2} {:.2} {:.2}", median(&mut asks), median(&mut checks), median(&mut both), median(&mut guarded));
 }

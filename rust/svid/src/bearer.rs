@@ -42,7 +42,7 @@ pub enum Denied {
     NoToken(BearerFault),
     /// Its token is refused.
     Refused(Refusal),
-    /// Its token is good, and none of the patterns allows its caller. It is not used up.
+    /// Its token is good, and no pattern allows its caller. It is not used up.
     NotAllowed,
     /// There is no answer about its token: it was not accepted, and is not refused.
     Failed(Error),
@@ -87,6 +87,7 @@ impl From<Error> for Denied {
     fn from(why: Error) -> Denied {
         match why {
             Error::Refused(why) => Denied::Refused(why),
+            Error::NotAllowed => Denied::NotAllowed,
             why => Denied::Failed(why),
         }
     }
@@ -97,7 +98,7 @@ impl fmt::Display for Denied {
         match self {
             Denied::NoToken(why) => why.fmt(f),
             Denied::Refused(why) => why.fmt(f),
-            Denied::NotAllowed => f.write_str("NotAllowed: the caller's SPIFFE ID is not among those that may call"),
+            Denied::NotAllowed => Error::NotAllowed.fmt(f),
             Denied::Failed(why) => why.fmt(f),
         }
     }

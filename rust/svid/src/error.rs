@@ -3,7 +3,9 @@
 use std::fmt;
 
 use crate::ffi::{self, Told};
+use crate::pattern::PatternFault;
 use crate::refusal::Refusal;
+use crate::unavailable::Unavailable;
 use crate::words;
 
 /// Why a call did nothing. Whatever the error of a check is, the token was not accepted.
@@ -14,6 +16,12 @@ use crate::words;
 pub enum Error {
     /// The token is refused. This is an answer about the token, and all others say that there is none.
     Refused(Refusal),
+    /// The token is good, and its subject may not call ([`Options::callers`](crate::Options::callers)). It is not used up.
+    NotAllowed,
+    /// There is no answer for now: the state folder or the store failed, or it took too long. Answer with status 503.
+    Unavailable(Unavailable),
+    /// The options can't be, or are not for this call.
+    Options(OptionsFault),
     /// There is no memory for the call. Nothing was accepted: you can make the call again.
     NoMemory,
     /// `now` is more than `step` seconds past the record's moment. If the clock is right, the validator was idle for longer than `step`:
@@ -57,10 +65,14 @@ impl Error {
         if let Some(why) = Refusal::of_status(status) {
             return Error::Refused(why);
         }
+        if let Some(why) = Unavailable::of_status(status) {
+            return Error::Unavailable(why);
+        }
         if let Some(row) = MessageFault::ROWS.iter().find(|row| row.1 == status) {
             return Error::Messages(MessagesError { fault: row.0, message: told.message, offset: told.offset });
         }
         match status {
+            ffi::NOT_ALLOWED => Error::NotAllowed,
             ffi::NO_MEMORY => Error::NoMemory,
             ffi::TOO_MUCH => Error::TooMuch,
             ffi::TOO_SHORT => Error::TooShort,
@@ -103,6 +115,9 @@ impl fmt::Display for Error {
     fn fmt(&self, f: &mut fmt::Formatter<'_>) -> fmt::Result {
         match self {
             Error::Refused(why) => why.fmt(f),
+            Error::NotAllowed => f.write_str("NotAllowed: the caller's SPIFFE ID is not among those that may call"),
+            Error::Unavailable(why) => why.fmt(f),
+            Error::Options(why) => why.fmt(f),
             Error::NoMemory => words::write_plain(f, ffi::NO_MEMORY),
             Error::Jump => words::write_plain(f, ffi::JUMP),
             Error::TooFar => words::write_plain(f, ffi::TOO_FAR),
@@ -124,6 +139,8 @@ impl std::error::Error for Error {
     fn source(&self) -> Option<&(dyn std::error::Error + 'static)> {
         match self {
             Error::Refused(why) => Some(why),
+            Error::Unavailable(why) => Some(why),
+            Error::Options(why) => Some(why),
             Error::Bundles(why) => Some(why),
             Error::Messages(why) => Some(why),
             Error::Unexpected(why) => Some(why),
@@ -131,6 +148,51 @@ impl std::error::Error for Error {
         }
     }
 }
+
+/// Why options can't be, or are not for a call.
+#[derive(Debug, Clone, Copy, PartialEq, Eq)]
+#[non_exhaustive]
+pub enum OptionsFault {
+    /// There is a store in a mode that has none, or none in a mode that wants one.
+    Store,
+    /// The time that a check may take is less than a millisecond.
+    Wait,
+    /// The list of callers is empty.
+    Callers,
+    /// One of the callers is no pattern.
+    Caller {
+        /// Which one: the first is number 0.
+        number: usize,
+        /// What is wrong with it.
+        fault: PatternFault,
+    },
+    /// Where callers are given, an audience is empty, or has a line feed.
+    Audience,
+    /// Who presents a token is given in another mode than bound, or is not given in that mode.
+    Presenter,
+    /// The options are for a [`Guard`](crate::Guard): a [`Validator`](crate::Validator) or a [`Member`](crate::Member) has no mode, store or
+    /// callers.
+    Guard,
+    /// The validator is that of a guard with these options, whose checks alone ask its disk, its store and its callers.
+    Guarded,
+}
+
+impl fmt::Display for OptionsFault {
+    fn fmt(&self, f: &mut fmt::Formatter<'_>) -> fmt::Result {
+        f.write_str(match self {
+            OptionsFault::Store => "the mode and the store don't fit: give a store in the modes strict and bound, and in no other one",
+            OptionsFault::Wait => "a check has less than a millisecond: let wait be longer",
+            OptionsFault::Callers => "callers is empty: name who may call, or leave it out to let all call",
+            OptionsFault::Caller { number, fault } => return write!(f, "number {number} of the callers, counted from 0: {}", fault.says()),
+            OptionsFault::Audience => "an audience is empty or has a line feed: with callers, let each be one line",
+            OptionsFault::Presenter => "the mode and the call don't fit: say who presents the token in mode bound, and in no other one",
+            OptionsFault::Guard => "the options have a mode, a store, or callers: give them to a guard",
+            OptionsFault::Guarded => "the validator is a guard's, which has a mode, a disk, or callers: check by the guard",
+        })
+    }
+}
+
+impl std::error::Error for OptionsFault {}
 
 /// Why trust bundles can't be read. Names are counted from 0, in the rising order of their bytes.
 #[derive(Debug, Clone, Copy, PartialEq, Eq)]

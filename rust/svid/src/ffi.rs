@@ -172,6 +172,26 @@ pub const ORDER_AGAIN: u64 = 0;
 pub const ORDER_NEXT: u64 = 1;
 pub const ORDER_GAP: u64 = 2;
 
+pub const MODE_ONCE: u64 = 0;
+pub const MODE_STRICT: u64 = 1;
+pub const MODE_BOUND: u64 = 2;
+pub const MODE_REUSE: u64 = 3;
+
+pub const DEED_NOTHING: u64 = 0;
+pub const DEED_JUDGE: u64 = 1;
+pub const DEED_APPEND: u64 = 2;
+pub const DEED_CLAIM: u64 = 3;
+pub const DEED_ANSWER: u64 = 4;
+
+pub const AT_DISK: u64 = 0;
+pub const AT_STORE: u64 = 1;
+pub const AT_LOG: u64 = 2;
+
+/// How far a withdrawal is at a keeper that may not have it.
+pub const MAY_LACK: u64 = 2;
+/// The number of no request and of no withdrawal.
+pub const NO_NUMBER: u64 = u64::MAX;
+
 pub const CALL_NOTHING: u64 = 0;
 pub const CALL_CREATE_JOURNAL: u64 = 1;
 pub const CALL_SYNC_FOLDER: u64 = 2;
@@ -368,7 +388,7 @@ pub struct Bears {
     pub messages: usize,
 }
 
-/// A handle of the library, `svid_validator` or `svid_bundles`. It begins with all bytes 0.
+/// A handle of the library: `svid_validator`, `svid_bundles` or `svid_token`. It begins with all bytes 0.
 #[repr(C)]
 #[derive(Debug)]
 pub struct Handle {
@@ -445,6 +465,17 @@ pub struct Pacing {
     pub calls: u64,
     pub at: u64,
     pub pause: u64,
+}
+
+impl Deed {
+    /// The status of an answer, as the calls have it.
+    pub fn status(&self) -> u32 {
+        u32::try_from(self.status).unwrap_or(u32::MAX)
+    }
+}
+
+impl Pacing {
+    pub const FIRST: Pacing = Pacing { calls: 0, at: 0, pause: 10 };
 }
 
 impl Handle {
@@ -646,6 +677,88 @@ extern "C" {
     pub fn svid_validator_mark(v: *mut Handle, mark: *mut Mark, told: *mut Told) -> u32;
     pub fn svid_validator_go_on(v: *mut Handle, told: *mut Told) -> u32;
     pub fn svid_validator_beside(v: *mut Handle, out: *mut u8, out_len: usize, told: *mut Told) -> u32;
+
+    pub fn svid_token_open(t: *mut Handle, token: *const u8, token_len: usize, told: *mut Told) -> u32;
+    pub fn svid_token_close(t: *mut Handle);
+    pub fn svid_validator_ask_token(v: *mut Handle, t: *mut Handle, most: usize, out: *mut u8, out_len: usize, told: *mut Told) -> u32;
+    pub fn svid_validator_judge_token(
+        v: *mut Handle,
+        now: u64,
+        key: *const u8,
+        key_len: usize,
+        input: *const u8,
+        input_len: usize,
+        signature: *const u8,
+        signature_len: usize,
+        t: *mut Handle,
+        out: *mut u8,
+        out_len: usize,
+        used: *mut Use,
+        told: *mut Told,
+    ) -> u32;
+
+    pub fn svid_claim_owner(validator_id: *const [u8; 16], life: *const [u8; 16], exp: u64, owner: *mut [u8; 32]);
+    pub fn svid_claim_owner_of_caller(caller: *const [u8; 32], exp: u64, owner: *mut [u8; 32]);
+    pub fn svid_claim_until(exp: u64, margin: u64) -> u64;
+    pub fn svid_claim_deaf(time: u64, lasts: u64, before: u64) -> u64;
+
+    pub fn svid_member_open(v: *mut Handle, terms: *const MemberTerms) -> u32;
+    pub fn svid_member_know(v: *mut Handle, known: *const Known) -> u32;
+    pub fn svid_member_ready(v: *mut Handle) -> u32;
+    pub fn svid_member_come(v: *mut Handle, up: u64, deed: *mut Deed) -> u32;
+    pub fn svid_member_judge(
+        v: *mut Handle,
+        now: u64,
+        up: u64,
+        number: u64,
+        key: *const u8,
+        key_len: usize,
+        input: *const u8,
+        input_len: usize,
+        signature: *const u8,
+        signature_len: usize,
+        t: *mut Handle,
+        out: *mut u8,
+        out_len: usize,
+        used: *mut Use,
+        deed: *mut Deed,
+        told: *mut Told,
+    ) -> u32;
+    pub fn svid_member_wrote(v: *mut Handle, up: u64, number: u64, ok: u64, deed: *mut Deed) -> u32;
+    pub fn svid_member_send(v: *mut Handle, up: u64, number: u64, deed: *mut Deed) -> u32;
+    pub fn svid_member_found(
+        v: *mut Handle,
+        now: u64,
+        up: u64,
+        number: u64,
+        caller: *const [u8; 32],
+        found: *const Found,
+        key: *const u8,
+        key_len: usize,
+        input: *const u8,
+        input_len: usize,
+        signature: *const u8,
+        signature_len: usize,
+        t: *mut Handle,
+        out: *mut u8,
+        out_len: usize,
+        used: *mut Use,
+        deed: *mut Deed,
+        told: *mut Told,
+    ) -> u32;
+    pub fn svid_member_leave(v: *mut Handle, up: u64, number: u64, deed: *mut Deed) -> u32;
+    pub fn svid_member_overdue(v: *mut Handle, up: u64, deed: *mut Deed) -> u32;
+    pub fn svid_member_due(v: *mut Handle, out: *mut Deadline) -> u32;
+    pub fn svid_member_rules(v: *mut Handle, own: *const u8, own_len: usize, all: u64, callers: *const u8, callers_len: usize) -> u32;
+    pub fn svid_withdrawal_come(v: *mut Handle, up: u64, made: *mut Withdrawal) -> u32;
+    pub fn svid_withdrawal_told(v: *mut Handle, number: u64, keeper: u64, ok: u64, made: *mut Withdrawal) -> u32;
+    pub fn svid_withdrawal_overdue(v: *mut Handle, up: u64, made: *mut Withdrawal) -> u32;
+
+    pub fn svid_pacing_may_send(p: *const Pacing, up: u64, waiting: u64) -> u32;
+    pub fn svid_pacing_due(p: *const Pacing) -> u64;
+    pub fn svid_pacing_sent(p: *mut Pacing, up: u64);
+    pub fn svid_pacing_answered(p: *mut Pacing);
+    pub fn svid_pacing_unanswered(p: *mut Pacing) -> u64;
 
     pub fn svid_journal_open(f: *mut Folder, oldest: u64, newest: u64) -> u32;
     pub fn svid_journal_begin(f: *mut Folder) -> u32;

@@ -1,7 +1,10 @@
 //! One `svid_validator` of the C library.
 
+mod member;
+
+pub(crate) use self::member::{Step, Waiting};
 use crate::bundles::Bundles;
-use crate::error::Error;
+use crate::error::{Error, OptionsFault};
 use crate::ffi::{self, Handle, Told};
 use crate::key::{Candidates, Rows};
 use crate::member::{Fate, LogPosition, LogStart, Order, Reading};
@@ -26,13 +29,18 @@ pub(crate) struct Core {
     room: Vec<u8>,
     spare: Vec<u8>, // for the ID of a token that was accepted, if there is no other memory for it
     validator_id: ValidatorId,
+    edition: u64, // how often the bundles were replaced
+    /// Its member alone accepts tokens.
+    pub is_guarded: bool,
+    waiting: Waiting,
 }
 
 impl Core {
     pub fn open(options: &Options, bundles: &[u8]) -> Result<Core, Error> {
         crate::same_version()?;
         let (own, validator_id) = (Audiences::of(options)?, options.own_id()?);
-        let (mut core, mut told) = (Core { raw: Handle::CLOSED, room: Vec::new(), spare: Vec::new(), validator_id }, Told::default());
+        let (raw, waiting, mut told) = (Handle::CLOSED, Waiting::default(), Told::default());
+        let mut core = Core { raw, room: Vec::new(), spare: Vec::new(), validator_id, edition: 0, is_guarded: false, waiting };
         ffi::grow(&mut core.room, ROOM).map_err(|_| Error::NoMemory)?;
         let terms = Audiences::terms(options, validator_id);
         // SAFETY: the handle is closed, each input is a slice with its length, and nothing overlaps.
@@ -60,7 +68,9 @@ impl Core {
         let mut told = Told::default();
         // SAFETY: both handles are open, and each is given to this call alone.
         let status = unsafe { ffi::svid_validator_renew_by(&mut self.raw, &mut bundles.raw, &mut told) };
-        done(status, &told)
+        done(status, &told)?;
+        self.edition += 1;
+        Ok(())
     }
 
     pub fn ask(&mut self, token: &[u8]) -> Result<Candidates, Error> {
@@ -94,6 +104,7 @@ impl Core {
     pub fn judge(&mut self, by: By, now: u64, yes: &[Question], token: &[u8]) -> Result<Accepted, Error> {
         let mut told = Told::default();
         let call = match by {
+            By::Check if self.is_guarded => return Err(Error::Options(OptionsFault::Guarded)),
             By::Check => ffi::svid_validator_check,
             By::Judge => ffi::svid_validator_judge,
         };

@@ -293,9 +293,15 @@ impl<'a> Rows<'a> {
         Some(Candidate { question, algorithm, jwk: self.text()? })
     }
 
-    fn text(&mut self) -> Option<&'a [u8]> {
-        let len = u32::from_be_bytes(self.bytes(4)?.try_into().ok()?);
-        self.bytes(usize::try_from(len).ok()?)
+    /// The next field, which has its length before it.
+    pub fn text(&mut self) -> Option<&'a [u8]> {
+        let len = self.len()?;
+        self.bytes(len)
+    }
+
+    /// A length, in four bytes.
+    pub fn len(&mut self) -> Option<usize> {
+        usize::try_from(u32::from_be_bytes(self.bytes(4)?.try_into().ok()?)).ok()
     }
 
     fn bytes(&mut self, len: usize) -> Option<&'a [u8]> {

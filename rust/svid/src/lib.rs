@@ -4,7 +4,8 @@
 //! This crate is over a C library whose functions are proved to meet their contracts. It carries bytes, waits, and calls the library; the
 //! library decides. Signatures are verified by OpenSSL (feature `openssl`) or ring (feature `ring`), or by a [`Verify`] of your own.
 //!
-//! - [`Guard`] is what a service has: a validator for any number of threads, with a verifier.
+//! - [`Guard`] is what a service has: a validator for any number of threads, with a verifier. [`Options::mode`] says how often it accepts a token.
+//! - [`Store`] is the trait of a store that guards share, which you write over the client of your database.
 //! - [`Validator`] is for one thread. [`Member`] is one whose group shares a log, so that the whole group accepts a token once.
 //! - [`Journal`] keeps a record over restarts and crashes.
 //! - [`Refusal`] says why a token is refused, and [`Error`] why there is no answer.
@@ -24,8 +25,8 @@
 //!
 //! It needs Linux on x86-64 or aarch64, where the C library is in the crate. Elsewhere `LIBSVID_DIR` names the folder of a `libsvid.a`.
 //!
-//! No call panics, whatever it is given. A call that has no memory says so, except where [`Options`] and `Debug` make texts, and within
-//! OpenSSL's and ring's crates.
+//! No call panics, whatever it is given. A call that has no memory says so, except where [`Options`] and `Debug` make texts, where a guard is
+//! opened or begins a thread, where a write to a state folder begins, and within OpenSSL's and ring's crates.
 #![deny(missing_docs)]
 #![deny(unsafe_op_in_unsafe_fn)]
 #![deny(clippy::undocumented_unsafe_blocks)]
@@ -35,11 +36,17 @@
 #[cfg(test)]
 extern crate self as svid;
 
+#[cfg(test)]
+#[path = "../tests/common/mod.rs"]
+mod common;
+
 #[macro_use]
 mod named;
 
 mod bearer;
 mod bundles;
+mod caller;
+mod claims;
 mod error;
 mod ffi;
 mod guard;
@@ -49,28 +56,35 @@ mod journal;
 mod key;
 mod member;
 pub mod messages;
+mod open_token;
 mod options;
 mod pattern;
 mod record;
 mod refusal;
+mod requests;
+mod store;
 mod token;
+mod unavailable;
 mod validator;
 mod verify;
 mod words;
 
 pub use crate::bearer::{bearer_token, BearerFault, Denied};
 pub use crate::bundles::Bundles;
-pub use crate::error::{BundlesFault, DocumentFault, Error, MessageFault, MessagesError, Unexpected};
+pub use crate::caller::Caller;
+pub use crate::error::{BundlesFault, DocumentFault, Error, MessageFault, MessagesError, OptionsFault, Unexpected};
 pub use crate::guard::Guard;
 pub use crate::id::{IdError, IdFault, SpiffeId};
 pub use crate::journal::{Journal, JournalError};
 pub use crate::key::{Algorithm, Candidate, Candidates, Hash, KeyError, KeyFault, Spki};
 pub use crate::member::{Fate, LogPosition, LogStart, Member, Order, Reading};
-pub use crate::options::Options;
+pub use crate::options::{Mode, Options};
 pub use crate::pattern::{Pattern, PatternError, PatternFault};
 pub use crate::record::{Accepted, Question, Size, TokenKey, Use, ValidatorId};
 pub use crate::refusal::Refusal;
+pub use crate::store::{Claim, Found, MemoryStore, Store, StoreError, WITHDRAWN};
 pub use crate::token::Said;
+pub use crate::unavailable::Unavailable;
 pub use crate::validator::{Parts, Validator};
 pub use crate::verify::{Unverified, Verify};
 

@@ -174,6 +174,7 @@ impl Member {
     ///
     /// Those of [`Validator::open`], and [`Error::Messages`] for claims beside a record that are none.
     pub fn open(options: &Options, bundles: &[u8], start: &LogStart<'_>) -> Result<Member, Error> {
+        options.fit_a_validator()?;
         let mut core = Core::open(options, bundles)?;
         core.log(start).map(|()| Member { core })
     }
@@ -183,6 +184,7 @@ impl Member {
     /// # Errors
     ///
     /// [`Error::Messages`] for claims beside a record that are none, and [`Error::NoMemory`]; with the validator, which reads none then.
+    #[allow(clippy::result_large_err)] // (it gives the validator back)
     pub fn from_validator(validator: Validator, start: &LogStart<'_>) -> Result<Member, (Validator, Error)> {
         let mut core = validator.core;
         match core.log(start) {

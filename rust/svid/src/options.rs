@@ -1,21 +1,66 @@
 //! What a validator is for.
 
-use crate::error::Error;
+use std::fmt;
+use std::sync::Arc;
+use std::time::Duration;
+
+use crate::error::{Error, OptionsFault};
 use crate::ffi;
+use crate::pattern::{Pattern, PatternError};
 use crate::record::ValidatorId;
+use crate::store::Store;
+
+/// How often a guard accepts a token.
+#[derive(Debug, Clone, Copy, PartialEq, Eq, Hash, Default)]
+#[non_exhaustive]
+pub enum Mode {
+    /// Once by this guard. With a journal, no later start accepts it again.
+    #[default]
+    Once,
+    /// Once by all guards that share the store.
+    Strict,
+    /// Again and again, but from one caller alone, by all guards that share the store.
+    Bound,
+    /// Again and again.
+    Reuse,
+}
+
+impl Mode {
+    pub(crate) fn number(self) -> u64 {
+        match self {
+            Mode::Once => ffi::MODE_ONCE,
+            Mode::Strict => ffi::MODE_STRICT,
+            Mode::Bound => ffi::MODE_BOUND,
+            Mode::Reuse => ffi::MODE_REUSE,
+        }
+    }
+
+    /// Whether tokens are claimed in a store.
+    fn has_claims(self) -> bool {
+        matches!(self, Mode::Strict | Mode::Bound)
+    }
+}
+
+/// What is told of what goes wrong beside a check.
+pub(crate) type Warns = dyn Fn(&dyn fmt::Display) + Send + Sync;
 
 /// What a validator is given for its whole life. All times are in seconds.
 ///
 /// ```
 /// let options = svid::Options::new(["ledger"]).longest(3600).step(86_400);
 /// ```
-#[derive(Debug, Clone)]
+#[derive(Clone)]
 pub struct Options {
     audiences: Vec<String>,
     pub(crate) longest: u64,
     pub(crate) ahead: u64,
     pub(crate) step: u64,
     validator_id: Option<ValidatorId>,
+    pub(crate) mode: Mode,
+    pub(crate) store: Option<Arc<dyn Store>>,
+    callers: Option<Vec<String>>,
+    pub(crate) wait: Duration,
+    pub(crate) warns: Option<Arc<Warns>>,
 }
 
 impl Options {
@@ -27,6 +72,11 @@ impl Options {
             ahead: 10,
             step: u64::MAX,
             validator_id: None,
+            mode: Mode::Once,
+            store: None,
+            callers: None,
+            wait: Duration::from_secs(2),
+            warns: None,
         }
     }
 
@@ -60,9 +110,128 @@ impl Options {
         self
     }
 
+    /// How often a [`Guard`](crate::Guard) accepts a token. Without it, once.
+    #[must_use]
+    pub fn mode(mut self, mode: Mode) -> Options {
+        self.mode = mode;
+        self
+    }
+
+    /// The store of the group, in the modes [`Strict`](Mode::Strict) and [`Bound`](Mode::Bound), and in no other one.
+    #[must_use]
+    pub fn store(mut self, store: Arc<dyn Store>) -> Options {
+        self.store = Some(store);
+        self
+    }
+
+    /// Who may call: [`Pattern`]s of SPIFFE IDs. A [`Guard`](crate::Guard) answers [`Error::NotAllowed`] to a good token of another caller, and
+    /// does not use it up. Without it all may call. No pattern at all is a fault.
+    #[must_use]
+    pub fn callers<P: Into<String>>(mut self, patterns: impl IntoIterator<Item = P>) -> Options {
+        self.callers = Some(patterns.into_iter().map(Into::into).collect());
+        self
+    }
+
+    /// How long a check or a withdrawal of a [`Guard`](crate::Guard) may take, until it answers [`Error::Unavailable`]. Without it, two seconds.
+    #[must_use]
+    pub fn wait(mut self, wait: Duration) -> Options {
+        self.wait = wait;
+        self
+    }
+
+    /// Hears what an operator should read: that the store does not answer, or that the state folder keeps nothing. Threads of the guard call it,
+    /// so let it return at once, and call the guard from nowhere in it.
+    #[must_use]
+    pub fn warns(mut self, hears: impl Fn(&dyn fmt::Display) + Send + Sync + 'static) -> Options {
+        self.warns = Some(Arc::new(hears));
+        self
+    }
+
+    /// Whether a guard can have these options.
+    pub(crate) fn fit_a_guard(&self) -> Result<(), Error> {
+        let fault = |why| Err(Error::Options(why));
+        if self.mode.has_claims() != self.store.is_some() {
+            return fault(OptionsFault::Store);
+        }
+        if self.wait < Duration::from_millis(1) {
+            return fault(OptionsFault::Wait);
+        }
+        let callers = match &self.callers {
+            Some(callers) => callers,
+            None => return Ok(()),
+        };
+        if callers.is_empty() {
+            return fault(OptionsFault::Callers);
+        }
+        for (number, it) in callers.iter().enumerate() {
+            match Pattern::parse(it) {
+                Ok(_) => {}
+                Err(PatternError::Bad { fault: why, .. }) => return fault(OptionsFault::Caller { number, fault: why }),
+                Err(PatternError::NoMemory) => return Err(Error::NoMemory),
+                Err(PatternError::Unexpected(why)) => return Err(Error::Unexpected(why)),
+            }
+        }
+        match self.audiences.iter().any(|it| it.is_empty() || it.contains('\n')) {
+            true => fault(OptionsFault::Audience),
+            false => Ok(()),
+        }
+    }
+
+    /// Whether a validator without a member can have these options.
+    pub(crate) fn fit_a_validator(&self) -> Result<(), Error> {
+        match self.mode != Mode::Once || self.store.is_some() || self.callers.is_some() {
+            true => Err(Error::Options(OptionsFault::Guard)),
+            false => Ok(()),
+        }
+    }
+
+    /// The audiences and who may call, each as lines, if not all may.
+    pub(crate) fn rules(&self) -> Result<Option<Rules>, Error> {
+        match &self.callers {
+            Some(callers) => Ok(Some(Rules { own: lines(&self.audiences)?, callers: lines(callers)? })),
+            None => Ok(None),
+        }
+    }
+
     pub(crate) fn own_id(&self) -> Result<ValidatorId, Error> {
         self.validator_id.map_or_else(|| ValidatorId::random().map_err(|_| Error::NoRandom), Ok)
     }
+}
+
+// (nothing in it changes but in the store, which is told so: it is called again after a panic)
+impl std::panic::UnwindSafe for Options {}
+impl std::panic::RefUnwindSafe for Options {}
+
+impl fmt::Debug for Options {
+    fn fmt(&self, f: &mut fmt::Formatter<'_>) -> fmt::Result {
+        f.debug_struct("Options")
+            .field("audiences", &self.audiences)
+            .field("longest", &self.longest)
+            .field("ahead", &self.ahead)
+            .field("step", &self.step)
+            .field("validator_id", &self.validator_id)
+            .field("mode", &self.mode)
+            .field("callers", &self.callers)
+            .field("wait", &self.wait)
+            .finish_non_exhaustive()
+    }
+}
+
+/// Audiences and patterns of who may call, each as lines.
+pub(crate) struct Rules {
+    pub own: Vec<u8>,
+    pub callers: Vec<u8>,
+}
+
+/// Texts as lines.
+fn lines(texts: &[String]) -> Result<Vec<u8>, Error> {
+    let mut all = Vec::new();
+    for it in texts {
+        all.try_reserve(it.len() + 1).map_err(|_| Error::NoMemory)?;
+        all.extend_from_slice(it.as_bytes());
+        all.push(b'\n');
+    }
+    Ok(all)
 }
 
 /// Audiences as the library takes them: their texts one after the other, and the length of each.

@@ -46,7 +46,9 @@ impl Validator {
     /// # Errors
     ///
     /// [`Error::Bundles`], [`Error::TooMuch`], [`Error::NoMemory`], and [`Error::NoRandom`] where the options have no validator ID.
+    /// [`Error::Options`] for options that only a [`Guard`](crate::Guard) has: a mode, a store, and callers.
     pub fn open(options: &Options, bundles: &[u8]) -> Result<Validator, Error> {
+        options.fit_a_validator()?;
         Core::open(options, bundles).map(|core| Validator { core })
     }
 

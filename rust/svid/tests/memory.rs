@@ -198,4 +198,13 @@ fn a_signature() {
     let guard = || svid::Guard::open(&ledger().validator_id(svid::ValidatorId([7; 16])), &given, svid::OpenSsl::new()).expect("it opens");
     assert!(refused_as(&whys, guard, |it| it.check_at(NOW, &token)) > 20);
     assert!(refused(guard, |it| it.renew(&given)) > 20);
+    assert!(refused(guard, |it| it.withdraw_at(NOW, TokenKey([7; 32]), NOW + 1)) > 0);
+    assert!(refused(guard, |it| Ok(it.unready_at(NOW))) == 0);
+    // (the threads of claims have no allocation refused)
+    let strict = || {
+        let store = std::sync::Arc::new(svid::MemoryStore::new().clock(|| NOW));
+        let options = ledger().validator_id(svid::ValidatorId([7; 16])).mode(svid::Mode::Strict).store(store);
+        svid::Guard::open(&options, &given, svid::OpenSsl::new()).expect("it opens")
+    };
+    assert!(refused_as(&whys, strict, |it| it.check_at(NOW, &token)) > 20);
 }

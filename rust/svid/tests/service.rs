@@ -5,9 +5,16 @@ mod common;
 
 use std::io::{BufRead, BufReader, Read, Write};
 use std::net::TcpStream;
+use std::path::PathBuf;
 use std::process::{Child, Command, Stdio};
 
 use common::*;
+
+/// Where an example is.
+fn example(name: &str) -> PathBuf {
+    let own = std::env::current_exe().expect("the path of this test");
+    own.ancestors().nth(2).expect("the folder of the build").join("examples").join(name)
+}
 
 struct Service {
     process: Child,
@@ -17,9 +24,7 @@ struct Service {
 impl Service {
     /// Starts the example, at a port that the system chooses.
     fn start() -> Service {
-        let own = std::env::current_exe().expect("the path of this test");
-        let example = own.ancestors().nth(2).expect("the folder of the build").join("examples/hyper");
-        let mut command = Command::new(example);
+        let mut command = Command::new(example("hyper"));
         command.arg(top().join("examples/bundles.json")).arg("127.0.0.1:0").stdout(Stdio::piped());
         let mut process = command.spawn().expect("`cargo test` builds the examples");
         let mut line = String::new();
@@ -84,14 +89,28 @@ fn a_request_without_one_token() {
     assert_eq!(service.ask(&long), (401, invalid("TooLong"), String::new()));
 }
 
-/// README.md shows the service as it is, in at most fifteen lines of its own.
+fn readme() -> String {
+    std::fs::read_to_string(top().join("rust/README.md")).expect("the page")
+}
+
+/// README.md shows the examples as they are, each in at most fifteen lines of its own.
 #[test]
-fn the_readme_shows_the_service() {
-    let folder = top().join("rust");
-    let readme = std::fs::read_to_string(folder.join("README.md")).expect("the page");
-    let example = std::fs::read_to_string(folder.join("svid/examples/hyper.rs")).expect("the example");
-    let code = example.split_once("\n\n").expect("a line of what it is, and the code").1;
-    assert!(readme.contains(&format!("```rust\n{code}```\n")), "README.md shows another service");
-    let lines = code.lines().filter(|it| !it.is_empty() && !it.starts_with("use ")).count();
-    assert!(lines <= 15, "it has {lines} lines");
+fn the_readme_shows_the_examples() {
+    for name in ["hyper", "strict"] {
+        let example = std::fs::read_to_string(top().join(format!("rust/svid/examples/{name}.rs"))).expect("the example");
+        let code = example.split_once("\n\n").expect("a line of what it is, and the code").1;
+        assert!(readme().contains(&format!("```rust\n{code}```\n")), "README.md shows another example {name}");
+        let lines = code.lines().filter(|it| !it.is_empty() && !it.starts_with("use ")).count();
+        assert!(lines <= 15, "{name} has {lines} lines");
+    }
+}
+
+/// README.md shows what two guards of one store say.
+#[test]
+fn guards_of_one_store() {
+    let token = std::fs::read_to_string(top().join("examples/token.txt")).expect("the token of the examples");
+    let ran = Command::new(example("strict")).arg(top().join("examples/bundles.json")).arg(token.trim()).output();
+    let said = String::from_utf8(ran.expect("`cargo test` builds the examples").stdout).expect("a text");
+    assert_eq!(said.lines().next(), Some("hello spiffe://example.org/billing/api"));
+    assert!(readme().contains(&format!("```text\n{said}```\n")), "README.md shows another output than {said}");
 }

@@ -116,6 +116,14 @@ fn a_guard_takes_other_keys() {
     assert_eq!(guard.check_at(now, &tokens[0]), Err(Error::Refused(Refusal::Replayed)));
 }
 
+/// Threads may share these, also those that catch panics.
+#[test]
+fn what_threads_may_share() {
+    fn all<T: Send + Sync + std::panic::UnwindSafe + std::panic::RefUnwindSafe>() {}
+    all::<Guard<Verifier>>();
+    all::<svid::Options>();
+}
+
 /// A thread that panics with the validator in its hands takes it from nobody.
 #[test]
 fn a_thread_that_panics() {

@@ -82,6 +82,8 @@ pub enum JournalError {
     NoMemory,
     /// The validator did not give its record.
     Record(Error),
+    /// A guard can't be opened, or can't take what the folder has.
+    Guard(Error),
     /// The library answered what this crate does not know.
     Unexpected(Unexpected),
 }
@@ -139,6 +141,7 @@ impl fmt::Display for JournalError {
             JournalError::TooLong => f.write_str("the messages are more than 16,777,187 bytes: cut them"),
             JournalError::NoMemory => words::write_plain(f, ffi::NO_MEMORY),
             JournalError::Record(why) => write!(f, "the record can't be written: {why}"),
+            JournalError::Guard(why) => write!(f, "the guard can't be opened: {why}"),
             JournalError::Unexpected(why) => why.fmt(f),
         }
     }
@@ -148,7 +151,7 @@ impl std::error::Error for JournalError {
     fn source(&self) -> Option<&(dyn std::error::Error + 'static)> {
         match self {
             JournalError::Io { why, .. } | JournalError::NameMayNotLast { why, .. } => Some(why.as_ref()),
-            JournalError::Record(why) => Some(why),
+            JournalError::Record(why) | JournalError::Guard(why) => Some(why),
             JournalError::Unexpected(why) => Some(why),
             _ => None,
         }

@@ -12,6 +12,7 @@ mod tests;
 
 use std::io::ErrorKind;
 use std::path::{Path, PathBuf};
+use std::sync::atomic::{AtomicBool, Ordering};
 use std::sync::{Arc, Condvar, Mutex, MutexGuard, PoisonError};
 use std::thread::{self, JoinHandle};
 use std::time::{Duration, Instant};
@@ -24,6 +25,7 @@ use crate::error::Error;
 use crate::ffi;
 use crate::member::LogPosition;
 use crate::record::ValidatorId;
+use crate::requests::Report;
 use crate::validator::Parts;
 
 /// What a journal grows by: to force a new length to the disk takes longer than the bytes.
@@ -88,11 +90,13 @@ struct Keeper {
     switch: Mutex<Switch>,
     /// Held over a write. A thread that has the switch may take it; never the other way round.
     writing: Mutex<Writing>,
-    /// Guards what the next write takes. No other lock but that of its messages is taken with it held.
+    /// Guards what the next write takes. No other locks but those of its messages are taken with it held.
     gate: Mutex<Gate>,
     /// The next write has something to take, or the journal is being closed.
     comes: Condvar,
     bears: Mutex<Option<Arc<Bears>>>,
+    /// A snapshot was due after the last write.
+    is_due: AtomicBool,
 }
 
 struct Switch {
@@ -124,8 +128,11 @@ struct Gate {
 }
 
 /// The messages that one write takes to the disk, and what came of it.
+#[derive(Default)]
 struct Commit {
     messages: Mutex<Vec<u8>>,
+    /// Who hears of that.
+    reports: Mutex<Vec<Report>>,
     result: Mutex<Option<Result<(), JournalError>>>,
     ended: Condvar,
 }
@@ -139,6 +146,20 @@ impl Journal {
     /// [`JournalError::BadValidatorId`], [`JournalError::NameMayNotLast`], [`JournalError::Io`], [`JournalError::NoMemory`].
     pub fn open(folder: impl AsRef<Path>) -> Result<Journal, JournalError> {
         Journal::open_by(Folder::hold(folder.as_ref(), Faults::default())?)
+    }
+
+    /// One whose calls of the system can be let fail, and how.
+    #[cfg(test)]
+    pub(crate) fn failing(path: &Path) -> (Journal, Faults) {
+        let faults = Faults::default();
+        let folder = Folder::hold(path, faults.clone()).expect("nobody has it");
+        (Journal::open_by(folder).expect("it is well"), faults)
+    }
+
+    /// Lets the next write find that a snapshot is due.
+    #[cfg(test)]
+    pub(crate) fn let_a_snapshot_be_due(&self) {
+        lock(&self.keeper.switch).wants = true;
     }
 
     fn open_by(folder: Folder) -> Result<Journal, JournalError> {
@@ -200,6 +221,7 @@ impl Journal {
             gate: Mutex::new(Gate { commit: None, is_closing: false }),
             comes: Condvar::new(),
             bears: Mutex::new(None),
+            is_due: AtomicBool::new(false),
         });
         keeper.make_calls(&mut lock(&keeper.switch), None)?;
         let works = Arc::clone(&keeper);
@@ -249,7 +271,7 @@ impl Journal {
     /// may succeed. [`JournalError::Moved`] if the path no longer leads to the folder once they are written, and from then on.
     /// [`JournalError::Ended`], [`JournalError::Full`], [`JournalError::TooLong`], [`JournalError::NoMemory`].
     pub fn append(&self, messages: &[u8], wait: Duration) -> Result<(), JournalError> {
-        let commit = self.keeper.join(messages)?;
+        let commit = self.keeper.join(messages, None)?;
         let waits = commit.ended.wait_timeout_while(lock(&commit.result), wait, |it| it.is_none());
         let (result, _) = waits.unwrap_or_else(PoisonError::into_inner);
         result.clone().unwrap_or(Err(JournalError::Late))
@@ -261,21 +283,25 @@ impl Journal {
     ///
     /// [`JournalError::Full`], [`JournalError::TooLong`], [`JournalError::NoMemory`].
     pub fn append_soon(&self, messages: &[u8]) -> Result<(), JournalError> {
-        self.keeper.join(messages).map(drop)
+        self.keeper.join(messages, None).map(drop)
+    }
+
+    /// Lets the messages go to the disk with the next write, and tells how that went. The writer does so, or this thread if there is no room.
+    pub(crate) fn keep(&self, messages: &[u8], report: Report) {
+        if let Err(why) = self.keeper.join(messages, Some(report.clone())) {
+            report.tell(&Err(why));
+        }
+    }
+
+    /// Whether a snapshot was due after the last write. It waits for nothing.
+    pub(crate) fn is_snapshot_due(&self) -> bool {
+        self.keeper.is_due.load(Ordering::Relaxed)
     }
 
     /// Whether a snapshot is due: there is none, or the journals are many or long. It is not while one is being taken, nor for a minute after
     /// one that failed.
     pub fn wants_snapshot(&self) -> bool {
-        let switch = match self.keeper.switch.try_lock() {
-            Ok(switch) => switch,
-            Err(_) => return false,
-        };
-        if switch.pause.map_or(false, |until| Instant::now() < until) {
-            return false;
-        }
-        let writing = lock(&self.keeper.writing);
-        switch.wants || writing.older.saturating_add(writing.numbers.end()) > switch.kept.max(SMALL)
+        self.keeper.wants_snapshot()
     }
 
     /// Replaces the snapshot by the record of the validator, and drops the journals before it. `piece` is `piece` of the validator, and is
@@ -287,7 +313,13 @@ impl Journal {
     ///
     /// [`JournalError::Io`], [`JournalError::Ended`], [`JournalError::Moved`], [`JournalError::NoMemory`], [`JournalError::Record`]. Nothing is
     /// lost then, and nothing is written to what is there in place of a folder that was moved.
-    pub fn snapshot(&self, mut piece: impl FnMut(&mut Parts, &mut [u8]) -> Result<usize, Error>) -> Result<(), JournalError> {
+    pub fn snapshot(&self, piece: impl FnMut(&mut Parts, &mut [u8]) -> Result<usize, Error>) -> Result<(), JournalError> {
+        let taken = self.take_snapshot(piece);
+        self.keeper.is_due.store(self.wants_snapshot(), Ordering::Relaxed);
+        taken
+    }
+
+    fn take_snapshot(&self, mut piece: impl FnMut(&mut Parts, &mut [u8]) -> Result<usize, Error>) -> Result<(), JournalError> {
         let mut switch = lock(&self.keeper.switch);
         self.keeper.folder.stood()?;
         lock(&self.keeper.writing).numbers.begin()?;
@@ -297,6 +329,10 @@ impl Journal {
         Ok(())
     }
 }
+
+// What a thread leaves that panics is whole (see `lock`), and the handle of the writer is only taken at the end.
+impl std::panic::UnwindSafe for Journal {}
+impl std::panic::RefUnwindSafe for Journal {}
 
 impl Drop for Journal {
     fn drop(&mut self) {
@@ -321,21 +357,36 @@ impl std::fmt::Debug for Journal {
 type Piece<'a> = &'a mut dyn FnMut(&mut Parts, &mut [u8]) -> Result<usize, Error>;
 
 impl Keeper {
+    fn wants_snapshot(&self) -> bool {
+        let switch = match self.switch.try_lock() {
+            Ok(switch) => switch,
+            Err(_) => return false,
+        };
+        if switch.pause.map_or(false, |until| Instant::now() < until) {
+            return false;
+        }
+        let writing = lock(&self.writing);
+        switch.wants || writing.older.saturating_add(writing.numbers.end()) > switch.kept.max(SMALL)
+    }
+
     /// Adds messages to what the next write takes.
-    fn join(&self, messages: &[u8]) -> Result<Arc<Commit>, JournalError> {
+    fn join(&self, messages: &[u8], report: Option<Report>) -> Result<Arc<Commit>, JournalError> {
         if messages.len() > MOST {
             return Err(JournalError::TooLong);
         }
         let mut gate = lock(&self.gate);
-        let commit = gate
-            .commit
-            .get_or_insert_with(|| Arc::new(Commit { messages: Mutex::new(Vec::new()), result: Mutex::new(None), ended: Condvar::new() }));
+        let commit = gate.commit.get_or_insert_with(Arc::default);
         let commit = Arc::clone(commit);
         let mut all = lock(&commit.messages);
         if all.len() + messages.len() > MOST {
             return Err(JournalError::Full);
         }
         all.try_reserve(messages.len()).map_err(|_| JournalError::NoMemory)?;
+        if let Some(report) = report {
+            let mut reports = lock(&commit.reports);
+            reports.try_reserve(1).map_err(|_| JournalError::NoMemory)?;
+            reports.push(report);
+        }
         all.extend_from_slice(messages);
         drop(all);
         self.comes.notify_all();
@@ -364,8 +415,11 @@ impl Keeper {
                 Some(commit) => {
                     is_quiet = false;
                     let result = self.put_commit(&commit);
-                    *lock(&commit.result) = Some(result);
+                    *lock(&commit.result) = Some(result.clone());
                     commit.ended.notify_all();
+                    self.is_due.store(self.wants_snapshot(), Ordering::Relaxed);
+                    let reports = std::mem::take(&mut *lock(&commit.reports));
+                    reports.into_iter().for_each(|it| it.tell(&result));
                 }
                 None if is_closing => break,
                 None => {

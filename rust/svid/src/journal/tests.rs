@@ -1,15 +1,12 @@
 //! State folders: the vectors of vectors/, and a disk that fails.
 
-#[path = "../../tests/common/mod.rs"]
-mod common;
-
 use std::fs;
 use std::sync::atomic::{AtomicBool, AtomicUsize, Ordering};
 use std::sync::Barrier;
 
-use self::common::*;
 use super::file::frames;
 use super::*;
+use crate::common::*;
 use crate::record::{TokenKey, Use};
 use crate::validator::Validator;
 

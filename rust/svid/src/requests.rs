@@ -1,0 +1,442 @@
+//! The requests of a guard, and their answers.
+//!
+//! The C library decides (svid.h, "A member"). Here stand the locks, the clocks, and what the threads of requests do that the library says is to
+//! be done.
+
+#[cfg(test)]
+mod tests;
+
+use std::fmt;
+use std::sync::{Arc, Mutex, MutexGuard, PoisonError, Weak};
+use std::thread;
+use std::time::Duration;
+
+use crate::claims::{Claims, Clock, Due};
+use crate::error::Error;
+use crate::ffi;
+use crate::handle::{unsupported, Core, Step};
+use crate::journal::{Journal, JournalError};
+use crate::open_token::OpenToken;
+use crate::options::{Mode, Options, Warns};
+use crate::record::{Accepted, TokenKey, Use, ValidatorId};
+use crate::store::{Claim, Found, StoreError};
+use crate::unavailable::Unavailable;
+use crate::validator::Validator;
+use crate::verify::Verify;
+
+/// What all threads share that answer requests.
+pub(crate) struct Requests {
+    validator: Mutex<Validator>,
+    clock: Clock,
+    wait: Duration,
+    longest: u64,
+    life: [u8; 16],
+    is_bound: bool,
+    pub(crate) claims: Option<Arc<Claims>>,
+    warns: Option<Arc<Warns>>,
+    /// What the disk did not take last: the number of the request, and its use as a message.
+    unkept: Mutex<Option<(u64, [u8; ffi::BATCH_OF_LEN])>>,
+}
+
+/// Gives the time of a call.
+type Now<'a> = &'a dyn Fn() -> Result<u64, Error>;
+
+impl Requests {
+    /// Opens a validator and its member, which judges no token before `begin`.
+    pub fn open(options: &Options, bundles: &[u8], has_disk: bool) -> Result<Arc<Requests>, Error> {
+        options.fit_a_guard()?;
+        let mut core = Core::open(options, bundles)?;
+        let (mode, store, clock) = (options.mode, &options.store, Clock::new());
+        let life = match store {
+            Some(_) => ValidatorId::random().map_err(|_| Error::NoRandom)?.0,
+            None => [0; 16],
+        };
+        core.open_member(&ffi::MemberTerms {
+            mode: mode.number(),
+            disk: has_disk.into(),
+            store: store.is_some().into(),
+            log: 0,
+            wait: u64::try_from(options.wait.as_millis()).unwrap_or(u64::MAX).min(1 << 63),
+            ahead: options.ahead,
+            lasts: options.longest.saturating_add(options.ahead.saturating_mul(2)),
+            life,
+        })?;
+        let rules = options.rules()?;
+        if let Some(rules) = &rules {
+            core.rules(&rules.own, &rules.callers)?;
+        }
+        core.is_guarded = mode != Mode::Once || has_disk || rules.is_some();
+        Ok(Arc::new(Requests {
+            validator: Mutex::new(Validator { core }),
+            clock,
+            wait: options.wait,
+            longest: options.longest,
+            life,
+            is_bound: mode == Mode::Bound,
+            claims: store.as_ref().map(|store| Claims::new(Arc::clone(store), clock)),
+            warns: options.warns.clone(),
+            unkept: Mutex::new(None),
+        }))
+    }
+
+    /// The record is read: tokens are judged from now on, or once the store is there.
+    pub fn begin(self: &Arc<Requests>) -> Result<(), Error> {
+        self.know(0, false)?;
+        self.claims.as_ref().map_or(Ok(()), |claims| claims.begin(&Arc::downgrade(self), self.wait))
+    }
+
+    /// Ends the threads that put claims.
+    pub fn close(&self) {
+        if let Some(claims) = &self.claims {
+            claims.close();
+        }
+    }
+
+    pub fn is_bound(&self) -> bool {
+        self.is_bound
+    }
+
+    /// The validator. No thread waits for anything with it in its hands.
+    pub fn validator(&self) -> MutexGuard<'_, Validator> {
+        self.validator.lock().unwrap_or_else(PoisonError::into_inner)
+    }
+
+    /// Answers a token.
+    pub fn check(
+        self: &Arc<Requests>,
+        text: &[u8],
+        now: Now<'_>,
+        caller: [u8; 32],
+        verifier: &(impl Verify + ?Sized),
+        journal: Option<&Journal>,
+    ) -> Result<Accepted, Error> {
+        let mut token = self.read(text, now)?;
+        let (number, len) = {
+            let mut validator = self.validator();
+            (validator.core.come(self.clock.up(), caller)?, validator.core.keys_of(&mut token))
+        };
+        let mut request = Request { requests: self, number, token, now, subject: None, is_over: false };
+        request.token.look(len?, verifier)?;
+        let mut step = request.ask(None, verifier)?;
+        loop {
+            step = match step {
+                None => Some(self.next(number)?),
+                Some(Step::Found(found)) => request.ask(Some(&found), verifier)?,
+                Some(Step::Deed(deed)) => match (deed.what, journal, &self.claims) {
+                    (ffi::DEED_JUDGE, ..) => request.ask(None, verifier)?,
+                    (ffi::DEED_APPEND, Some(journal), _) => {
+                        self.keep(journal, number, &deed.used)?;
+                        None
+                    }
+                    (ffi::DEED_CLAIM, _, Some(claims)) => {
+                        claims.add(Due { number, used: deed.used })?;
+                        None
+                    }
+                    (ffi::DEED_ANSWER, ..) => {
+                        request.is_over = true;
+                        return request.answered(&deed);
+                    }
+                    _ => return Err(Error::unexpected(ffi::OK)),
+                },
+            };
+        }
+    }
+
+    /// Says what a check would, and adds nothing.
+    pub fn judge(&self, text: &[u8], now: Now<'_>, verifier: &(impl Verify + ?Sized)) -> Result<Accepted, Error> {
+        let mut token = self.read(text, now)?;
+        loop {
+            let len = self.validator().core.keys_of(&mut token)?;
+            token.look(len, verifier)?;
+            let mut validator = self.validator();
+            if validator.core.has_asked(&token) {
+                let judged = validator.core.judge_read(now()?, &mut token);
+                return if token.is_unsupported { Err(unsupported(judged)) } else { judged };
+            }
+        }
+    }
+
+    /// Withdraws a token, everywhere.
+    pub fn withdraw(self: &Arc<Requests>, now: u64, key: TokenKey, expires: u64, journal: Option<&Journal>) -> Result<Use, Error> {
+        let (used, number) = {
+            let mut validator = self.validator();
+            let used = validator.core.withdraw(now, key, expires)?;
+            (used, validator.core.withdrawal_comes(self.clock.up())?)
+        };
+        let left = Withdrawal { requests: self, number };
+        let told = |keeper| Report { to: Arc::downgrade(self), about: About::Withdrawal { number, keeper } };
+        told(ffi::AT_LOG).tell(&Ok(()));
+        match &self.claims {
+            Some(claims) => claims.withdraw(key, expires, told(ffi::AT_STORE)),
+            None => told(ffi::AT_STORE).tell(&Ok(())),
+        }
+        match journal {
+            Some(journal) => journal.keep(&used.message()?, told(ffi::AT_DISK)),
+            None => told(ffi::AT_DISK).tell(&Ok(())),
+        }
+        let ended = loop {
+            let ended = self.validator().core.withdrawal_ended(number);
+            match ended {
+                Some(ended) => break ended,
+                None => self.pause()?,
+            }
+        };
+        drop(left);
+        match [ended.disk, ended.store, ended.log].contains(&ffi::MAY_LACK) {
+            true => Err(Error::Unavailable(Unavailable::MAY_LACK)),
+            false => Ok(used),
+        }
+    }
+
+    /// The first reason why the validator is to get no tokens.
+    pub fn unready(self: &Arc<Requests>, now: u64, journal: Option<&Journal>) -> Option<Error> {
+        let ticked = self.validator().core.tick(now);
+        let known = match ticked {
+            Ok(()) => self.know(now, false),
+            Err(Error::Jump) => self.know(now, true),
+            Err(why) => Err(why),
+        };
+        if let Some(journal) = journal {
+            self.keep_again(journal);
+        }
+        known.and_then(|()| self.validator().core.ready()).err()
+    }
+
+    /// Tells an operator something.
+    pub fn warn(&self, what: &dyn fmt::Display) {
+        if let Some(warns) = &self.warns {
+            // (who is warned must not end a thread of the guard)
+            let _ = std::panic::catch_unwind(std::panic::AssertUnwindSafe(|| warns(what)));
+        }
+    }
+
+    // -- For the claims
+
+    /// The claim of a request, if it is to go out now.
+    pub fn send(&self, due: &Due) -> Option<Claim> {
+        let caller = self.validator().core.send(self.clock.up(), due.number).ok()??;
+        let (mut owner, expires) = ([0; 32], due.used.exp);
+        // SAFETY: each input is an array of the length that the call reads, and the owner is another one, which it writes.
+        unsafe {
+            match self.is_bound {
+                true => ffi::svid_claim_owner_of_caller(&caller, expires, &mut owner),
+                false => ffi::svid_claim_owner(&due.used.validator_id, &self.life, expires, &mut owner),
+            }
+        }
+        Some(Claim { key: TokenKey(due.used.key), owner, expires })
+    }
+
+    /// The store has answered the claim of a request.
+    pub fn found(&self, number: u64, found: &Found) {
+        self.validator().core.found(number, ffi::Found { time: found.time, deaf: found.deaf, owner: found.owner });
+    }
+
+    /// The store is there.
+    pub fn reached(&self) {
+        if let Err(why) = self.know(0, false) {
+            self.warn(&why);
+        }
+    }
+
+    // -- The way of a request
+
+    /// Reads a token. What is none advances the record too.
+    fn read<'t>(&self, text: &'t [u8], now: Now<'_>) -> Result<OpenToken<'t>, Error> {
+        OpenToken::read(text).or_else(|why| {
+            self.validator().core.tick(now()?)?;
+            Err(why)
+        })
+    }
+
+    /// Waits for the next step of a request.
+    fn next(&self, number: u64) -> Result<Step, Error> {
+        loop {
+            let step = self.validator().core.step(self.clock.up(), number)?;
+            match step {
+                Some(step) => return Ok(step),
+                None => self.pause()?,
+            }
+        }
+    }
+
+    /// Waits until this thread is called, or something is due, which is answered then.
+    fn pause(&self) -> Result<(), Error> {
+        let at = self.validator().core.due()?;
+        if at == ffi::NO_NUMBER {
+            thread::park();
+            return Ok(());
+        }
+        match at.saturating_sub(self.clock.up()) {
+            0 => self.validator().core.overdue(self.clock.up()),
+            pause => {
+                thread::park_timeout(Duration::from_millis(pause));
+                Ok(())
+            }
+        }
+    }
+
+    /// Brings a use to the disk.
+    fn keep(self: &Arc<Requests>, journal: &Journal, number: u64, used: &ffi::Use) -> Result<(), Error> {
+        let message = Use::of(used, false).message()?;
+        self.validator().core.writes(number, true);
+        journal.keep(&message, Report { to: Arc::downgrade(self), about: About::Use { number, message } });
+        Ok(())
+    }
+
+    /// Tries again to keep the last use that the disk did not take.
+    fn keep_again(self: &Arc<Requests>, journal: &Journal) {
+        let unkept = self.unkept.lock().unwrap_or_else(PoisonError::into_inner).take();
+        if let Some((number, message)) = unkept {
+            journal.keep(&message, Report { to: Arc::downgrade(self), about: About::Use { number, message } });
+        }
+    }
+
+    /// Tells the library what the validator has.
+    fn know(&self, now: u64, has_jumped: bool) -> Result<(), Error> {
+        let store = self.claims.as_ref().map(|claims| claims.look(self.wait));
+        let lives = u128::from(now) + u128::from(self.longest);
+        let known = ffi::Known {
+            bundled: 1,
+            loaded: 1,
+            opened: store.as_ref().map_or(true, |it| it.is_there).into(),
+            heard: 1,
+            joined: 1,
+            caught_up: 1,
+            jumped: has_jumped.into(),
+            away: store.as_ref().map_or(false, |it| it.is_away).into(),
+            deaf: store.as_ref().map_or(false, |it| u128::from(it.deaf) >= lives).into(),
+            ..ffi::Known::default()
+        };
+        self.validator().core.know(&known)
+    }
+}
+
+// What a thread leaves that panics is whole: each call of the library is, and so is what stands beside it.
+impl std::panic::UnwindSafe for Requests {}
+impl std::panic::RefUnwindSafe for Requests {}
+
+impl fmt::Debug for Requests {
+    fn fmt(&self, f: &mut fmt::Formatter<'_>) -> fmt::Result {
+        f.debug_struct("Requests").field("validator", &self.validator).field("wait", &self.wait).finish_non_exhaustive()
+    }
+}
+
+/// A token on its way to an answer.
+struct Request<'a, 't> {
+    requests: &'a Requests,
+    number: u64,
+    token: OpenToken<'t>,
+    now: Now<'a>,
+    subject: Option<String>,
+    is_over: bool,
+}
+
+impl Request<'_, '_> {
+    /// Lets the library judge the token, with what the store has found, if it has. Gives the next step, if that is known.
+    fn ask(&mut self, found: Option<&ffi::Found>, verifier: &(impl Verify + ?Sized)) -> Result<Option<Step>, Error> {
+        loop {
+            // (the time of a clock is read without the lock)
+            let now = (self.now)()?;
+            let mut validator = self.requests.validator();
+            let core = &mut validator.core;
+            if core.has_asked(&self.token) {
+                let up = self.requests.clock.up();
+                let subject = core.judge_request(now, up, self.number, &mut self.token, found)?;
+                self.subject = subject.or_else(|| self.subject.take());
+                let step = core.step(up, self.number);
+                self.is_over = matches!(step, Ok(Some(Step::Deed(deed))) if deed.what == ffi::DEED_ANSWER);
+                return step;
+            }
+            let len = core.keys_of(&mut self.token)?;
+            drop(validator);
+            self.token.look(len, verifier)?;
+        }
+    }
+
+    /// What an answer says.
+    fn answered(&mut self, deed: &ffi::Deed) -> Result<Accepted, Error> {
+        let why = match (deed.status(), self.subject.take()) {
+            (ffi::OK, Some(subject)) => return Ok(Accepted::new(subject, Use::of(&deed.used, false))),
+            (status, _) => Error::of(status, &ffi::Told::default()),
+        };
+        Err(if self.token.is_unsupported { unsupported(Err(why)) } else { why })
+    }
+}
+
+impl Drop for Request<'_, '_> {
+    /// Nobody waits for the answer any more.
+    fn drop(&mut self) {
+        if !self.is_over {
+            // (whatever fails here, nobody is left to be told)
+            let _ = self.requests.validator().core.leave(self.requests.clock.up(), self.number);
+        }
+    }
+}
+
+/// A withdrawal that somebody waits for.
+struct Withdrawal<'a> {
+    requests: &'a Requests,
+    number: u64,
+}
+
+impl Drop for Withdrawal<'_> {
+    fn drop(&mut self) {
+        self.requests.validator().core.leave_withdrawal(self.number);
+    }
+}
+
+/// Tells a request or a withdrawal that a keeper has its entry, or may not have it.
+#[derive(Clone)]
+pub(crate) struct Report {
+    to: Weak<Requests>,
+    about: About,
+}
+
+#[derive(Clone, Copy)]
+enum About {
+    Use { number: u64, message: [u8; ffi::BATCH_OF_LEN] },
+    Withdrawal { number: u64, keeper: u64 },
+}
+
+impl Report {
+    /// How a write to the state folder went.
+    pub fn tell(self, ended: &Result<(), JournalError>) {
+        let requests = match self.to.upgrade() {
+            Some(requests) => requests,
+            None => return,
+        };
+        if let Err(why) = ended {
+            requests.warn(&format_args!("the state folder did not keep an entry: {why}"));
+        }
+        let (up, mut validator) = (requests.clock.up(), requests.validator());
+        let core = &mut validator.core;
+        let told = match self.about {
+            About::Use { number, message } => {
+                core.writes(number, false);
+                let unkept = if ended.is_ok() { None } else { Some((number, message)) };
+                *requests.unkept.lock().unwrap_or_else(PoisonError::into_inner) = unkept;
+                core.wrote(up, number, ended.is_ok())
+            }
+            About::Withdrawal { number, keeper } => core.withdrawal_told(number, keeper, ended.is_ok()),
+        };
+        drop(validator);
+        if let Err(why) = told {
+            requests.warn(&why);
+        }
+    }
+
+    /// How a withdrawal at the store went.
+    pub fn tell_of_store(self, ended: Result<(), StoreError>) {
+        let (requests, number, keeper) = match (self.to.upgrade(), self.about) {
+            (Some(requests), About::Withdrawal { number, keeper }) => (requests, number, keeper),
+            _ => return,
+        };
+        if let Err(why) = &ended {
+            requests.warn(&format_args!("the group's store did not take a withdrawal: {why}"));
+        }
+        let told = requests.validator().core.withdrawal_told(number, keeper, ended.is_ok());
+        if let Err(why) = told {
+            requests.warn(&why);
+        }
+    }
+}

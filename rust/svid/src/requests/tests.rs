@@ -1,0 +1,990 @@
+//! Requests, and their answers: the modes, the store of a group, deadlines and readiness.
+
+use std::collections::hash_map::RandomState;
+use std::fmt::Display;
+use std::hash::{BuildHasher, Hasher};
+use std::sync::atomic::{AtomicBool, AtomicU64, AtomicUsize, Ordering};
+use std::sync::{Arc, Mutex};
+use std::thread::{self, JoinHandle};
+use std::time::{Duration, Instant};
+
+use crate::common::*;
+use crate::journal::Journal;
+use crate::key::Candidate;
+use crate::open_token::OpenToken;
+use crate::requests::{Due, Step};
+use crate::*;
+
+const SUBJECT: &str = "spiffe://example.org/billing/api";
+const THREADS: usize = 32;
+const LONG: Duration = Duration::from_secs(500);
+const SHORT: Duration = Duration::from_millis(200);
+const KEEPS_NOTHING: &str = "the state folder takes no acceptance: mend the disk";
+
+/// The time of all calls: that of the system's clock at the first one, since a state folder is read at its time.
+fn time() -> u64 {
+    static TIME: AtomicU64 = AtomicU64::new(0);
+    let now = now().expect("the clock is right");
+    TIME.compare_exchange(0, now, Ordering::Relaxed, Ordering::Relaxed).map_or_else(|first| first, |_| now)
+}
+
+/// How long a test waits for what must come.
+fn patience() -> Duration {
+    let seconds = std::env::var("SVID_TEST_PATIENCE").ok().and_then(|it| it.parse().ok());
+    Duration::from_secs(seconds.unwrap_or(180))
+}
+
+/// Waits for something that must come.
+fn until(holds: impl FnMut() -> bool) {
+    within(patience(), holds);
+}
+
+fn within(patience: Duration, mut holds: impl FnMut() -> bool) {
+    let begun = Instant::now();
+    while !holds() {
+        assert!(begun.elapsed() < patience, "it does not come");
+        thread::sleep(Duration::from_millis(1));
+    }
+}
+
+/// Holds up a call until a test lets it go on: for longer than the test has patience.
+fn held(go: &AtomicBool) {
+    within(3 * patience(), || go.load(Ordering::Acquire));
+}
+
+fn base64(bytes: &[u8]) -> String {
+    const DIGITS: &[u8] = b"ABCDEFGHIJKLMNOPQRSTUVWXYZabcdefghijklmnopqrstuvwxyz0123456789-_";
+    let digits = |it: &[u8]| {
+        let word = it.iter().fold(0u32, |word, byte| word << 8 | u32::from(*byte)) << (8 * (3 - it.len()));
+        (0..=it.len()).map(|at| DIGITS[(word >> (18 - 6 * at) & 63) as usize] as char).collect::<String>()
+    };
+    bytes.chunks(3).map(digits).collect()
+}
+
+const GOOD: &[u8] = b"a good signature";
+
+/// A token of this number, with this signature.
+fn signed(number: usize, signature: &[u8]) -> String {
+    let header = base64(br#"{"alg":"ES256","kid":"ec-1"}"#);
+    let (sub, exp) = (SUBJECT, time() + 600);
+    let payload = base64(format!(r#"{{"sub":"{sub}","aud":["ledger"],"exp":{exp},"jti":"{number}"}}"#).as_bytes());
+    format!("{header}.{payload}.{}", base64(signature))
+}
+
+/// A good token of this number.
+fn fresh(number: usize) -> String {
+    signed(number, GOOD)
+}
+
+/// A number that no other token has.
+fn another() -> usize {
+    static NUMBER: AtomicUsize = AtomicUsize::new(1_000_000);
+    NUMBER.fetch_add(1, Ordering::Relaxed)
+}
+
+/// Takes one signature for good, after it has done what a test wants.
+struct By<F>(F);
+
+impl<F: Fn()> Verify for By<F> {
+    fn verify(&self, _: &Candidate<'_>, _: &[u8], signature: &[u8]) -> Result<bool, Unverified> {
+        (self.0)();
+        Ok(signature == GOOD)
+    }
+}
+
+type Plain = Guard<By<fn()>>;
+
+fn bundles() -> Vec<u8> {
+    std::fs::read(top().join("examples/bundles.json")).expect("the bundles of the examples")
+}
+
+fn plain() -> By<fn()> {
+    By(|| {})
+}
+
+fn opened(options: &Options) -> Arc<Plain> {
+    verifying(options, plain())
+}
+
+fn verifying<F: Fn()>(options: &Options, verifier: By<F>) -> Arc<Guard<By<F>>> {
+    Arc::new(Guard::open(options, &bundles(), verifier).expect("it opens"))
+}
+
+fn kept(options: &Options, journal: Journal) -> Arc<Plain> {
+    Arc::new(Guard::with_journal(options, &bundles(), plain(), journal).expect("it opens"))
+}
+
+fn at(room: &Room) -> Journal {
+    Journal::open(&room.0).expect("nobody has it")
+}
+
+fn strict(store: &Arc<impl Store + 'static>) -> Options {
+    ledger().mode(Mode::Strict).store(Arc::clone(store) as Arc<dyn Store>)
+}
+
+fn bound(store: &Arc<impl Store + 'static>) -> Options {
+    ledger().mode(Mode::Bound).store(Arc::clone(store) as Arc<dyn Store>)
+}
+
+fn memory() -> MemoryStore {
+    MemoryStore::new().clock(time)
+}
+
+/// What a check comes to, in a word.
+fn word<T>(answer: Result<T, Error>) -> String {
+    match answer {
+        Ok(_) => "accepted".to_owned(),
+        Err(Error::Refused(why)) => why.name().to_owned(),
+        Err(Error::Unavailable(_)) => "Unavailable".to_owned(),
+        Err(why) => format!("{why:?}"),
+    }
+}
+
+/// What a check comes to. It is made in a thread of its own, for which nobody waits without an end.
+fn check<F: Fn() + Send + Sync + 'static>(guard: &Arc<Guard<By<F>>>, token: &str) -> String {
+    answer(soon(guard, token))
+}
+
+fn soon<F: Fn() + Send + Sync + 'static>(guard: &Arc<Guard<By<F>>>, token: &str) -> JoinHandle<String> {
+    let (guard, token) = (Arc::clone(guard), token.to_owned());
+    thread::spawn(move || {
+        let answer = guard.check_at(time(), token);
+        if let Ok(it) = &answer {
+            assert_eq!((it.spiffe_id(), it.expires()), (SUBJECT, time() + 600));
+        }
+        word(answer)
+    })
+}
+
+/// Why a check is not accepted, in words.
+fn words_of(guard: &Arc<Plain>, token: &str) -> String {
+    let (guard, token) = (Arc::clone(guard), token.to_owned());
+    answer(thread::spawn(move || guard.check_at(time(), token))).unwrap_err().to_string()
+}
+
+fn answer<T>(of: JoinHandle<T>) -> T {
+    until(|| of.is_finished());
+    of.join().expect("it does not panic")
+}
+
+fn uses<V>(guard: &Guard<V>) -> usize {
+    guard.validator().size().expect("it is open").uses
+}
+
+/// No request and no withdrawal is left behind.
+fn nothing_waits<V>(guard: &Guard<V>) -> bool {
+    guard.validator().core.waits() == 0
+}
+
+fn unready<V>(guard: &Guard<V>) -> String {
+    guard.unready_at(time()).map_or(String::new(), |why| why.to_string())
+}
+
+/// A withdrawal of the token of this number, which has the expiry of all.
+fn withdraw(guard: &Arc<Plain>, number: usize) -> Result<Use, Error> {
+    let (guard, key) = (Arc::clone(guard), Said::of(fresh(number)).expect("it is a token").key());
+    answer(thread::spawn(move || guard.withdraw_at(time(), key, time() + 600)))
+}
+
+/// A store whose calls do `before` what is put, and `after` it, as a test wants.
+struct Fickle {
+    store: MemoryStore,
+    puts: Mutex<Vec<Vec<Claim>>>,
+    before: Mutex<Arc<Fault>>,
+    after: Mutex<Arc<Fault>>,
+}
+
+type Fault = dyn Fn() -> Result<(), StoreError> + Send + Sync;
+
+impl Fickle {
+    fn new() -> Arc<Fickle> {
+        Fickle::over(memory())
+    }
+
+    fn over(store: MemoryStore) -> Arc<Fickle> {
+        let nothing = || Mutex::new(Arc::new(|| Ok(())) as Arc<Fault>);
+        Arc::new(Fickle { store, puts: Mutex::default(), before: nothing(), after: nothing() })
+    }
+
+    fn before(&self, fault: impl Fn() -> Result<(), StoreError> + Send + Sync + 'static) {
+        *self.before.lock().unwrap() = Arc::new(fault);
+    }
+
+    fn after(&self, fault: impl Fn() -> Result<(), StoreError> + Send + Sync + 'static) {
+        *self.after.lock().unwrap() = Arc::new(fault);
+    }
+
+    fn is_well(&self) {
+        self.before(|| Ok(()));
+        self.after(|| Ok(()));
+    }
+
+    /// How many claims each call had.
+    fn counts(&self) -> Vec<usize> {
+        self.puts.lock().unwrap().iter().map(Vec::len).collect()
+    }
+
+    /// The store answers nothing until the returned flag is set.
+    fn hold(&self) -> Arc<AtomicBool> {
+        let go = Arc::new(AtomicBool::new(false));
+        let waits = Arc::clone(&go);
+        self.before(move || {
+            held(&waits);
+            Ok(())
+        });
+        go
+    }
+}
+
+impl Store for Fickle {
+    fn put(&self, claims: &[Claim]) -> Result<Vec<Found>, StoreError> {
+        if !claims.is_empty() {
+            self.puts.lock().unwrap().push(claims.to_vec());
+        }
+        let (before, after) = (Arc::clone(&self.before.lock().unwrap()), Arc::clone(&self.after.lock().unwrap()));
+        before()?;
+        let found = self.store.put(claims)?;
+        after().map(|()| found)
+    }
+
+    fn withdraw(&self, key: TokenKey, expires: u64) -> Result<(), StoreError> {
+        let before = Arc::clone(&self.before.lock().unwrap());
+        before()?;
+        self.store.withdraw(key, expires)
+    }
+}
+
+fn away() -> Result<(), StoreError> {
+    Err("the store is away".into())
+}
+
+/// What a check comes to, once it is not too late: a wait may be short for a busy machine.
+fn in_time(guard: &Arc<Plain>, token: &str) -> String {
+    let mut said = String::new();
+    until(|| {
+        said = check(guard, token);
+        said != "Unavailable"
+    });
+    said
+}
+
+/// Hears what a guard warns of.
+fn hearing(options: Options) -> (Options, Arc<Mutex<Vec<String>>>) {
+    let heard = Arc::new(Mutex::new(Vec::new()));
+    let hears = Arc::clone(&heard);
+    (options.warns(move |what: &dyn Display| hears.lock().unwrap().push(what.to_string())), heard)
+}
+
+// -- Modes
+
+#[test]
+fn once_over_restarts() {
+    let room = Room::new("restarts");
+    for said in ["accepted", "Replayed", "Replayed"] {
+        assert_eq!(check(&kept(&ledger(), at(&room)), &fresh(1)), said);
+    }
+}
+
+#[test]
+fn a_token_that_may_come_again() {
+    let guard = opened(&ledger().mode(Mode::Reuse));
+    for _ in 0..3 {
+        assert_eq!(check(&guard, &fresh(1)), "accepted");
+    }
+    assert_eq!(uses(&guard), 0);
+    assert!(withdraw(&guard, 1).expect("it has not expired").withdrawn);
+    assert_eq!(check(&guard, &fresh(1)), "Withdrawn");
+}
+
+#[test]
+fn options_that_cannot_be() {
+    let store = Arc::new(memory());
+    let patterns = |of: &[&str]| ledger().callers(of.iter().copied());
+    let rows = [
+        (ledger().mode(Mode::Strict), OptionsFault::Store),
+        (ledger().mode(Mode::Bound), OptionsFault::Store),
+        (ledger().store(store.clone()), OptionsFault::Store),
+        (ledger().mode(Mode::Reuse).store(store.clone()), OptionsFault::Store),
+        (ledger().wait(Duration::from_micros(999)), OptionsFault::Wait),
+        (patterns(&[]), OptionsFault::Callers),
+        (patterns(&["spiffe://example.org", "*"]), OptionsFault::Caller { number: 1, fault: PatternFault::Scheme }),
+        (patterns(&["spiffe://a\nspiffe://b"]), OptionsFault::Caller { number: 0, fault: PatternFault::DomainByte }),
+        (Options::new(["ledger", "a\nb"]).callers([SUBJECT]), OptionsFault::Audience),
+        (Options::new(["ledger", ""]).callers([SUBJECT]), OptionsFault::Audience),
+    ];
+    for (options, why) in rows {
+        assert_eq!(Guard::open(&options, &bundles(), plain()).map(drop), Err(Error::Options(why)));
+        assert!(why.to_string().contains(": "), "it says what to do");
+    }
+    let start = LogStart::of_empty_log(1);
+    for options in [ledger().mode(Mode::Reuse), strict(&store), patterns(&[SUBJECT])] {
+        assert_eq!(Validator::open(&options, b"{}").map(drop), Err(Error::Options(OptionsFault::Guard)));
+        assert_eq!(Member::open(&options, b"{}", &start).map(drop), Err(Error::Options(OptionsFault::Guard)));
+    }
+}
+
+/// Nobody accepts a token beside the member.
+#[test]
+fn a_guard_alone_checks_what_it_guards() {
+    let (store, room) = (Arc::new(memory()), Room::new("guarded"));
+    let guards = [
+        opened(&strict(&store)),
+        opened(&ledger().mode(Mode::Reuse)),
+        opened(&ledger().callers(["spiffe://example.com"])),
+        kept(&ledger(), at(&room)),
+    ];
+    for guard in &guards {
+        let answer = guard.validator().check(time(), fresh(1), &plain());
+        assert_eq!(answer, Err(Error::Options(OptionsFault::Guarded)));
+        assert!(guard.validator().judge(time(), fresh(1), &plain()).is_ok());
+    }
+    assert!(opened(&ledger()).validator().check(time(), fresh(1), &plain()).is_ok());
+}
+
+#[test]
+fn one_of_many_threads_is_accepted() {
+    let store = Fickle::new();
+    let guard = opened(&strict(&store).wait(LONG));
+    let go = store.hold();
+    let calls: Vec<_> = (0..THREADS).map(|_| soon(&guard, &fresh(1))).collect();
+    until(|| !store.counts().is_empty() && guard.validator().core.waits() == THREADS);
+    go.store(true, Ordering::Release);
+    let said: Vec<_> = calls.into_iter().map(answer).collect();
+    assert_eq!(said.iter().filter(|it| *it == "accepted").count(), 1, "{said:?}");
+    assert_eq!(said.iter().filter(|it| *it == "Replayed").count(), THREADS - 1, "{said:?}");
+    assert_eq!(store.counts(), [1], "the others wait for the answer to that");
+    assert_eq!(uses(&guard), 1);
+    assert!(nothing_waits(&guard));
+}
+
+#[test]
+fn validators_of_one_store() {
+    let store = Arc::new(memory());
+    let guards = [(); 2].map(|()| opened(&strict(&store).wait(LONG)));
+    let calls: Vec<_> = (0..80).map(|it| soon(&guards[it % 2], &fresh(it / 4))).collect();
+    let said: Vec<_> = calls.into_iter().map(answer).collect();
+    for four in said.chunks(4) {
+        assert_eq!(four.iter().filter(|it| *it == "accepted").count(), 1, "{said:?}");
+        assert_eq!(four.iter().filter(|it| *it == "Replayed").count(), 3, "{said:?}");
+    }
+}
+
+/// Calls fail before or after they are made, or take long: no token is accepted twice.
+#[test]
+fn a_store_that_fails_now_and_then() {
+    let (store, seed) = (Fickle::new(), RandomState::new());
+    let count = Arc::new(AtomicU64::new(0));
+    let fault = move || {
+        let mut hasher = seed.build_hasher();
+        hasher.write_u64(count.fetch_add(1, Ordering::Relaxed));
+        match hasher.finish() % 8 {
+            0 | 1 => away(),
+            2 => {
+                thread::sleep(Duration::from_millis(30));
+                Ok(())
+            }
+            _ => Ok(()),
+        }
+    };
+    let fault = Arc::new(fault);
+    let (before, after) = (Arc::clone(&fault), fault);
+    let guards = [(); 2].map(|()| opened(&strict(&store).wait(Duration::from_millis(50))));
+    store.before(move || before());
+    store.after(move || after());
+    let works: Vec<_> = (0..8)
+        .map(|number| {
+            let guard = Arc::clone(&guards[number % 2]);
+            thread::spawn(move || (0..40).map(|it| (it + 5 * number) % 40).map(|it| (it, check(&guard, &fresh(it)))).collect::<Vec<_>>())
+        })
+        .collect();
+    let said: Vec<_> = works.into_iter().flat_map(answer).collect();
+    let mut won: Vec<_> = said.iter().filter(|it| it.1 == "accepted").map(|it| it.0).collect();
+    assert!(said.iter().all(|it| ["accepted", "Replayed", "Unavailable"].contains(&it.1.as_str())), "{said:?}");
+    let count = won.len();
+    won.sort_unstable();
+    won.dedup();
+    assert!(won.len() == count && count > 0, "{said:?}");
+    assert!(guards.iter().all(|it| nothing_waits(it)));
+}
+
+/// A restart does not take the claims of the life before for its own.
+#[test]
+fn each_life_has_claims_of_its_own() {
+    let store = Arc::new(memory());
+    for said in ["accepted", "Replayed"] {
+        assert_eq!(check(&opened(&strict(&store).validator_id(ValidatorId([7; 16]))), &fresh(1)), said);
+    }
+}
+
+#[test]
+fn a_store_and_a_state_folder() {
+    let room = Room::new("both");
+    let guard = kept(&strict(&Arc::new(memory())), at(&room));
+    assert_eq!(check(&guard, &fresh(1)), "accepted");
+    withdraw(&guard, 2).expect("both are well");
+    drop(guard);
+    let guard = kept(&strict(&Arc::new(memory())), at(&room));
+    assert_eq!(check(&guard, &fresh(2)), "Withdrawn");
+}
+
+#[test]
+fn a_token_is_bound_to_its_caller() {
+    let store = Arc::new(memory());
+    let (one, other) = (opened(&bound(&store)), opened(&bound(&store)));
+    let (owner, thief) = (Caller([1; 32]), Caller([2; 32]));
+    for guard in [&one, &other, &one] {
+        assert_eq!(word(guard.check_from_at(time(), owner, fresh(1))), "accepted");
+        assert_eq!(word(guard.check_from_at(time(), thief, fresh(1))), "Replayed");
+    }
+    withdraw(&one, 1).expect("the store is well");
+    for guard in [&one, &other] {
+        assert_eq!(word(guard.check_from_at(time(), owner, fresh(1))), "Withdrawn");
+    }
+}
+
+/// That of the other packages, from Python's hashlib.sha256(b"192.0.2.1").
+#[test]
+#[cfg(any(feature = "openssl", feature = "ring"))]
+fn a_caller_is_a_digest() {
+    assert_eq!(hex(&Caller::of("192.0.2.1").0), "37fcff24bf62035b2b08020afc08b4fecd4fcffce57ab23518e3561ff0fe76b9");
+}
+
+#[test]
+fn a_caller_is_given_in_mode_bound_alone() {
+    let (store, presenter) = (Arc::new(memory()), Error::Options(OptionsFault::Presenter));
+    assert_eq!(opened(&bound(&store)).check_at(time(), fresh(1)), Err(presenter));
+    for options in [ledger(), strict(&store), ledger().mode(Mode::Reuse)] {
+        assert_eq!(opened(&options).check_from_at(time(), Caller([1; 32]), fresh(1)), Err(presenter));
+    }
+}
+
+// -- The store
+
+#[test]
+fn a_store_that_answers_late() {
+    let store = Fickle::new();
+    let guard = opened(&strict(&store).wait(SHORT));
+    let go = store.hold();
+    assert_eq!(check(&guard, &fresh(1)), "Unavailable");
+    assert!(nothing_waits(&guard));
+    store.is_well();
+    go.store(true, Ordering::Release);
+    // (the claim is of this life, so the token is not lost)
+    assert_eq!(in_time(&guard, &fresh(1)), "accepted");
+    assert_eq!(in_time(&guard, &fresh(1)), "Replayed");
+}
+
+#[test]
+fn a_store_that_never_answers() {
+    let store = Fickle::new();
+    let (options, heard) = hearing(strict(&store).wait(SHORT));
+    let guard = opened(&options);
+    until(|| unready(&guard).is_empty());
+    store.before(away);
+    for _ in 0..2 {
+        assert_eq!(check(&guard, &fresh(1)), "Unavailable");
+    }
+    assert!(heard.lock().unwrap().contains(&"the group's store does not answer: the store is away".to_owned()));
+    assert!(store.counts().len() > 2, "the claim is put again and again");
+    store.is_well();
+    assert_eq!(in_time(&guard, &fresh(1)), "accepted");
+    assert!(nothing_waits(&guard));
+}
+
+/// The same claim is put again, and finds its own entry.
+#[test]
+fn an_answer_that_is_lost() {
+    let (store, fails) = (Fickle::new(), AtomicBool::new(true));
+    let guard = opened(&strict(&store).wait(LONG));
+    store.after(move || if fails.swap(false, Ordering::Relaxed) { away() } else { Ok(()) });
+    assert_eq!(check(&guard, &fresh(1)), "accepted");
+    assert_eq!(store.counts(), [1, 1]);
+    let puts = store.puts.lock().unwrap().clone();
+    assert_eq!(puts[0], puts[1]);
+    assert_eq!(check(&guard, &fresh(1)), "Replayed");
+}
+
+/// Nothing comes of it.
+#[test]
+fn an_answer_that_comes_again() {
+    let store = Fickle::new();
+    let guard = opened(&strict(&store).wait(LONG));
+    let go = store.hold();
+    let call = soon(&guard, &fresh(1));
+    until(|| !store.counts().is_empty());
+    let claim = store.puts.lock().unwrap()[0][0];
+    let found = Found { owner: claim.owner, time: time(), deaf: 0 };
+    let again = || (0..4).for_each(|number| guard.requests.found(number, &found));
+    again();
+    again();
+    assert_eq!(answer(call), "accepted");
+    go.store(true, Ordering::Release);
+    again();
+    assert_eq!(check(&guard, &fresh(1)), "Replayed");
+    again();
+    assert_eq!(uses(&guard), 1);
+    assert!(nothing_waits(&guard));
+}
+
+type Answer = Result<Vec<Found>, StoreError>;
+
+/// A store that answers what a test makes of good answers.
+struct Theirs(Box<dyn Fn(Vec<Found>) -> Answer + Send + Sync>);
+
+impl Store for Theirs {
+    fn put(&self, claims: &[Claim]) -> Result<Vec<Found>, StoreError> {
+        (self.0)(claims.iter().map(|it| Found { owner: it.owner, time: time(), deaf: 0 }).collect())
+    }
+
+    fn withdraw(&self, _: TokenKey, _: u64) -> Result<(), StoreError> {
+        std::panic::panic_any("a test")
+    }
+}
+
+#[test]
+fn an_entry_of_another_owner() {
+    for (owner, said, count) in [([7; 32], "Replayed", 0), (WITHDRAWN, "Withdrawn", 1)] {
+        let theirs = Theirs(Box::new(move |found| Ok(found.into_iter().map(|it| Found { owner, ..it }).collect())));
+        let guard = opened(&strict(&Arc::new(theirs)).wait(LONG));
+        assert_eq!(check(&guard, &fresh(1)), said);
+        assert_eq!(uses(&guard), count);
+    }
+}
+
+/// It counts as no answer: the claim is put again.
+#[test]
+fn an_answer_that_is_none() {
+    let wrongs: [fn(Vec<Found>) -> Answer; 3] =
+        [|_| Ok(Vec::new()), |it| Ok([&it[..], &it[..]].concat()), |_| std::panic::panic_any("a test")];
+    for wrong in wrongs {
+        let count = Arc::new(AtomicUsize::new(0));
+        let counts = Arc::clone(&count);
+        let theirs = Theirs(Box::new(move |found| {
+            if found.is_empty() || counts.load(Ordering::Relaxed) == 2 {
+                return Ok(found);
+            }
+            counts.fetch_add(1, Ordering::Relaxed);
+            wrong(found)
+        }));
+        let guard = opened(&strict(&Arc::new(theirs)).wait(LONG));
+        assert_eq!(check(&guard, &fresh(1)), "accepted");
+        assert_eq!(count.load(Ordering::Relaxed), 2);
+        // (a panic of a withdrawal says that the store may not have it)
+        assert_eq!(word(withdraw(&guard, 2)), "Unavailable");
+    }
+}
+
+#[test]
+fn many_claims_share_a_call() {
+    let store = Fickle::new();
+    let guard = opened(&strict(&store).wait(LONG));
+    let claims = guard.requests.claims.as_ref().expect("it has a store");
+    claims.let_be_under_way(64); // (as many as may be)
+    let count = 300;
+    let calls: Vec<_> = (0..count).map(|it| soon(&guard, &fresh(it))).collect();
+    until(|| claims.waiting() == count);
+    claims.let_be_under_way(0);
+    assert!(calls.into_iter().map(answer).all(|it| it == "accepted"));
+    let mut counts = store.counts();
+    counts.sort_unstable();
+    assert_eq!(counts, [44, 256]);
+}
+
+#[test]
+fn a_call_that_hangs_does_not_hold_up_the_others() {
+    let store = Fickle::new();
+    let guard = opened(&strict(&store).wait(LONG));
+    let go = store.hold();
+    let first = soon(&guard, &fresh(1));
+    until(|| !store.counts().is_empty());
+    store.is_well();
+    for _ in 0..3 {
+        assert_eq!(answer(soon(&guard, &fresh(another()))), "accepted");
+    }
+    assert!(!first.is_finished());
+    go.store(true, Ordering::Release);
+    assert_eq!(answer(first), "accepted");
+}
+
+/// Nobody would get the answer, and the token would be lost.
+#[test]
+fn a_claim_that_is_late_is_not_put() {
+    let store = Fickle::new();
+    let guard = opened(&strict(&store).wait(SHORT));
+    let claims = guard.requests.claims.as_ref().expect("it has a store");
+    claims.let_be_under_way(64);
+    assert_eq!(check(&guard, &fresh(1)), "Unavailable");
+    claims.let_be_under_way(0);
+    until(|| check(&guard, &fresh(another())) == "accepted");
+    let late = Said::of(fresh(1)).expect("it is a token").key();
+    assert!(store.puts.lock().unwrap().iter().flatten().all(|it| it.key != late));
+}
+
+#[test]
+fn a_store_that_has_lost_entries() {
+    let store = Arc::new(memory().lasts(3620));
+    let guard = opened(&strict(&store).longest(3600));
+    assert_eq!(check(&guard, &fresh(1)), "accepted");
+    assert_eq!(unready(&guard), "");
+    store.lose();
+    let why = words_of(&guard, &fresh(2));
+    assert!(why.contains("before the store lost entries"), "{why}");
+    assert!(unready(&guard).starts_with("the store has lost entries"));
+    assert_eq!(guard.unready_at(time() + 60), None);
+}
+
+#[test]
+fn a_token_that_lives_longer_than_the_store_keeps_it() {
+    let store = Arc::new(MemoryStore::new().clock(|| time() - 3600));
+    let why = words_of(&opened(&strict(&store).longest(3600)), &fresh(1));
+    assert!(why.contains("lasts seconds past the store's time"), "{why}");
+}
+
+#[test]
+fn the_memory_of_a_store() {
+    let clock = Arc::new(AtomicU64::new(1000));
+    let time = Arc::clone(&clock);
+    let store = MemoryStore::new().clock(move || time.load(Ordering::Relaxed)).margin(10).lasts(100);
+    let claim = |key, owner, expires| Claim { key: TokenKey([key; 32]), owner: [owner; 32], expires };
+    let found = |owner, time, deaf| Found { owner: [owner; 32], time, deaf };
+    let put = |claims: &[Claim]| store.put(claims).expect("there is memory");
+    let (mine, theirs) = (claim(1, 1, 1050), claim(1, 2, 1050));
+    assert_eq!(put(&[]), []);
+    assert_eq!(put(&[mine, theirs, mine]), [found(1, 1000, 0); 3]);
+    clock.store(1059, Ordering::Relaxed);
+    assert_eq!(put(&[theirs]), [found(1, 1059, 0)]);
+    clock.store(1060, Ordering::Relaxed);
+    assert_eq!(put(&[theirs]), [found(2, 1060, 0)]);
+    put(&[claim(2, 1, 1200)]);
+    store.withdraw(TokenKey([2; 32]), 1100).expect("there is memory");
+    clock.store(1209, Ordering::Relaxed);
+    assert_eq!(put(&[claim(2, 2, 1050)]), [found(0, 1209, 0)]);
+    store.lose();
+    assert_eq!(put(&[claim(2, 2, 1050)]), [found(2, 1209, 1309)]);
+}
+
+// -- Withdrawals
+
+#[test]
+fn a_withdrawal_reaches_the_other_validators() {
+    let store = Arc::new(memory());
+    let (one, other) = (opened(&strict(&store)), opened(&strict(&store)));
+    assert!(withdraw(&one, 1).expect("the store is well").withdrawn);
+    for guard in [&one, &other, &other] {
+        assert_eq!(check(guard, &fresh(1)), "Withdrawn");
+    }
+    assert_eq!(uses(&other), 1);
+    assert!(nothing_waits(&one));
+}
+
+#[test]
+fn a_withdrawal_that_the_store_may_not_have() {
+    let store = Fickle::new();
+    let guard = opened(&strict(&store).wait(SHORT));
+    store.before(away);
+    let why = withdraw(&guard, 1).unwrap_err();
+    assert!(why.to_string().ends_with(": withdraw it again"), "{why}");
+    let go = store.hold();
+    assert_eq!(word(withdraw(&guard, 1)), "Unavailable");
+    store.is_well();
+    go.store(true, Ordering::Release);
+    assert_eq!(in_time(&guard, &fresh(1)), "Withdrawn");
+    until(|| withdraw(&guard, 1).is_ok());
+    assert!(nothing_waits(&guard));
+}
+
+#[test]
+fn a_withdrawal_that_the_disk_may_not_have() {
+    let room = Room::new("withdrawal");
+    let (journal, faults) = Journal::failing(&room.0);
+    let guard = kept(&ledger(), journal);
+    faults.let_fail(&["write"]);
+    assert_eq!(word(withdraw(&guard, 1)), "Unavailable");
+    withdraw(&guard, 1).expect("the disk is well");
+    assert!(nothing_waits(&guard));
+    drop(guard);
+    assert_eq!(check(&kept(&ledger(), at(&room)), &fresh(1)), "Withdrawn");
+}
+
+// -- Callers
+
+#[test]
+fn callers() {
+    let store = Arc::new(memory());
+    for options in [ledger(), ledger().mode(Mode::Reuse), strict(&store)] {
+        let closed = opened(&options.clone().callers(["spiffe://example.org/other", "spiffe://example.com"]));
+        for _ in 0..2 {
+            assert_eq!(closed.check_at(time(), fresh(1)), Err(Error::NotAllowed));
+            assert_eq!(check(&closed, &signed(1, b"a bad signature")), "BadSignature");
+        }
+        assert_eq!(uses(&closed), 0);
+        assert!(nothing_waits(&closed));
+        assert_eq!(
+            check(&opened(&options.clone().callers(["spiffe://example.com", "spiffe://example.org/billing/*"])), &fresh(another())),
+            "accepted"
+        );
+        assert_eq!(check(&opened(&options), &fresh(another())), "accepted");
+    }
+}
+
+// -- Deadlines
+
+/// The token is not used up: it was not judged in time.
+#[test]
+fn a_verifier_that_takes_too_long() {
+    let slow = Arc::new(AtomicBool::new(true));
+    let is_slow = Arc::clone(&slow);
+    let begun = Instant::now();
+    let verifier = By(move || until(|| !is_slow.load(Ordering::Acquire) || begun.elapsed() > 3 * SHORT));
+    let guard = verifying(&ledger().wait(SHORT), verifier);
+    assert_eq!(check(&guard, &fresh(1)), "Unavailable");
+    assert_eq!(uses(&guard), 0);
+    assert!(nothing_waits(&guard));
+    slow.store(false, Ordering::Release);
+    until(|| check(&guard, &fresh(1)) == "accepted");
+}
+
+#[test]
+fn those_that_wait_are_late_one_by_one() {
+    let store = Fickle::new();
+    let guard = opened(&strict(&store).wait(SHORT));
+    let go = store.hold();
+    let calls: Vec<_> = (0..8).map(|it| soon(&guard, &fresh(it % 4))).collect();
+    assert!(calls.into_iter().map(answer).all(|it| it == "Unavailable"));
+    assert!(nothing_waits(&guard));
+    go.store(true, Ordering::Release);
+}
+
+/// No thread waits for the lock while another one verifies.
+#[test]
+fn a_slow_verifier_holds_up_nobody() {
+    let (is_first, go) = (AtomicBool::new(true), Arc::new(AtomicBool::new(false)));
+    let (begun, goes) = (Arc::new(AtomicBool::new(false)), Arc::clone(&go));
+    let begins = Arc::clone(&begun);
+    let verifier = By(move || {
+        if is_first.swap(false, Ordering::Relaxed) {
+            begins.store(true, Ordering::Release);
+            held(&goes);
+        }
+    });
+    let guard = verifying(&ledger().wait(LONG), verifier);
+    let first = soon(&guard, &fresh(1));
+    until(|| begun.load(Ordering::Acquire));
+    assert_eq!(check(&guard, &fresh(2)), "accepted");
+    go.store(true, Ordering::Release);
+    assert_eq!(answer(first), "accepted");
+}
+
+/// It is asked about right before it goes out.
+#[test]
+fn a_claim_of_who_does_not_know_yet_that_it_is_late() {
+    let (guard, token) = (opened(&strict(&Arc::new(memory())).wait(Duration::from_secs(2))), fresh(1));
+    until(|| unready(&guard).is_empty());
+    let requests = &guard.requests;
+    let mut read = OpenToken::read(token.as_bytes()).expect("it is a token");
+    let mut validator = guard.validator();
+    let (core, up) = (&mut validator.core, requests.clock.up());
+    let number = core.come(up, [0; 32]).expect("it judges");
+    let len = core.keys_of(&mut read).expect("there is memory");
+    read.look(len, &plain()).expect("there is memory");
+    core.judge_request(time(), up, number, &mut read, None).expect("it is judged");
+    let used = match core.step(up, number) {
+        Ok(Some(Step::Deed(deed))) if deed.what == ffi::DEED_CLAIM => deed.used,
+        _ => panic!("no claim is due"),
+    };
+    let at = core.due().expect("it is open");
+    drop(validator);
+    let due = Due { number, used };
+    assert!(requests.send(&due).is_some());
+    until(|| requests.clock.up() >= at);
+    assert!(requests.send(&due).is_none());
+    assert!(matches!(guard.validator().core.step(at, number), Ok(Some(Step::Deed(deed))) if deed.status() == ffi::LATE));
+    assert!(nothing_waits(&guard));
+}
+
+/// Who waits behind a request that ends by a panic has its turn.
+#[test]
+fn a_panic_leaves_nobody_behind() {
+    let (store, asked) = (Fickle::new(), AtomicUsize::new(0));
+    let verifier = By(move || {
+        if asked.fetch_add(1, Ordering::Relaxed) == 0 {
+            std::panic::panic_any("a test");
+        }
+    });
+    let guard = verifying(&strict(&store).wait(LONG), verifier);
+    assert!(soon(&guard, &fresh(1)).join().is_err());
+    assert!(nothing_waits(&guard));
+    assert_eq!(guard.validator().core.due(), Ok(u64::MAX));
+    assert_eq!(answer(soon(&guard, &fresh(1))), "accepted");
+}
+
+/// Nobody waits for a store that hangs.
+#[test]
+fn a_guard_that_is_dropped_ends_its_threads() {
+    let store = Fickle::new();
+    let guard = opened(&strict(&store));
+    assert_eq!(check(&guard, &fresh(1)), "accepted");
+    let go = store.hold();
+    assert!(guard.validator().core.waits() == 0);
+    drop(guard);
+    go.store(true, Ordering::Release);
+    until(|| Arc::strong_count(&store) == 1);
+}
+
+// -- Readiness
+
+#[test]
+fn a_disk_that_fails() {
+    let room = Room::new("fails");
+    let (journal, faults) = Journal::failing(&room.0);
+    let (options, heard) = hearing(ledger());
+    let guard = kept(&options, journal);
+    assert_eq!(unready(&guard), "");
+    faults.let_fail(&["write", "write"]);
+    assert_eq!(words_of(&guard, &fresh(1)), "the state folder did not take the acceptance: mend the disk");
+    assert!(heard.lock().unwrap()[0].starts_with("the state folder did not keep an entry: "));
+    assert_eq!(unready(&guard), KEEPS_NOTHING);
+    until(|| unready(&guard).is_empty()); // (each look tries to keep that use)
+    assert_eq!(check(&guard, &fresh(2)), "accepted");
+    assert_eq!(check(&guard, &fresh(1)), "Replayed");
+    drop(guard);
+    assert_eq!(uses(&kept(&ledger(), at(&room))), 2);
+}
+
+/// It ends neither what writes to the disk nor what puts claims.
+#[test]
+fn who_is_warned_may_panic() {
+    let (room, store) = (Room::new("warned"), Fickle::new());
+    let (journal, faults) = Journal::failing(&room.0);
+    let guard = kept(&strict(&store).wait(LONG).warns(|_| std::panic::panic_any("a test")), journal);
+    faults.let_fail(&["write"]);
+    assert_eq!(word(withdraw(&guard, 1)), "Unavailable");
+    withdraw(&guard, 1).expect("the disk is well");
+    let fails = AtomicUsize::new(3);
+    store.after(move || fails.fetch_update(Ordering::Relaxed, Ordering::Relaxed, |it| it.checked_sub(1)).map_or(Ok(()), |_| away()));
+    assert_eq!(check(&guard, &fresh(2)), "accepted");
+}
+
+#[test]
+fn a_disk_that_hangs() {
+    let (room, goes) = (Room::new("hangs"), Arc::new(AtomicBool::new(true)));
+    let (journal, go) = (at(&room), Arc::clone(&goes));
+    journal.bear(move || {
+        held(&go);
+        None
+    });
+    let guard = kept(&ledger().wait(SHORT), journal);
+    goes.store(false, Ordering::Release);
+    until(|| {
+        assert_eq!(check(&guard, &fresh(another())), "Unavailable");
+        unready(&guard) == KEEPS_NOTHING
+    });
+    assert!(nothing_waits(&guard));
+    goes.store(true, Ordering::Release);
+    until(|| unready(&guard).is_empty());
+    until(|| check(&guard, &fresh(another())) == "accepted");
+}
+
+#[test]
+fn a_store_that_is_not_there_yet() {
+    let store = Fickle::new();
+    store.before(away);
+    let (options, heard) = hearing(strict(&store).wait(SHORT));
+    let guard = opened(&options);
+    let due = "the group's store was not reached yet";
+    assert_eq!(unready(&guard), due);
+    assert_eq!(words_of(&guard, &fresh(1)), due);
+    assert!(store.counts().is_empty());
+    assert_eq!(heard.lock().unwrap().first().map(String::as_str), Some("the group's store does not answer: the store is away"));
+    store.is_well();
+    until(|| unready(&guard).is_empty());
+    assert_eq!(in_time(&guard, &fresh(1)), "accepted");
+}
+
+#[test]
+fn a_store_that_goes_away() {
+    let store = Fickle::new();
+    let guard = opened(&strict(&store).wait(SHORT));
+    until(|| unready(&guard).is_empty());
+    store.before(away);
+    assert_eq!(check(&guard, &fresh(1)), "Unavailable");
+    until(|| unready(&guard).starts_with("the group's store does not answer"));
+    store.is_well();
+    until(|| unready(&guard).is_empty()); // (each look asks the store)
+}
+
+#[test]
+fn a_clock_that_jumps() {
+    let guard = opened(&ledger().step(3600));
+    assert_eq!(guard.unready_at(time()), None);
+    let why = guard.unready_at(time() + 7200).expect("it is not ready");
+    assert_eq!(why.to_string(), "the clock went ahead too far at once: set the clock right");
+    assert_eq!(guard.unready_at(time()), None);
+}
+
+/// A key that is gone by then lets nobody in.
+#[test]
+fn renewed_bundles_count_for_who_waits() {
+    let store = Fickle::new();
+    let guard = opened(&strict(&store).wait(LONG));
+    let go = store.hold();
+    let calls: Vec<_> = (0..2).map(|_| soon(&guard, &fresh(1))).collect();
+    until(|| !store.counts().is_empty() && guard.validator().core.waits() == 2);
+    guard.renew(br#"{"example.org":{"keys":[]}}"#).expect("they are good");
+    go.store(true, Ordering::Release);
+    assert!(calls.into_iter().map(answer).all(|it| it == "NoKey"));
+}
+
+/// A key that is spelt otherwise by then lets its tokens in.
+#[test]
+fn keys_are_looked_for_again_in_renewed_bundles() {
+    let store = Fickle::new();
+    let guard = opened(&strict(&store).wait(LONG));
+    let go = store.hold();
+    let call = soon(&guard, &fresh(1));
+    until(|| !store.counts().is_empty());
+    let text = String::from_utf8(bundles()).expect("a text");
+    guard.renew(text.replace("\"ec-1\"", "\"ec-1\", \"alg\": \"ES256\"").as_bytes()).expect("they are good");
+    go.store(true, Ordering::Release);
+    assert_eq!(answer(call), "accepted");
+}
+
+// -- Answers to requests, and snapshots
+
+#[test]
+fn answers_to_requests() {
+    let store = Fickle::new();
+    let guard = opened(&strict(&store).wait(LONG).callers(["spiffe://example.org"]));
+    let header = |token: String| [format!("Bearer {token}")];
+    assert!(guard.admit(&header(fresh(1))).is_ok());
+    assert_eq!(guard.admit(&header(fresh(1))).unwrap_err(), Denied::Refused(Refusal::Replayed));
+    store.before(away);
+    let denied = opened(&strict(&store).wait(SHORT)).admit(&header(fresh(2))).unwrap_err();
+    assert_eq!((denied.status(), denied.challenge()), (503, None));
+    let denied = guard.admit_from(|| Caller([0; 32]), &header(fresh(2))).unwrap_err();
+    assert_eq!(denied, Denied::Failed(Error::Options(OptionsFault::Presenter)));
+    let closed = opened(&ledger().callers(["spiffe://example.com"]));
+    assert_eq!(closed.admit(&header(fresh(1))).unwrap_err(), Denied::NotAllowed);
+    let guard = opened(&bound(&Arc::new(memory())));
+    for (caller, status) in [(1, 200), (2, 401), (1, 200)] {
+        let said = guard.admit_from(|| Caller([caller; 32]), &header(fresh(1)));
+        assert_eq!(said.map_or_else(|denied| denied.status(), |_| 200), status);
+    }
+}
+
+#[test]
+fn a_guard_takes_snapshots_by_itself() {
+    let room = Room::new("snapshots");
+    let guard = kept(&ledger(), at(&room));
+    assert!(room.0.join("snapshot").exists(), "one is taken at the start");
+    std::fs::remove_file(room.0.join("snapshot")).expect("it is there");
+    let journal = guard.journal.as_ref().expect("it has one");
+    assert_eq!(guard.validator().validator_id(), journal.validator_id());
+    until(|| {
+        journal.let_a_snapshot_be_due();
+        check(&guard, &fresh(another())) == "accepted" && room.0.join("snapshot").exists()
+    });
+    let count = uses(&guard);
+    drop(guard);
+    assert_eq!(uses(&kept(&ledger(), at(&room))), count);
+}
