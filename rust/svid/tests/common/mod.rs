@@ -83,9 +83,9 @@ pub fn limit_of(it: &Value) -> u64 {
     it.as_str().map_or(u64::MAX, |text| text.parse().expect("a number"))
 }
 
-/// The usual options of the vectors: the audience `ledger`.
+/// The usual options of the vectors: the audience `ledger`. A check may take as long as a busy machine wants.
 pub fn ledger() -> Options {
-    Options::new(["ledger"])
+    Options::new(["ledger"]).wait(std::time::Duration::from_secs(500))
 }
 
 /// The verdict of a check, in the words of the vectors.
