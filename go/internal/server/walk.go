@@ -45,12 +45,15 @@ type Request struct {
 	Key   *svid.Key // that made the signature; nil where none did
 	Fault error     // why nobody could find that out
 
-	recalled recalled // of mode reuse: what the engine had of the token
+	recalled recalled // of modes reuse and bound: what the engine had of the token
 
 	write *Write // of mode once
 
-	// Of mode strict.
-	Owner   svid.ValidatorID // whose claim the token is, where the answer is Replayed by the store; else zeros
+	Caller [32]byte // of mode bound: a digest of who presents the token
+	Other  bool     // of mode bound: the token is another caller's, so the answer is Replayed
+
+	// Of modes strict and bound.
+	Owner   svid.ValidatorID // in mode strict: whose claim the token is, where the answer is Replayed by the store; else zeros
 	claim   claims.Claim     // that was put, or waits for a call
 	patient bool             // it has no end but Options.Wait, so its goroutine may put the claim itself
 	fault   error            // what the store said last, where that was no answer
@@ -207,7 +210,8 @@ func (r *Request) ended(why error) error {
 // finish answers a request. What was read of its token is let go here, or by who verifies it still.
 //
 // In mode once the group is told now, without waiting: what does not reach it is repaired by summaries. In mode strict the use goes to the disk, where
-// there is one, and the answer does not wait for that: it is the store that makes the token unusable.
+// there is one, and the answer does not wait for that: it is the store that makes the token unusable. In modes bound and reuse there is no use: the token
+// may come again.
 func (m *Machine) finish(r *Request, err error) {
 	delete(m.requests, r.number)
 	switch {
@@ -220,6 +224,9 @@ func (m *Machine) finish(r *Request, err error) {
 	}
 	if r.stage == claiming {
 		m.count(err)
+	}
+	if r.Other {
+		m.metrics.OtherCaller.Add(1)
 	}
 	if r.stage != verifying {
 		r.read.Close()
