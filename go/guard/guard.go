@@ -87,7 +87,7 @@ type Options struct {
 	Bundles   []bundles.Spec // where the trust bundles come from: bundles.Parse, bundles.Folder, bundles.WorkloadAPI
 	Allow     []string       // patterns of the SPIFFE IDs that may call (svid.Allows); nil allows all, and an empty list is an error
 	Mode      Mode           // "" is Once, or Strict where Store is given
-	Caller    string         // in mode Bound: what names the caller of a request for Protect and Handler, as --caller of svidd has it (docs/SIDECAR-REFERENCE.md); "peer" is the address of the connection to Protect. "" where WithCaller alone says it
+	Caller    string         // in mode Bound: what names the caller of a request for Protect and Handler, as --caller of svidd has it (docs/SIDECAR-REFERENCE.md); "peer" is the address of the connection to Protect, and "principal" the first URI of the client's certificate there. "" where WithCaller alone says it
 	State     string         // the folder that keeps what was accepted over restarts; "" for none
 	Store     claims.Store   // the group's: of package claims/redis, claims/postgres or claims/nats, opened with Terms. In modes Strict and Bound each token is claimed there; in all but Strict withdrawals are read there. Close closes it
 	Log       carriers.Log   // of a group in mode Once: Options of package jetstream; nil without one
@@ -427,10 +427,18 @@ func (g *Guard) Protect(next http.Handler) http.Handler {
 		return protected
 	}
 	return http.HandlerFunc(func(w http.ResponseWriter, r *http.Request) {
-		host, _, _ := net.SplitHostPort(r.RemoteAddr)
-		from := g.caller.Of(r.Header, server.Source{Address: host})
+		from := g.caller.Of(r.Header, sourceOf(r))
 		protected.ServeHTTP(w, r.WithContext(server.WithCaller(r.Context(), from)))
 	})
+}
+
+// sourceOf is what the connection of a request says of the client. A certificate counts only if Go has verified it (tls.Config.ClientAuth).
+func sourceOf(r *http.Request) (s server.Source) {
+	s.Address, _, _ = net.SplitHostPort(r.RemoteAddr)
+	if r.TLS != nil && len(r.TLS.VerifiedChains) > 0 && len(r.TLS.VerifiedChains[0][0].URIs) > 0 {
+		s.Principal = r.TLS.VerifiedChains[0][0].URIs[0].String()
+	}
+	return s
 }
 
 // Caller returns the accepted token of a request that came through Protect: its subject, and the use that the record has of it. For

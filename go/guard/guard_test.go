@@ -3,11 +3,14 @@ package guard
 import (
 	"bytes"
 	"context"
+	"crypto/tls"
+	"crypto/x509"
 	"encoding/json"
 	"errors"
 	"fmt"
 	"net/http"
 	"net/http/httptest"
+	"net/url"
 	"os"
 	"path/filepath"
 	"strings"
@@ -227,6 +230,28 @@ func TestBoundKnowsItsCallers(t *testing.T) {
 	} {
 		if got := send(row.guard.Protect(served), row.remote, row.token, row.callers...); got != row.want {
 			t.Errorf("%s %q: %d, want %d", row.remote, row.callers, got, row.want)
+		}
+	}
+	// A certificate that nobody has verified says nothing.
+	byCertificate, four := of("principal").Protect(served), token("four")
+	for _, row := range []struct {
+		id       string
+		verified bool
+		want     int
+	}{{"spiffe://example.org/web", true, 204}, {"spiffe://example.org/job", true, 401}, {"spiffe://example.org/web", false, 503}, {"spiffe://example.org/web", true, 204}} {
+		r, w := httptest.NewRequest(http.MethodGet, "/", nil), httptest.NewRecorder()
+		r.Header.Set("Authorization", "Bearer "+four)
+		id, err := url.Parse(row.id)
+		if err != nil {
+			t.Fatal(err)
+		}
+		certificate := &x509.Certificate{URIs: []*url.URL{id}}
+		r.TLS = &tls.ConnectionState{PeerCertificates: []*x509.Certificate{certificate}}
+		if row.verified {
+			r.TLS.VerifiedChains = [][]*x509.Certificate{{certificate}}
+		}
+		if byCertificate.ServeHTTP(w, r); w.Code != row.want {
+			t.Errorf("%+v: %d", row, w.Code)
 		}
 	}
 	for _, row := range []struct {

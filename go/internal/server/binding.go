@@ -15,9 +15,11 @@ import (
 // A CallerRule says what names the caller of a request, in mode bound:
 //
 //	address:HEADER  the one IP address of a header that the proxy sets
-//	peer            the address of the connection to Envoy, as Envoy says it by gRPC; behind guard.Protect that of the connection to the service
+//	peer            the address of the connection to Envoy, as Envoy says it by gRPC
 //	header:NAME     the value of a header that the proxy sets
 //	principal       the first URI of the client's certificate, as Envoy says it by gRPC
+//
+// For guard.Protect, peer and principal are those of the connection to the service.
 //
 // Behind address:HEADER and peer may stand /BITS4,BITS6: then all addresses of a network of so many bits (IPv4, IPv6) are one caller.
 type CallerRule struct {
@@ -136,7 +138,7 @@ func (c *CallerRule) Of(header http.Header, source Source) Caller {
 	case c == nil:
 		return noCaller("no rule says who the caller is")
 	case c.kind == "principal" && source.Principal == "":
-		return noCaller("Envoy says no principal: ask by gRPC, and let clients show a certificate (require_client_certificate)")
+		return noCaller("no principal is known: let Envoy ask by gRPC, and clients show a certificate (require_client_certificate)")
 	case c.kind == "principal":
 		return callerBy("principal", source.Principal)
 	case c.kind == "peer" && source.Address == "":

@@ -267,7 +267,7 @@ func TestARequestWithoutACaller(t *testing.T) {
 		{"address:X-Real-Ip", headers{"X-Real-Ip": {"192.0.2.1:80"}}, "which is not one IP address"},
 		{"address:X-Real-Ip/24,64", headers{"X-Real-Ip": {strings.Repeat("a", 5000)}}, "which is not one IP address"},
 		{"peer", headers{"X-Real-Ip": {"192.0.2.1"}}, "no address of a peer is known"},
-		{"principal", headers{"X-Forwarded-Client-Cert": {"URI=spiffe://example.org/web"}}, "Envoy says no principal"},
+		{"principal", headers{"X-Forwarded-Client-Cert": {"URI=spiffe://example.org/web"}}, "no principal is known"},
 	} {
 		var out bytes.Buffer
 		all, store := bound(t, 1, row.rule)
