@@ -60,7 +60,11 @@ func TestBoundRefusesThieves(t *testing.T) {
 				t.Parallel()
 				_, url := begin(t)
 				all := inBound(t, n, url, "--log", "errors")
-				const owned, times, atATime = 300, 10, 16
+				const atATime = 16
+				owned, times := 300, 10
+				if *long {
+					owned, times = 1000, 20
+				}
 				sent := tokens(t, fmt.Sprint("bound", n), owned)
 				var refused, stolen, unjudged atomic.Int32
 				sends := func(p *process, client, token string, accepted int, counted *atomic.Int32) {
@@ -112,6 +116,7 @@ func TestBoundRefusesThieves(t *testing.T) {
 					t.Errorf("%d requests of other callers are counted, want %d", others, n*owned)
 				}
 				wantNoLoss(t, all)
+				t.Logf("%d tokens to %d sidecars, each %d times: %d requests of thieves refused", owned, n, times, others)
 			})
 		}
 	}
