@@ -3,6 +3,7 @@ package server
 import (
 	"context"
 	"crypto/sha256"
+	"encoding/hex"
 	"errors"
 	"fmt"
 	"net/http"
@@ -129,7 +130,11 @@ func noCaller(text string, values ...any) Caller {
 // text. It leaves out which header the name came from: all members of a group have one --caller, and where two proxies name one client by two headers,
 // it is one caller.
 func callerBy(kind, name string) Caller {
-	return Caller{name: name, digest: sha256.Sum256([]byte(kind + "\x00" + name))}
+	digest := sha256.Sum256([]byte(kind + "\x00" + name))
+	if kind != "address" && !isName(name) { // It may be a secret, such as a token.
+		name = "sha256:" + hex.EncodeToString(digest[:16])
+	}
+	return Caller{name: name, digest: digest}
 }
 
 // Of is the caller of a request.
@@ -160,11 +165,17 @@ func (c *CallerRule) Of(header http.Header, source Source) Caller {
 	return callerBy("header", strings.TrimSpace(values[0]))
 }
 
+// mostShown is how many bytes of what is no address stand in the log. No token is so short.
+const mostShown = 64
+
 // within is the caller of an address, or of its network.
 func (c *CallerRule) within(text, where string) Caller {
 	address, err := netip.ParseAddr(text)
+	if err != nil && len(text) > mostShown {
+		return noCaller("%s has %d bytes that are not one IP address: let the proxy set it to that of the client", where, len(text))
+	}
 	if err != nil {
-		return noCaller("%s has %.64q, which is not one IP address: let the proxy set it to that of the client", where, text)
+		return noCaller("%s has %q, which is not one IP address: let the proxy set it to that of the client", where, text)
 	}
 	address = address.Unmap().WithZone("")
 	bits := c.six
@@ -176,7 +187,7 @@ func (c *CallerRule) within(text, where string) Caller {
 	}
 	network, err := address.Prefix(bits)
 	if err != nil {
-		return noCaller("%s has %.64q: %v", where, text, err)
+		return noCaller("%s has no network of %d bits: %v", where, bits, err)
 	}
 	return callerBy("address", network.String())
 }

@@ -265,7 +265,7 @@ func TestARequestWithoutACaller(t *testing.T) {
 		{"address:X-Real-Ip", headers{"X-Real-Ip": {"192.0.2.1, 192.0.2.2"}}, "which is not one IP address"},
 		{"address:X-Real-Ip", headers{"X-Real-Ip": {"unix:"}}, "which is not one IP address"},
 		{"address:X-Real-Ip", headers{"X-Real-Ip": {"192.0.2.1:80"}}, "which is not one IP address"},
-		{"address:X-Real-Ip/24,64", headers{"X-Real-Ip": {strings.Repeat("a", 5000)}}, "which is not one IP address"},
+		{"address:X-Real-Ip/24,64", headers{"X-Real-Ip": {strings.Repeat("a", 5000)}}, "has 5000 bytes that are not one IP address"},
 		{"peer", headers{"X-Real-Ip": {"192.0.2.1"}}, "no address of a peer is known"},
 		{"principal", headers{"X-Forwarded-Client-Cert": {"URI=spiffe://example.org/web"}}, "no principal is known"},
 	} {
@@ -289,7 +289,7 @@ func TestARequestWithoutACaller(t *testing.T) {
 			t.Fatalf("%s: %v", &out, err)
 		}
 		said, _ := line["reason"].(string)
-		if line["level"] != "error" || line["event"] != "unavailable" || !strings.Contains(said, row.says) || len(said) > 300 {
+		if line["level"] != "error" || line["event"] != "unavailable" || !strings.Contains(said, row.says) || len(said) > 300 || line["caller"] != nil {
 			t.Errorf("%+v: the line is %s", row, &out)
 		}
 		if store.puts() != 0 || e.Metrics.unavailable.Load() != 1 {
@@ -386,6 +386,31 @@ func TestLinesSayWhoCalls(t *testing.T) {
 	}
 	if page := request(e.Handler(), "GET", "/metrics").Body.String(); !strings.Contains(page, "svidd_other_caller_total 3\n") {
 		t.Errorf("the metrics: %s", page)
+	}
+}
+
+// A header that is no short name may be a secret: the log has a digest of it.
+func TestNoSecretOfACallerIsLogged(t *testing.T) {
+	var out bytes.Buffer
+	all, _ := bound(t, 1, "header:X-Client")
+	e := all[0]
+	e.Log = NewLog(&out, Decisions)
+	for _, row := range []struct {
+		value, says string // "" for a digest
+	}{
+		{"ab:cd:ef", "ab:cd:ef"}, {"spiffe://example.org/web", "spiffe://example.org/web"}, {token("secret"), ""}, {"a secret", ""}, {"\u009b2J", ""},
+		{"\xff", ""}, {strings.Repeat("a", 129), ""},
+	} {
+		out.Reset()
+		w := from(e, token("of "+row.value), http.Header{"X-Client": {row.value}})
+		var line map[string]any
+		if err := json.Unmarshal(out.Bytes(), &line); err != nil {
+			t.Fatalf("%s: %v", &out, err)
+		}
+		said, _ := line["caller"].(string)
+		if w.Code != 200 || row.says != "" && said != row.says || row.says == "" && (!strings.HasPrefix(said, "sha256:") || len(said) != 39) {
+			t.Errorf("%q: %d, the line has %q", row.value, w.Code, said)
+		}
 	}
 }
 

@@ -158,7 +158,7 @@ func (l *Log) decide(d *decision) {
 	}
 	line = appendMember(line, "request", d.Request)
 	line = appendUnlessEmpty(line, "client", d.Client)
-	line = appendUnlessEmpty(line, "caller", brief.Text(d.Caller, mostCaller))
+	line = appendUnlessEmpty(line, "caller", d.Caller)
 	line = appendDigits(line, "validator_id", d.ValidatorID[:])
 	if d.UsedBy != (svid.ValidatorID{}) {
 		line = appendDigits(line, "used_by", d.UsedBy[:])
@@ -172,9 +172,6 @@ func (l *Log) decide(d *decision) {
 		l.room = nil
 	}
 }
-
-// mostCaller is how many bytes of a caller's name stand in a line.
-const mostCaller = 512
 
 // mostRoom is how many bytes a log keeps for the next line.
 const mostRoom = 1 << 14
