@@ -117,6 +117,74 @@ func TestBoundAtOnce(t *testing.T) {
 	}
 }
 
+// Requests of one caller that come while the store is asked share its answer. One that comes later asks again.
+func TestRequestsOfOneCallerShareAClaim(t *testing.T) {
+	all, store := bound(t, 1, "header:X-Caller")
+	e, one := all[0], token("a")
+	const waiters = 100
+	release, answers := store.hold(), make(chan error, waiters+1)
+	send := func() { answers <- by(e, "owner", one) }
+	go send()
+	await(t, "the claim", func() bool { return store.puts() == 1 })
+	for i := 0; i < waiters; i++ {
+		go send()
+	}
+	await(t, "all to wait", func() bool { return withMachine(e, at(waiting)) == waiters })
+	release()
+	for i := 0; i < waiters+1; i++ {
+		if err := <-answers; err != nil {
+			t.Error(err)
+		}
+	}
+	if n := store.puts(); n != 1 {
+		t.Errorf("%d requests of one caller took %d calls", waiters+1, n)
+	}
+	if err := by(e, "owner", one); err != nil || store.puts() != 2 {
+		t.Errorf("later: %v, after %d calls", err, store.puts())
+	}
+	if err := by(e, "thief", one); err != svid.Replayed || store.puts() != 3 {
+		t.Errorf("a thief: %v, after %d calls", err, store.puts())
+	}
+}
+
+// An answer of the store is for those that came before it. A request of the owner that comes later asks again, though it waited for a thief that left.
+func TestAnAnswerIsForWhoCameBeforeIt(t *testing.T) {
+	all, store := bound(t, 1, "header:X-Caller")
+	e, one := all[0], token("a")
+	store.hold()
+	owner, thief, later := make(chan error, 1), make(chan error, 1), make(chan error, 1)
+	ctx, leave := context.WithCancel(WithCaller(context.Background(), CallerNamed("thief")))
+	defer leave()
+	go func() { owner <- by(e, "owner", one) }()
+	await(t, "the owner's claim", func() bool { return store.puts() == 1 })
+	go func() {
+		_, err := e.Check(ctx, one)
+		thief <- err
+	}()
+	await(t, "the thief to wait", func() bool { return withMachine(e, at(waiting)) == 1 })
+	store.mu.Lock()
+	first := store.held
+	store.held = make(chan struct{}) // The thief's claim has no answer.
+	store.mu.Unlock()
+	close(first)
+	if err := <-owner; err != nil {
+		t.Error(err)
+	}
+	await(t, "the thief's claim", func() bool { return store.puts() == 2 })
+	go func() { later <- by(e, "owner", one) }()
+	await(t, "the owner to wait", func() bool { return withMachine(e, at(waiting)) == 1 })
+	store.mu.Lock()
+	store.held = nil
+	store.mu.Unlock()
+	leave()
+	if err := <-thief; !errors.Is(err, context.Canceled) {
+		t.Error(err)
+	}
+	if err := <-later; err != nil || store.puts() != 3 {
+		t.Errorf("the owner, later: %v, after %d calls", err, store.puts())
+	}
+}
+
 // Of two callers that send a token first at the same time, one gets 200, and goes on to get it.
 func TestBoundHasOneFirstCaller(t *testing.T) {
 	all, store := bound(t, 2, "header:X-Caller")

@@ -93,8 +93,20 @@ func (m *Machine) openClaim(r *Request, use svid.Use) {
 		m.found(r, found)
 		return
 	}
+	if s := r.shared; s != nil && s.claim == r.claim && r.came <= s.at {
+		m.found(r, s.found)
+		return
+	}
 	r.stage = claiming
 	m.claims.waiting = append(m.claims.waiting, r)
+}
+
+// An answeredClaim is what the store answered, in mode bound, to a claim that others waited for. It is an answer to those of them that would put the
+// same claim, and that came before it: so many requests of one caller share a put. Each waiting request hands it on to the next one.
+type answeredClaim struct {
+	claim claims.Claim
+	found svid.Found
+	at    time.Duration // when the answer came, by Time.Up
 }
 
 // ownerOf is for whom the token of a request is claimed: for this life, and in mode bound for the caller.
@@ -136,7 +148,11 @@ func (b Claimed) happen(m *Machine) {
 		switch {
 		case r.answered:
 		case found.Err == nil:
-			m.found(r, svid.Found{Owner: found.Owner, Time: found.Time, Deaf: found.Deaf})
+			answer := svid.Found{Owner: found.Owner, Time: found.Time, Deaf: found.Deaf}
+			if m.Mode == Bound {
+				r.shared = &answeredClaim{r.claim, answer, m.now.Up}
+			}
+			m.found(r, answer)
 		default:
 			r.fault = found.Err
 			again = append(again, r)

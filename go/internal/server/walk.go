@@ -4,6 +4,7 @@ import (
 	"context"
 	"errors"
 	"fmt"
+	"time"
 
 	"svid.example/go/v2/carriers"
 	"svid.example/go/v2/claims"
@@ -49,8 +50,11 @@ type Request struct {
 
 	write *Write // of mode once
 
-	Caller [32]byte // of mode bound: a digest of who presents the token
-	Other  bool     // of mode bound: the token is another caller's, so the answer is Replayed
+	// Of mode bound.
+	Caller [32]byte      // a digest of who presents the token
+	Other  bool          // the token is another caller's, so the answer is Replayed
+	came   time.Duration // by Time.Up
+	shared *answeredClaim
 
 	// Of modes strict and bound.
 	Owner   svid.ValidatorID // in mode strict: whose claim the token is, where the answer is Replayed by the store; else zeros
@@ -91,7 +95,7 @@ func (r *Request) happen(m *Machine) {
 		m.answer(&r.Call, m.notReady(err))
 		return
 	}
-	r.number = deed.Number
+	r.number, r.came = deed.Number, m.now.Up
 	m.requests[r.number] = r
 	m.comes()
 	m.do(Verify{r})
@@ -148,10 +152,13 @@ func (g Gone) happen(m *Machine) {
 
 // carryOut does what the member says of a request.
 func (m *Machine) carryOut(deed svid.Deed) {
+	r := m.requests[deed.Number]
 	if deed.Kind == svid.DeedAnswer && deed.Next != svid.NoRequest {
 		m.again = append(m.again, deed.Next)
+		if next := m.requests[deed.Next]; next != nil && r != nil {
+			next.shared = r.shared
+		}
 	}
-	r := m.requests[deed.Number]
 	if r == nil {
 		return
 	}
