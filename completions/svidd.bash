@@ -14,7 +14,7 @@ _svidd() {
   fi
   case $COMP_CWORD,${COMP_WORDS[1]} in
     1,* | 2,help) COMPREPLY=($(compgen -W "$commands" -- "$current")) ;;
-    *,serve) options='--audience --workload-api --allow --bundle --bundle-id --bundle-ca --bundles --longest --rsa-bits --ahead --replay --listen --envoy --metrics --drain --admin --state --log --store --group-log --nats --group --replicas --nats-ca --nats-cert --nats-key --nats-creds --wait --summaries --config --check-config -h --help' ;;
+    *,serve) options='--audience --workload-api --allow --bundle --bundle-id --bundle-ca --bundles --longest --rsa-bits --ahead --replay --caller --listen --envoy --metrics --drain --admin --state --log --store --group-log --nats --group --replicas --nats-ca --nats-cert --nats-key --nats-creds --wait --summaries --config --check-config -h --help' ;;
     *,verify) options='--audience --workload-api --bundle --bundle-id --bundle-ca --bundles --longest --rsa-bits --config -h --help' ;;
     *,withdraw) options='--admin --key --exp -h --help' ;;
     *,report) options='--admin --json -h --help' ;;
@@ -35,9 +35,9 @@ _svidd() {
     options=${options/" ${COMP_WORDS[n]} "/ }
   done
   case $before in
-    --audience | --workload-api | --allow | --bundle | --bundle-id | --bundle-ca | --longest | --rsa-bits | --ahead | --listen | --envoy | --metrics | --drain | --store | --group-log | --nats | --group | --replicas | --wait | --summaries | --key | --exp | --role) options='' files='' ;;
+    --audience | --workload-api | --allow | --bundle | --bundle-id | --bundle-ca | --longest | --rsa-bits | --ahead | --caller | --listen | --envoy | --metrics | --drain | --store | --group-log | --nats | --group | --replicas | --wait | --summaries | --key | --exp | --role) options='' files='' ;;
     --bundles | --admin | --state | --nats-ca | --nats-cert | --nats-key | --nats-creds | --config) options='' files=yes ;;
-    --replay) options='' files='' values='once strict reuse' ;;
+    --replay) options='' files='' values='once strict bound reuse' ;;
     --log) options='' files='' values='errors decisions all' ;;
   esac
   # What may be a file is one, unless it begins as an option does.

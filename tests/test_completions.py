@@ -187,7 +187,7 @@ def sidecar_offers(shell, room, *words):
     [
         (["ser"], {"serve"}),
         (["serve", "--nats-c"], {"--nats-ca", "--nats-cert", "--nats-creds"}),
-        (["serve", "--replay", ""], {"once", "strict", "reuse"}),
+        (["serve", "--replay", ""], {"once", "strict", "bound", "reuse"}),
         (["serve", "--state", "k"], {"kept"}),
         (["withdraw", "--k"], {"--key"}),
         (["report", "--k"], set()),

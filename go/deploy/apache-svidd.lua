@@ -38,7 +38,13 @@ function check(r)
   local made, status, said = http.request({
     url = sidecar,
     redirect = false,
-    headers = { ["authorization"] = r.headers_in["Authorization"], ["x-request-id"] = id, ["x-forwarded-for"] = r.useragent_ip },
+    -- The client's address is for the sidecar's log, and for its mode bound (--caller address:X-Real-Ip). No header of the client gets there.
+    headers = {
+      ["authorization"] = r.headers_in["Authorization"],
+      ["x-request-id"] = id,
+      ["x-forwarded-for"] = r.useragent_ip,
+      ["x-real-ip"] = r.useragent_ip,
+    },
     sink = ltn12.sink.table(body),
   })
   if made and status == 200 and said["x-spiffe-id"] then

@@ -31,7 +31,7 @@ end
 core.register_action("svidd", { "http-req" }, function(txn)
   local headers = txn.http:req_get_headers()
   local asked = {}
-  for _, name in ipairs({ "authorization", "x-request-id", "x-forwarded-for" }) do
+  for _, name in ipairs({ "authorization", "x-request-id", "x-forwarded-for", "x-real-ip" }) do
     local all = values(headers, name)
     if #all > 0 then
       asked[name] = all

@@ -15,6 +15,7 @@ import (
 	"errors"
 	"fmt"
 	"io"
+	"net"
 	"net/http"
 	"runtime/debug"
 	"sync"
@@ -36,6 +37,7 @@ type Mode = server.Mode
 const (
 	Once   Mode = server.Once   // a token is accepted once by this guard, and the group hears of it at once
 	Strict Mode = server.Strict // a token is accepted once in the whole group
+	Bound  Mode = server.Bound  // a token is accepted from the caller that used it first in the group, again and again
 	Reuse  Mode = server.Reuse  // a token is accepted until it expires or is withdrawn
 )
 
@@ -76,14 +78,18 @@ var ErrClock = fmt.Errorf("the clock went ahead by more than %d seconds, and sta
 // ErrNotAllowed: no pattern of Options.Allow allows the token's subject. The token is good, and it is not used up.
 var ErrNotAllowed = svidhttp.ErrNotAllowed
 
+// ErrNoCaller: in mode Bound, the request does not say who presents the token, so the guard did not judge it.
+var ErrNoCaller = server.ErrNoCaller
+
 // Options say what a guard is for. Audiences and Bundles must be given, and State, unless Mode is Reuse or Store is given.
 type Options struct {
 	Audiences []string       // the names of this service: a token is for it if its `aud` has one of them
 	Bundles   []bundles.Spec // where the trust bundles come from: bundles.Parse, bundles.Folder, bundles.WorkloadAPI
 	Allow     []string       // patterns of the SPIFFE IDs that may call (svid.Allows); nil allows all, and an empty list is an error
 	Mode      Mode           // "" is Once, or Strict where Store is given
+	Caller    string         // in mode Bound: what names the caller of a request for Protect and Handler, as --caller of svidd has it (docs/SIDECAR-REFERENCE.md); "peer" is the address of the connection to Protect, and "principal" the first URI of the client's certificate there. "" where WithCaller alone says it
 	State     string         // the folder that keeps what was accepted over restarts; "" for none
-	Store     claims.Store   // the group's: of package claims/redis, claims/postgres or claims/nats, opened with Terms. In mode Strict each token is claimed there; in the others withdrawals are read there. Close closes it
+	Store     claims.Store   // the group's: of package claims/redis, claims/postgres or claims/nats, opened with Terms. In modes Strict and Bound each token is claimed there; in all but Strict withdrawals are read there. Close closes it
 	Log       carriers.Log   // of a group in mode Once: Options of package jetstream; nil without one
 	Longest   uint64         // seconds that a token may still live; 0 is 3600
 	Ahead     uint64         // seconds that the clocks of the group may differ; 0 is 30, and Exactly is 0
@@ -135,10 +141,14 @@ func (o Options) usual() (Options, error) {
 		return o, errors.New("guard: Options.State is empty: in mode once the record is kept there, since a token that was accepted before a restart must not be accepted after it")
 	case o.Mode == Strict && o.Store == nil:
 		return o, errors.New("guard: Options.Store is nil: in mode strict each token is claimed in the group's store")
+	case o.Mode == Bound && o.Store == nil:
+		return o, errors.New("guard: Options.Store is nil: in mode bound the group's store has which caller used a token first")
+	case o.Mode != Bound && o.Caller != "":
+		return o, errors.New("guard: Options.Caller is for mode bound: in the others it does not count who presents a token")
 	case o.Mode != Once && o.Log != nil:
 		return o, errors.New("guard: Options.Log is for mode once, whose members tell each other of their uses: a group of another mode shares Options.Store")
-	case o.Mode != Once && o.Mode != Strict && o.Mode != Reuse:
-		return o, fmt.Errorf("guard: Options.Mode %q is none of once, strict and reuse", o.Mode)
+	case o.Mode != Once && o.Mode != Strict && o.Mode != Bound && o.Mode != Reuse:
+		return o, fmt.Errorf("guard: Options.Mode %q is none of once, strict, bound and reuse", o.Mode)
 	case o.Wait < 0 || o.Summaries < 0:
 		return o, errors.New("guard: Options.Wait and Options.Summaries are not negative, and 0 is what is usual")
 	case o.Longest > mostLongest || o.Ahead > mostAhead:
@@ -146,6 +156,11 @@ func (o Options) usual() (Options, error) {
 	}
 	if err := server.CheckCallers(o.Allow); err != nil {
 		return o, fmt.Errorf("guard: Options.Allow: %w", err)
+	}
+	if o.Caller != "" {
+		if _, err := server.ParseCaller(o.Caller); err != nil {
+			return o, fmt.Errorf("guard: Options.Caller: %w", err)
+		}
 	}
 	return o, nil
 }
@@ -175,7 +190,8 @@ func Terms(longest, ahead uint64) claims.Terms {
 type Guard struct {
 	options Options
 	engine  *server.Engine
-	journal *journal.Journal // nil without a state folder
+	caller  *server.CallerRule // nil without Options.Caller
+	journal *journal.Journal   // nil without a state folder
 	follows following
 	life    context.Context // ends with Run or Close
 	end     context.CancelFunc
@@ -227,8 +243,13 @@ func New(o Options) (g *Guard, err error) {
 		}
 		kept, id = g.journal, g.journal.ValidatorID()
 	}
+	if o.Caller != "" {
+		if g.caller, err = server.ParseCaller(o.Caller); err != nil {
+			return g, err
+		}
+	}
 	g.engine, err = server.NewEngine(server.Options{
-		Mode: o.Mode, Audiences: o.Audiences, Allow: o.Allow, Domains: domainsOf(o.Bundles), RSABits: o.RSABits, Longest: o.Longest, Ahead: o.Ahead,
+		Mode: o.Mode, Caller: g.caller, Audiences: o.Audiences, Allow: o.Allow, Domains: domainsOf(o.Bundles), RSABits: o.RSABits, Longest: o.Longest, Ahead: o.Ahead,
 		Step: clockStep, Jumped: func() { g.fail(ErrClock) }, ValidatorID: id, Journal: kept, Grouped: o.Log != nil, Stored: o.Store != nil, Terms: Terms(o.Longest, o.Ahead), Wait: o.Wait, Log: o.Lines,
 		Now: o.Now,
 	})
@@ -368,7 +389,8 @@ func (g *Guard) said(event string, fields ...any) {
 }
 
 // Check accepts a token, and makes that last as the Mode says. The error is nil for an accepted token, a svid.Refusal or
-// ErrNotAllowed for one that is not, and any other error if there is no answer about the token: it is not accepted then.
+// ErrNotAllowed for one that is not, and any other error if there is no answer about the token: it is not accepted then. In mode
+// Bound WithCaller says who presents the token: without it, the error is ErrNoCaller.
 func (g *Guard) Check(ctx context.Context, token string) (svid.Accepted, error) {
 	if !g.enter() {
 		return svid.Accepted{}, svid.ErrClosed
@@ -390,8 +412,34 @@ func (g *Guard) enter() bool {
 // ReasonOf is the word for an error of Check that is no answer about the token, as a client gets it.
 func (g *Guard) ReasonOf(err error) string { return g.engine.ReasonOf(err) }
 
-// Protect returns a handler that calls next for a request whose bearer token the guard accepts, as svidhttp.Protect does.
-func (g *Guard) Protect(next http.Handler) http.Handler { return svidhttp.Protect(g, next) }
+// WithCaller returns a context by which Check knows, in mode Bound, who presents the token. The name must come from what a thief of the token
+// does not have: the address of the connection, or the client's certificate. Two requests of one name are of one caller. All members of a group
+// must name a caller alike.
+func WithCaller(ctx context.Context, name string) context.Context {
+	return server.WithCaller(ctx, server.CallerNamed(name))
+}
+
+// Protect returns a handler that calls next for a request whose bearer token the guard accepts, as svidhttp.Protect does. In mode Bound the
+// caller is the one of Options.Caller. Without that option it is the one of WithCaller, which a handler in front of this one gives the request.
+func (g *Guard) Protect(next http.Handler) http.Handler {
+	protected := svidhttp.Protect(g, next)
+	if g.caller == nil {
+		return protected
+	}
+	return http.HandlerFunc(func(w http.ResponseWriter, r *http.Request) {
+		from := g.caller.Of(r.Header, sourceOf(r))
+		protected.ServeHTTP(w, r.WithContext(server.WithCaller(r.Context(), from)))
+	})
+}
+
+// sourceOf is what the connection of a request says of the client. A certificate counts only if Go has verified it (tls.Config.ClientAuth).
+func sourceOf(r *http.Request) (s server.Source) {
+	s.Address, _, _ = net.SplitHostPort(r.RemoteAddr)
+	if r.TLS != nil && len(r.TLS.VerifiedChains) > 0 && len(r.TLS.VerifiedChains[0][0].URIs) > 0 {
+		s.Principal = r.TLS.VerifiedChains[0][0].URIs[0].String()
+	}
+	return s
+}
 
 // Caller returns the accepted token of a request that came through Protect: its subject, and the use that the record has of it. For
 // any other request it is empty.

@@ -3,11 +3,14 @@ package guard
 import (
 	"bytes"
 	"context"
+	"crypto/tls"
+	"crypto/x509"
 	"encoding/json"
 	"errors"
 	"fmt"
 	"net/http"
 	"net/http/httptest"
+	"net/url"
 	"os"
 	"path/filepath"
 	"strings"
@@ -146,6 +149,9 @@ func TestOptionsThatCanNotBeMeant(t *testing.T) {
 		"Options.State is empty":     func(o *Options) { o.State = "" },
 		"Options.Store is nil":       func(o *Options) { o.Mode = Strict },
 		"Options.Log is for":         func(o *Options) { o.Mode, o.Log = Reuse, slowLog{} },
+		"used a token first":         func(o *Options) { o.Mode, o.Caller = Bound, "peer" },
+		"Options.Caller is for mode": func(o *Options) { o.Caller = "peer" },
+		"names no header":            func(o *Options) { o.Mode, o.Caller, o.Store = Bound, "header", new(memory.Store) },
 		`Options.Mode "twice"`:       func(o *Options) { o.Mode = "twice" },
 		"Options.Longest is at most": func(o *Options) { o.Longest = mostLongest + 1 },
 		"Options.Ahead at most":      func(o *Options) { o.Ahead = mostAhead + 1 },
@@ -180,6 +186,86 @@ func TestWhatOptionsLeaveOut(t *testing.T) {
 	}
 	if keep := Keep(3600, 30); keep != 3660*time.Second {
 		t.Error(keep)
+	}
+}
+
+// In mode Bound a guard accepts a token from the caller that used it first: that of the connection, or the one that WithCaller names.
+func TestBoundKnowsItsCallers(t *testing.T) {
+	store := &memory.Store{Terms: Terms(3600, 30)}
+	of := func(caller string) *Guard {
+		o := usual(t)
+		o.State, o.Store, o.Mode, o.Caller = "", store, Bound, caller
+		g := open(t, o)
+		await(t, g)
+		return g
+	}
+	send := func(h http.Handler, remote, token string, callers ...string) int {
+		r, w := httptest.NewRequest(http.MethodGet, "/", nil), httptest.NewRecorder()
+		r.RemoteAddr = remote
+		r.Header.Set("Authorization", "Bearer "+token)
+		r.Header["X-Caller"] = callers
+		h.ServeHTTP(w, r)
+		return w.Code
+	}
+	served := http.HandlerFunc(func(w http.ResponseWriter, r *http.Request) { w.WriteHeader(http.StatusNoContent) })
+	byPeer, byHeader, byName := of("peer"), of("header:X-Caller"), of("")
+	one, two, three := token("one"), token("two"), token("three")
+	for _, row := range []struct {
+		guard   *Guard
+		remote  string
+		token   string
+		callers []string
+		want    int
+	}{
+		{byPeer, "192.0.2.1:1", one, nil, 204},
+		{byPeer, "192.0.2.1:2", one, []string{"other"}, 204},
+		{byPeer, "192.0.2.2:1", one, nil, 401},
+		{byPeer, "@", one, nil, 503},
+		{byHeader, "192.0.2.1:1", two, []string{"a"}, 204},
+		{byHeader, "192.0.2.2:1", two, []string{"a"}, 204},
+		{byHeader, "192.0.2.1:1", two, []string{"b"}, 401},
+		{byHeader, "192.0.2.1:1", two, []string{"a", "b"}, 503},
+		{byHeader, "192.0.2.1:1", two, nil, 503},
+		{byName, "192.0.2.1:1", three, []string{"a"}, 503},
+	} {
+		if got := send(row.guard.Protect(served), row.remote, row.token, row.callers...); got != row.want {
+			t.Errorf("%s %q: %d, want %d", row.remote, row.callers, got, row.want)
+		}
+	}
+	// A certificate that nobody has verified says nothing.
+	byCertificate, four := of("principal").Protect(served), token("four")
+	for _, row := range []struct {
+		id       string
+		verified bool
+		want     int
+	}{{"spiffe://example.org/web", true, 204}, {"spiffe://example.org/job", true, 401}, {"spiffe://example.org/web", false, 503}, {"spiffe://example.org/web", true, 204}} {
+		r, w := httptest.NewRequest(http.MethodGet, "/", nil), httptest.NewRecorder()
+		r.Header.Set("Authorization", "Bearer "+four)
+		id, err := url.Parse(row.id)
+		if err != nil {
+			t.Fatal(err)
+		}
+		certificate := &x509.Certificate{URIs: []*url.URL{id}}
+		r.TLS = &tls.ConnectionState{PeerCertificates: []*x509.Certificate{certificate}}
+		if row.verified {
+			r.TLS.VerifiedChains = [][]*x509.Certificate{{certificate}}
+		}
+		if byCertificate.ServeHTTP(w, r); w.Code != row.want {
+			t.Errorf("%+v: %d", row, w.Code)
+		}
+	}
+	for _, row := range []struct {
+		name string
+		want error
+	}{{"a", nil}, {"b", svid.Replayed}, {"a", nil}} {
+		if _, err := byName.Check(WithCaller(context.Background(), row.name), three); err != row.want {
+			t.Errorf("%s: %v, want %v", row.name, err, row.want)
+		}
+	}
+	for _, ctx := range []context.Context{context.Background(), WithCaller(context.Background(), "")} {
+		if _, err := byName.Check(ctx, three); !errors.Is(err, ErrNoCaller) || byName.ReasonOf(err) != "NoCaller" {
+			t.Errorf("without a caller: %v", err)
+		}
 	}
 }
 

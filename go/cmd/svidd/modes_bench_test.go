@@ -16,11 +16,13 @@ import (
 	"svid.example/go/v2/internal/server"
 )
 
-// BenchmarkModes sends new tokens to a sidecar within this process, 32 at a time, without the network.
+// BenchmarkModes sends tokens to a sidecar within this process, 32 at a time, without the network: new ones, or a few again and again.
 func BenchmarkModes(b *testing.B) {
-	for _, name := range []string{"once", "strict", "strict with a state folder", "reuse"} {
+	const few = 256
+	for _, name := range []string{"once", "strict", "strict with a state folder", "bound", "bound, a few tokens", "reuse", "reuse, a few tokens"} {
 		b.Run(name, func(b *testing.B) {
-			mode, _, kept := strings.Cut(name, " ")
+			mode, more, _ := strings.Cut(strings.ReplaceAll(name, ",", ""), " ")
+			kept, again := strings.HasPrefix(more, "with"), strings.HasPrefix(more, "a few")
 			o := options{
 				audiences: list{"ledger"}, bundles: list{"example.org=" + bundleFile(b, example)}, longest: seconds{7200, true}, ahead: seconds{30, true},
 				listen: freeAddress(b), replay: mode, group: "svid", replicas: 1, wait: period(10 * time.Second), summaries: period(time.Hour),
@@ -28,8 +30,11 @@ func BenchmarkModes(b *testing.B) {
 			if kept || mode == "once" {
 				o.state = filepath.Join(b.TempDir(), "state")
 			}
-			if mode == "strict" {
+			if mode == "strict" || mode == "bound" {
 				o.stores = list{natstest.Start(b).URL}
+			}
+			if mode == "bound" {
+				o.caller = "address:X-Real-Ip"
 			}
 			s := &sidecar{options: o, log: server.NewLog(os.Stderr, server.Errors), failed: make(chan error, 1)}
 			signals, ended := make(chan os.Signal, 1), make(chan error, 1)
@@ -43,6 +48,9 @@ func BenchmarkModes(b *testing.B) {
 				return answer.StatusCode == http.StatusOK
 			})
 			tokens := make([]string, b.N)
+			if again && b.N > few {
+				tokens = tokens[:few]
+			}
 			for i := range tokens {
 				tokens[i] = token(b, fmt.Sprint(name, i), time.Hour)
 			}
@@ -54,7 +62,8 @@ func BenchmarkModes(b *testing.B) {
 			b.RunParallel(func(p *testing.PB) {
 				for p.Next() {
 					r := httptest.NewRequest(http.MethodGet, "/check", nil)
-					r.Header.Set("Authorization", "Bearer "+tokens[atomic.AddInt64(&next, 1)])
+					r.Header.Set("Authorization", "Bearer "+tokens[int(atomic.AddInt64(&next, 1))%len(tokens)])
+					r.Header.Set("X-Real-Ip", "192.0.2.1")
 					w := httptest.NewRecorder()
 					if handler.ServeHTTP(w, r); w.Code != http.StatusOK {
 						b.Error(w.Code, w.Body)

@@ -40,6 +40,7 @@ type options struct {
 	envoy         string // "" where Envoy does not ask by gRPC
 	drain         period
 	replay        string
+	caller        string
 	stores        list // addresses of the group's store
 	logs          list // addresses of the log of a group of mode once
 	nats          list
@@ -84,6 +85,7 @@ func (o *options) addServe(f *flag.FlagSet) {
 	f.Var(&o.drain, "drain", "")
 	f.StringVar(&o.admin, "admin", "", "")
 	f.StringVar(&o.replay, "replay", "", "")
+	f.StringVar(&o.caller, "caller", "", "")
 	f.Var(&o.stores, "store", "")
 	f.Var(&o.logs, "group-log", "")
 	f.Var(&o.nats, "nats", "")
@@ -287,10 +289,14 @@ func (o *options) problems() problems {
 		wrong(o.state == "", "--state is missing: in mode once the record is kept there, since a token that was accepted before a restart must not be accepted after it")
 	case server.Strict:
 		wrong(len(o.stores) == 0, "--store is missing: in mode strict each token is claimed in the group's store")
+	case server.Bound:
+		wrong(len(o.stores) == 0, "--store is missing: in mode bound the group's store has which caller used a token first. A sidecar without a group needs one too: a Redis beside it is enough")
+		wrong(o.caller == "", "--caller is missing: in mode bound a token is accepted from one caller. Say what names it: address:HEADER or header:NAME with a header that the proxy sets, or peer or principal where Envoy asks by gRPC")
 	case server.Reuse:
 	default:
-		wrong(true, "--replay %q is none of once, strict and reuse", o.replay)
+		wrong(true, "--replay %q is none of once, strict, bound and reuse", o.replay)
 	}
+	o.callerProblems(&all)
 	addressProblems(&all, "listen", o.listen, optionOf("serve", "listen").initial)
 	if o.metrics != "" {
 		addressProblems(&all, "metrics", o.metrics, "127.0.0.1:9902")
@@ -328,6 +334,17 @@ func (o *options) problems() problems {
 	wrong(o.summaries == 0, "--summaries must be greater than 0")
 	wrong(time.Duration(o.drain) > mostDrain, "--drain must be from 0s to %v", mostDrain)
 	return all
+}
+
+// callerProblems is what is wrong with --caller.
+func (o *options) callerProblems(all *problems) {
+	if o.caller == "" {
+		return
+	}
+	all.wrong(server.Mode(o.replay) != server.Bound, "--caller is for --replay bound: in the other modes it does not count who presents a token")
+	rule, err := server.ParseCaller(o.caller)
+	all.wrong(err != nil, "--caller: %v", err)
+	all.wrong(err == nil && rule.OfEnvoy() && o.envoy == "", "--caller %s: Envoy alone says that, by gRPC: give --envoy, or name a header that the proxy sets", o.caller)
 }
 
 // addressProblems is what is wrong with an address to answer on.

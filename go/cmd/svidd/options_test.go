@@ -178,6 +178,39 @@ func TestOptionsThatServeCantRunWith(t *testing.T) {
 	}
 }
 
+// What mode bound wants: a store, and what names a caller. The other modes want no caller.
+func TestOptionsOfModeBound(t *testing.T) {
+	t.Parallel()
+	good := []string{"serve", "--check-config", "--audience", "a", "--longest", "60", bundleOption(bundleFile(t, example))}
+	store := []string{"--store", "redis://127.0.0.1:1"}
+	for _, row := range []struct {
+		args []string
+		want string // "" where the options are good
+	}{
+		{append(store, "--replay", "bound", "--caller", "address:X-Real-Ip"), ""},
+		{append(store, "--replay", "bound", "--caller", "address:X-Real-Ip/24,64"), ""},
+		{append(store, "--replay", "bound", "--caller", "header:X-Client-Hash"), ""},
+		{append(store, "--replay", "bound", "--caller", "peer", "--envoy", "127.0.0.1:9903"), ""},
+		{append(store, "--replay", "bound", "--caller", "principal", "--envoy", "127.0.0.1:9903"), ""},
+		{append(store, "--replay", "bound"), "--caller is missing"},
+		{[]string{"--replay", "bound", "--caller", "header:X"}, "--store is missing: in mode bound"},
+		{append(store, "--replay", "bound", "--caller", "peer"), "give --envoy"},
+		{append(store, "--replay", "bound", "--caller", "principal"), "give --envoy"},
+		{append(store, "--replay", "bound", "--caller", "address"), "write address:HEADER"},
+		{append(store, "--replay", "bound", "--caller", "header:Authorization"), "which a thief has too"},
+		{append(store, "--replay", "strict", "--caller", "header:X"), "--caller is for --replay bound"},
+		{[]string{"--replay", "reuse", "--caller", "header:X"}, "--caller is for --replay bound"},
+	} {
+		status, out, err := here("", append(good[:len(good):len(good)], row.args...)...)
+		if row.want == "" && (status != 0 || out+withoutServers(err) != "svidd: the options are good\n") {
+			t.Errorf("%q: %d %q", row.args, status, out+err)
+		}
+		if row.want != "" && (status != 2 || !strings.Contains(err, row.want) || strings.Count(err, "\n") != 1) {
+			t.Errorf("%q: %d %q, and %q is due", row.args, status, out+err, row.want)
+		}
+	}
+}
+
 // withoutServers is what is said beside the warnings of servers that do not answer: the names in the tests are of none.
 func withoutServers(said string) string {
 	for strings.HasPrefix(said, "svidd: warning: nothing answers at ") {

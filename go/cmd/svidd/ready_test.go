@@ -56,7 +56,7 @@ func readyRows(t *testing.T) (all []row) {
 		}
 		modes := strings.Split(strings.ReplaceAll(cells[1], "`", ""), ", ")
 		if cells[1] == "all" {
-			modes = []string{"once", "strict", "reuse"}
+			modes = []string{"once", "strict", "bound", "reuse"}
 		}
 		for _, mode := range modes {
 			all = append(all, row{strings.TrimSpace(cells[0]), mode, check[1], check[2], ready[1], ready[2], cells[2], cells[3]})
@@ -74,13 +74,17 @@ type stage struct {
 	of     *issuer.Issuer // signs them
 }
 
-// newStage prepares a sidecar of a mode. In mode strict it has a store, and in once a state folder.
+// newStage prepares a sidecar of a mode. In modes strict and bound it has a store, and in once a state folder. Who calls in bound, a header says that
+// each client here sends.
 func newStage(t *testing.T, mode, bundles string, more ...string) *stage {
 	t.Helper()
 	s := &stage{mode: mode, domain: "example.org", of: example}
 	args := append([]string{bundles, "--replay", mode, "--wait", rowWait.String(), "--admin", filepath.Join(t.TempDir(), "admin.sock")}, more...)
 	given := strings.Join(more, " ")
-	if mode == "strict" && !strings.Contains(given, "--store") {
+	if mode == "bound" {
+		args = append(args, "--caller", "header:User-Agent")
+	}
+	if (mode == "strict" || mode == "bound") && !strings.Contains(given, "--store") {
 		_, url := stores["Redis"](t)
 		args = append(args, "--store", url)
 	}
@@ -240,9 +244,9 @@ func (s *stage) token(id string) string {
 	})
 }
 
-// write lets the state folder be written to: by an acceptance, or by a withdrawal in mode reuse, which keeps no acceptance.
+// write lets the state folder be written to: by an acceptance, or by a withdrawal in modes bound and reuse, which keep no acceptance.
 func (s *stage) write(id string) {
-	if s.mode == "reuse" {
+	if s.mode == "bound" || s.mode == "reuse" {
 		s.withdraw(s.token(id))
 		return
 	}

@@ -32,6 +32,7 @@ type recipe struct {
 	stop     func()            // ends the proxy
 	limited  bool              // whether the proxy gives up as early as its files say
 	trailers bool              // whether the proxy hands on trailers, as its file says
+	from     string            // the address that clients come from; "" for 127.0.0.1
 }
 
 // limits are the texts of deploy/ by which a proxy gives up, by the seconds in which it must not on a busy machine.
@@ -61,7 +62,13 @@ type heard struct {
 }
 
 // newRecipe starts a sidecar and a service.
-func newRecipe(t *testing.T, paths ...string) *recipe {
+func newRecipe(t *testing.T) *recipe {
+	t.Helper()
+	return newRecipeBy(t, "--state", filepath.Join(t.TempDir(), "state"), "--allow", "spiffe://example.org/web")
+}
+
+// newRecipeBy starts a sidecar with these options, and a service.
+func newRecipeBy(t *testing.T, options ...string) *recipe {
 	t.Helper()
 	r := &recipe{heard: make(chan heard, 100), said: &lines{}, folder: t.TempDir(), front: freeAddress(t)}
 	for _, folder := range []string{r.folder, filepath.Dir(r.folder)} { // Apache's processes are of another user.
@@ -75,10 +82,8 @@ func newRecipe(t *testing.T, paths ...string) *recipe {
 		_, _ = io.WriteString(w, "served")
 	}))
 	t.Cleanup(service.Close)
-	r.process = start(t, bundleOption(bundleFile(t, example)), "--state", filepath.Join(t.TempDir(), "state"), "--allow", "spiffe://example.org/web",
-		"--wait", patience.Long.String())
-	r.replaced = strings.NewReplacer(append(paths, "127.0.0.1:9901", r.address, "127.0.0.1:8081", service.Listener.Addr().String(),
-		"127.0.0.1:8080", r.front)...)
+	r.process = start(t, append(options, bundleOption(bundleFile(t, example)), "--wait", patience.Long.String())...)
+	r.replaced = strings.NewReplacer("127.0.0.1:9901", r.address, "127.0.0.1:8081", service.Listener.Addr().String(), "127.0.0.1:8080", r.front)
 	return r
 }
 
@@ -147,7 +152,11 @@ func (r *recipe) runs(environment []string, words ...string) {
 // send sends a request with these lines of headers, and returns the answer with its body.
 func (r *recipe) send(method, path, body string, headers ...string) (*http.Response, string) {
 	r.t.Helper()
-	c, err := net.Dial("tcp", r.front)
+	dialer := net.Dialer{}
+	if r.from != "" {
+		dialer.LocalAddr = &net.TCPAddr{IP: net.ParseIP(r.from)}
+	}
+	c, err := dialer.Dial("tcp", r.front)
 	if err != nil {
 		r.t.Fatal(err)
 	}
@@ -347,6 +356,58 @@ func (r *recipe) holds() {
 	}
 }
 
+// In mode bound, by the client's address: each proxy of the ready files says it, whatever the client says of itself. A thief who comes from another
+// address is refused, and the owner is not.
+func TestRecipesInBound(t *testing.T) {
+	t.Parallel()
+	for name, runs := range map[string]func(r *recipe){
+		"Caddy":   func(r *recipe) { r.runsCaddy("") },
+		"HAProxy": func(r *recipe) { r.runsHAProxy("", "") },
+		"Apache":  (*recipe).runsApache,
+		"nginx":   (*recipe).runsNginx,
+	} {
+		runs := runs
+		t.Run(name, func(t *testing.T) {
+			t.Parallel()
+			_, url := stores["Redis"](t)
+			r := newRecipeBy(t, "--replay", "bound", "--caller", "address:X-Real-Ip", "--store", url)
+			runs(r)
+			bearer := "Authorization: Bearer " + token(t, "bound "+name, lasting)
+			for i, row := range []struct {
+				from   string
+				says   []string
+				status int
+			}{
+				{"127.0.0.1", nil, 200},
+				{"127.0.0.1", nil, 200},
+				{"127.0.0.2", nil, 401},
+				{"127.0.0.2", []string{"X-Real-Ip: 127.0.0.1"}, 401},
+				{"127.0.0.2", []string{"X-Real-Ip: 127.0.0.1", "x-real-ip: 127.0.0.1", "X_Real_Ip: 127.0.0.1", "X-Forwarded-For: 127.0.0.1", "Forwarded: for=127.0.0.1"}, 401},
+				{"127.0.0.2", []string{"X-Real-Ip:", "True-Client-Ip: 127.0.0.1"}, 401},
+				{"127.0.0.1", []string{"X-Real-Ip: 127.0.0.2", "X-Forwarded-For: 127.0.0.2"}, 200},
+				{"127.0.0.1", nil, 200},
+			} {
+				r.from = row.from
+				answer, _ := r.send("GET", "/", "", append(row.says, bearer)...)
+				if got := r.served(); answer.StatusCode != row.status || (got != nil) != (row.status == 200) {
+					t.Errorf("%d: from %s with %q: %d, want %d", i, row.from, row.says, answer.StatusCode, row.status)
+				}
+			}
+			// A client that lets the proxy take the header out becomes nobody else.
+			r.from = "127.0.0.2"
+			answer, _ := r.send("GET", "/", "", "Connection: X-Real-Ip", "X-Real-Ip: 127.0.0.1", bearer)
+			if got := r.served(); answer.StatusCode == 200 || got != nil {
+				t.Errorf("Connection: X-Real-Ip: %d", answer.StatusCode)
+			}
+			for _, line := range append(r.events("accepted"), r.events("refused")...) {
+				if line["caller"] != "127.0.0.1" && line["event"] == "accepted" || line["caller"] != "127.0.0.2" && line["event"] == "refused" {
+					t.Errorf("the log has %v", line)
+				}
+			}
+		})
+	}
+}
+
 func TestCaddyRecipe(t *testing.T) {
 	t.Parallel()
 	r := newRecipe(t)
@@ -438,6 +499,14 @@ func (r *recipe) runsHAProxy(old, other string) {
 func TestApacheRecipe(t *testing.T) {
 	t.Parallel()
 	r := newRecipe(t)
+	r.runsApache()
+	r.holds()
+}
+
+// runsApache starts Apache.
+func (r *recipe) runsApache() {
+	t := r.t
+	t.Helper()
 	given := r.replaced
 	lua := filepath.Join(r.folder, "apache-svidd.lua")
 	site := strings.NewReplacer("/etc/apache2/apache-svidd.lua", lua, "127.0.0.1:8081", given.Replace("127.0.0.1:8081"), "127.0.0.1:8080", r.front)
@@ -460,13 +529,20 @@ func TestApacheRecipe(t *testing.T) {
 			t.Logf("the log of Apache: %s %v", text, err)
 		}
 	})
-	r.holds()
 }
 
 // The recipe of nginx holds what the others do.
 func TestNginxRecipe(t *testing.T) {
 	t.Parallel()
 	r := newRecipe(t)
+	r.runsNginx()
+	r.holds()
+}
+
+// runsNginx starts nginx.
+func (r *recipe) runsNginx() {
+	t := r.t
+	t.Helper()
 	front := fmt.Sprintf(`daemon off; master_process off; pid %[1]s/pid; error_log %[1]s/error.log; events { }
 http {
   access_log off;
@@ -484,5 +560,4 @@ http {
 		r.runs(nil, "nginx", "-c", file, "-e", filepath.Join(r.folder, "error.log"))
 	}
 	r.begin()
-	r.holds()
 }

@@ -205,7 +205,7 @@ func (s *sidecar) open(ctx context.Context) error {
 		return err
 	}
 	o := guard.Options{
-		Audiences: s.audiences, Bundles: specs, Allow: s.allow, Mode: guard.Mode(s.replay), State: s.state, Store: store, Log: s.groupLog(), Longest: s.longest.value,
+		Audiences: s.audiences, Bundles: specs, Allow: s.allow, Mode: guard.Mode(s.replay), Caller: s.caller, State: s.state, Store: store, Log: s.groupLog(), Longest: s.longest.value,
 		Ahead: s.ahead.value, RSABits: s.rsaBits, Wait: time.Duration(s.wait), Summaries: time.Duration(s.summaries), Lines: s.log, Now: clock, Failed: s.fail,
 	}
 	if o.Ahead == 0 {

@@ -2,7 +2,7 @@
 
     envoy.py ADDRESS    as unix:/path or 127.0.0.1:PORT
 
-Each line of standard input is a JSON object with the headers of a request. For each it calls
+Each line of standard input is a JSON object with the headers of a request, and with the address and the principal of who sent it. For each it calls
 envoy.service.auth.v3.Authorization/Check, and prints a JSON object: the CheckResponse, or the code of the call that failed.
 The messages have the fields of Envoy's public API that are used here, under their numbers there.
 """
@@ -20,7 +20,9 @@ NUMBER, TEXT, MANY = TYPES.TYPE_INT32, TYPES.TYPE_STRING, TYPES.LABEL_REPEATED
 MESSAGES = {
     "CheckRequest": [("attributes", 1, "AttributeContext")],
     "AttributeContext": [("source", 1, "Peer"), ("destination", 2, "Peer"), ("request", 4, "Request")],
-    "Peer": [("service", 2, TEXT), ("principal", 4, TEXT)],
+    "Peer": [("address", 1, "Address"), ("service", 2, TEXT), ("principal", 4, TEXT)],
+    "Address": [("socket_address", 1, "SocketAddress")],
+    "SocketAddress": [("protocol", 1, NUMBER), ("address", 2, TEXT), ("port_value", 3, NUMBER)],
     "Request": [("http", 2, "HttpRequest")],
     "HttpRequest": [("id", 1, TEXT), ("method", 2, TEXT), ("headers", 3, "Entry", MANY), ("path", 4, TEXT), ("host", 5, TEXT), ("body", 11, TEXT)],
     "Entry": [("key", 1, TEXT), ("value", 2, TEXT)],
@@ -54,10 +56,13 @@ def classes():
 CLASSES = classes()
 
 
-def asked(headers, body):
-    """The CheckRequest for a request with these headers. (A map is written as entries.)"""
+def asked(headers, body, peer, principal):
+    """The CheckRequest for a request with these headers, of a client with this address. (A map is written as entries.)"""
     request = CLASSES["CheckRequest"]()
-    request.attributes.source.principal = "spiffe://example.org/proxy"
+    request.attributes.source.principal = principal
+    if peer:
+        request.attributes.source.address.socket_address.address = peer
+        request.attributes.source.address.socket_address.port_value = 40000
     http = request.attributes.request.http
     http.id, http.method, http.path, http.host, http.body = "7", "GET", "/a?b", "ledger", body
     for key, value in headers:
@@ -75,7 +80,8 @@ def main():
     for line in sys.stdin:
         said = json.loads(line)
         try:
-            answer = check(asked(said["headers"], said.get("body", "")), timeout=said.get("timeout", 30), wait_for_ready=True)
+            request = asked(said["headers"], said.get("body", ""), said.get("peer", ""), said.get("principal", "spiffe://example.org/proxy"))
+            answer = check(request, timeout=said.get("timeout", 30), wait_for_ready=True)
             told = json_format.MessageToDict(answer, preserving_proto_field_name=True)
         except grpc.RpcError as error:
             told = {"failed": error.code().name, "why": error.details()}

@@ -81,13 +81,25 @@ func Start(t testing.TB, address string) *Client {
 }
 
 // Check asks about a request with these header fields, name and value by turns, and with a body.
-func (c *Client) Check(t testing.TB, body string, fields ...string) (a Answer) {
+func (c *Client) Check(t testing.TB, body string, fields ...string) Answer {
+	t.Helper()
+	return c.ask(t, map[string]any{"body": body}, fields)
+}
+
+// CheckFrom asks about a request of a client with this address and this principal.
+func (c *Client) CheckFrom(t testing.TB, peer, principal string, fields ...string) Answer {
+	t.Helper()
+	return c.ask(t, map[string]any{"peer": peer, "principal": principal}, fields)
+}
+
+func (c *Client) ask(t testing.TB, request map[string]any, fields []string) (a Answer) {
 	t.Helper()
 	headers := [][2]string{}
 	for i := 0; i+1 < len(fields); i += 2 {
 		headers = append(headers, [2]string{fields[i], fields[i+1]})
 	}
-	if err := json.NewEncoder(c.in).Encode(map[string]any{"headers": headers, "body": body}); err != nil {
+	request["headers"] = headers
+	if err := json.NewEncoder(c.in).Encode(request); err != nil {
 		t.Fatal(err)
 	}
 	line, err := c.out.ReadBytes('\n')

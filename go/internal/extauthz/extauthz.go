@@ -30,6 +30,11 @@ const (
 // The numbers of fields.
 const (
 	checkAttributes   = 1 // CheckRequest: AttributeContext
+	attributesSource  = 1 // AttributeContext: Peer
+	peerAddress       = 1 // AttributeContext.Peer: Address
+	peerPrincipal     = 4
+	addressSocket     = 1 // Address: SocketAddress
+	socketAddress     = 2 // SocketAddress: its IP address
 	attributesRequest = 4 // AttributeContext: Request
 	requestHTTP       = 2 // AttributeContext.Request: HttpRequest
 	httpHeaders       = 3 // HttpRequest: map<string, string>
@@ -74,6 +79,41 @@ func ReadHeaders(message []byte, wanted ...string) (Headers, error) {
 		return nil, err
 	}
 	return found, nil
+}
+
+// A Source is the client of the request, as Envoy sees it. No header says so.
+type Source struct {
+	Address   string // of the connection to Envoy; "" for one by a unix socket
+	Principal string // of the client's certificate: its first URI; "" where it showed none
+}
+
+// ReadSource reads who the client of a CheckRequest is. A field that stands there more than once counts as it stands last.
+func ReadSource(message []byte) (s Source, err error) {
+	err = each(message, checkAttributes, func(attributes []byte) error {
+		return each(attributes, attributesSource, func(peer []byte) error {
+			if err := each(peer, peerPrincipal, text(&s.Principal)); err != nil {
+				return err
+			}
+			return each(peer, peerAddress, func(address []byte) error {
+				return each(address, addressSocket, func(socket []byte) error { return each(socket, socketAddress, text(&s.Address)) })
+			})
+		})
+	})
+	if err != nil {
+		return Source{}, err
+	}
+	return s, nil
+}
+
+// text reads a field that is a text.
+func text(into *string) func(value []byte) error {
+	return func(value []byte) error {
+		if !utf8.Valid(value) {
+			return fmt.Errorf("a field is not UTF-8")
+		}
+		*into = string(value)
+		return nil
+	}
 }
 
 // add reads an entry of the map. A field that stands there more than once counts as it stands last, as protobuf has it.

@@ -56,6 +56,45 @@ func TestReadHeaders(t *testing.T) {
 	}
 }
 
+// The client of a request is read from its own fields, and from no others: of two, the last one counts.
+func TestReadSource(t *testing.T) {
+	socket := func(address string) []byte {
+		return appendBytes(nil, addressSocket, appendBytes(nil, socketAddress, []byte(address)))
+	}
+	peer := func(address []byte, principal string) []byte {
+		return appendBytes(appendBytes(nil, peerAddress, address), peerPrincipal, []byte(principal))
+	}
+	source := func(peer []byte) []byte {
+		return appendBytes(nil, checkAttributes, appendBytes(nil, attributesSource, peer))
+	}
+	for what, row := range map[string]struct {
+		message []byte
+		want    string
+	}{
+		"nothing":            {nil, "{ }"},
+		"both":               {source(peer(socket("192.0.2.1"), "spiffe://example.org/web")), "{192.0.2.1 spiffe://example.org/web}"},
+		"beside headers":     {append(request(entry("a", "b")), source(peer(socket("::1"), "p"))...), "{::1 p}"},
+		"a pipe":             {source(peer(appendBytes(nil, 2, []byte("path")), "p")), "{ p}"},
+		"two addresses":      {append(source(peer(socket("192.0.2.1"), "p")), source(peer(socket("192.0.2.2"), ""))...), "{192.0.2.2 }"},
+		"the destination":    {appendBytes(nil, checkAttributes, appendBytes(nil, 2, peer(socket("192.0.2.1"), "p"))), "{ }"},
+		"of the headers":     {request(entry("source", "192.0.2.1")), "{ }"},
+		"not UTF-8":          {source(peer(socket("\xff"), "p")), "a field is not UTF-8"},
+		"a principal is not": {source(peer(socket("a"), "\xff")), "a field is not UTF-8"},
+		"cut":                {source(peer(socket("192.0.2.1"), "p"))[:9], "unexpected EOF"},
+	} {
+		s, err := ReadSource(row.message)
+		got := fmt.Sprint(s)
+		if err != nil {
+			if got = err.Error(); s != (Source{}) {
+				t.Errorf("%s: %v", what, s)
+			}
+		}
+		if got != row.want {
+			t.Errorf("%s: %s, want %s", what, got, row.want)
+		}
+	}
+}
+
 // Each message that is cut anywhere is no whole one, or has fewer header fields: none is misread.
 func TestMessagesThatAreCut(t *testing.T) {
 	whole := request(entry("authorization", "Bearer a"))

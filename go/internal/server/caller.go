@@ -12,10 +12,11 @@ import (
 	"time"
 )
 
-// A caller is who sent a request, for the log. Nothing is decided by it.
+// A caller is who sent a request. Of it, only bound decides something, and that in mode bound alone.
 type caller struct {
 	request string // the name of the request, which its answer has too
-	client  string // the address of the client
+	client  string // the address of the client, for the log
+	bound   Caller // whose the token is to be
 }
 
 // callerOf names a request by its X-Request-Id where that is a name, and else by one of its own.

@@ -88,13 +88,33 @@ func (c *claimQueue) due() time.Duration {
 
 // openClaim lets the claim of a request wait for a call, unless the store has answered the same claim before: another's stays that.
 func (m *Machine) openClaim(r *Request, use svid.Use) {
-	r.claim = claims.Claim{Key: use.Key, Owner: svid.OwnerOfLife(m.ValidatorID, m.Life, use.Expires), Expires: use.Expires}
+	r.claim = claims.Claim{Key: use.Key, Owner: m.ownerOf(r, use.Expires), Expires: use.Expires}
 	if found, lost := m.claims.lost.find(&r.claim); lost {
 		m.found(r, found)
 		return
 	}
+	if s := r.shared; s != nil && s.claim == r.claim && r.came <= s.at {
+		m.found(r, s.found)
+		return
+	}
 	r.stage = claiming
 	m.claims.waiting = append(m.claims.waiting, r)
+}
+
+// An answeredClaim is what the store answered, in mode bound, to a claim that others waited for. It is an answer to those of them that would put the
+// same claim, and that came before it: so many requests of one caller share a put. Each waiting request hands it on to the next one.
+type answeredClaim struct {
+	claim claims.Claim
+	found svid.Found
+	at    time.Duration // when the answer came, by Time.Up
+}
+
+// ownerOf is for whom the token of a request is claimed: for this life, and in mode bound for the caller.
+func (m *Machine) ownerOf(r *Request, expires uint64) claims.Owner {
+	if m.Mode == Bound {
+		return svid.OwnerOfCaller(r.Caller, expires)
+	}
+	return svid.OwnerOfLife(m.ValidatorID, m.Life, expires)
 }
 
 // sendClaims puts the claims that are to go out now.
@@ -128,7 +148,11 @@ func (b Claimed) happen(m *Machine) {
 		switch {
 		case r.answered:
 		case found.Err == nil:
-			m.found(r, svid.Found{Owner: found.Owner, Time: found.Time, Deaf: found.Deaf})
+			answer := svid.Found{Owner: found.Owner, Time: found.Time, Deaf: found.Deaf}
+			if m.Mode == Bound {
+				r.shared = &answeredClaim{r.claim, answer, m.now.Up}
+			}
+			m.found(r, answer)
 		default:
 			r.fault = found.Err
 			again = append(again, r)
@@ -145,9 +169,11 @@ func (b Claimed) happen(m *Machine) {
 
 // found tells the member what the store answered to the claim of a request.
 func (m *Machine) found(r *Request, found svid.Found) {
-	accepted, deed, err := m.validator.Found(m.now.Wall, m.now.Up, r.number, [32]byte{}, found, &r.read)
+	accepted, deed, err := m.validator.Found(m.now.Wall, m.now.Up, r.number, r.Caller, found, &r.read)
 	if err == svid.Replayed && found.Owner != r.claim.Owner {
-		r.Owner = found.Owner.ValidatorID()
+		if r.Other = m.Mode == Bound; !r.Other { // (The owner in mode bound is a digest, and names nobody.)
+			r.Owner = found.Owner.ValidatorID()
+		}
 		m.claims.lost.add(m.now.Up, &r.claim, found)
 	}
 	m.judged(r, accepted, deed, err)
@@ -165,16 +191,16 @@ func (m *Machine) count(err error) {
 	}
 }
 
-// lostClaims are what the store answered to claims of tokens that others have claimed: the next try of one asks no store. There are two
-// generations, so that dropping the old ones takes one step.
+// lostClaims are what the store answered to claims of tokens that others have claimed: the next try of one asks no store. It counts for the same
+// claim alone: in mode bound the token's owner asks the store each time. There are two generations, so that dropping the old ones takes one step.
 type lostClaims struct {
 	young, old map[svid.TokenKey]lostClaim
 	turned     time.Duration
 }
 
 type lostClaim struct {
-	expires uint64
-	found   svid.Found
+	claim claims.Claim
+	found svid.Found
 }
 
 const (
@@ -192,7 +218,7 @@ func (l *lostClaims) add(now time.Duration, claim *claims.Claim, found svid.Foun
 	if len(l.young) >= mostLost || now-l.turned > lostLook && len(l.young) > 0 {
 		l.young, l.old, l.turned = map[svid.TokenKey]lostClaim{}, l.young, now
 	}
-	l.young[claim.Key] = lostClaim{claim.Expires, found}
+	l.young[claim.Key] = lostClaim{*claim, found}
 }
 
 func (l *lostClaims) find(claim *claims.Claim) (found svid.Found, lost bool) {
@@ -200,5 +226,5 @@ func (l *lostClaims) find(claim *claims.Claim) (found svid.Found, lost bool) {
 	if !lost {
 		is, lost = l.old[claim.Key]
 	}
-	return is.found, lost && is.expires == claim.Expires
+	return is.found, lost && is.claim == *claim
 }

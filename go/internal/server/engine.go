@@ -30,8 +30,15 @@ type Mode string
 const (
 	Once   Mode = "once"   // a token is accepted once by this sidecar; the group hears of it at once
 	Strict Mode = "strict" // a token is accepted once in the whole group
+	Bound  Mode = "bound"  // a token is accepted from the caller that used it first in the group, again and again
 	Reuse  Mode = "reuse"  // a token is accepted until it expires or is withdrawn
 )
+
+// claims says whether a token is claimed in the group's store before it is accepted.
+func (m Mode) claims() bool { return m == Strict || m == Bound }
+
+// comesAgain says whether a token may be accepted again, so that what was verified is worth keeping.
+func (m Mode) comesAgain() bool { return m == Reuse || m == Bound }
 
 // A Journal keeps acceptances on the disk.
 type Journal interface {
@@ -64,14 +71,15 @@ type Group interface {
 // Options of an Engine.
 type Options struct {
 	Mode        Mode
-	Audiences   []string // until SetRules
-	Allow       []string // patterns of the SPIFFE IDs that may call (svid.Allows), until SetRules; nil allows all
-	Domains     []string // trust domains that are to have a bundle: until one has, its tokens can't be judged
-	RSABits     int      // at most so many has an RSA key, as svid.KeyringOptions has it
-	Longest     uint64   // seconds past now that a token may live
-	Ahead       uint64   // seconds that clocks of the group may differ
-	Step        uint64   // seconds that the clock may go ahead between two ticks; 0 for any
-	Jumped      func()   // is called once the clock has been further ahead than Step for a minute; may be nil
+	Caller      *CallerRule // in mode Bound: what names the caller of a request; nil where WithCaller alone does
+	Audiences   []string    // until SetRules
+	Allow       []string    // patterns of the SPIFFE IDs that may call (svid.Allows), until SetRules; nil allows all
+	Domains     []string    // trust domains that are to have a bundle: until one has, its tokens can't be judged
+	RSABits     int         // at most so many has an RSA key, as svid.KeyringOptions has it
+	Longest     uint64      // seconds past now that a token may live
+	Ahead       uint64      // seconds that clocks of the group may differ
+	Step        uint64      // seconds that the clock may go ahead between two ticks; 0 for any
+	Jumped      func()      // is called once the clock has been further ahead than Step for a minute; may be nil
 	ValidatorID svid.ValidatorID
 	Journal     Journal       // nil keeps nothing on the disk
 	Grouped     bool          // the engine is not ready before it joined a group
@@ -96,7 +104,7 @@ type Engine struct {
 	start     time.Time   // when Time.Up is 0
 	outlook   outlook
 	pulse     pulse
-	verified  *verified                // in mode reuse
+	verified  *verified                // in modes reuse and bound
 	toHave    atomic.Pointer[[]string] // trust domains that are to have a bundle; nil while Options.Domains counts
 	isReal    bool                     // Options.Now was not given
 
@@ -289,9 +297,9 @@ func (e *Engine) do(own *Request, effect Effect) {
 	}
 }
 
-// findSigner finds the key that made the signature of a request's token. In mode reuse it may be known.
+// findSigner finds the key that made the signature of a request's token. In modes reuse and bound it may be known.
 func (e *Engine) findSigner(r *Request) {
-	if e.Mode == Reuse {
+	if e.Mode.comesAgain() {
 		if r.recalled = e.verified.recall(r.Token); r.recalled.key != nil {
 			r.Key = r.recalled.key
 			_ = r.read.Read() // Here it holds no lock. The validator says what is wrong with the token.
@@ -495,9 +503,9 @@ func (e *Engine) audiences() []string {
 // Check judges a token, and makes an acceptance last as the mode says. The error
 // is nil for an accepted token, a svid.Refusal for a refused one, and anything
 // else if the token could not be judged, or its acceptance not be kept: it is
-// not accepted then. It counts that, and logs it.
+// not accepted then. It counts that, and logs it. In mode bound WithCaller says who presents the token.
 func (e *Engine) Check(ctx context.Context, token string) (svid.Accepted, error) {
-	v := e.judgeToken(ctx, caller{}, token)
+	v := e.judgeToken(ctx, caller{bound: e.namedIn(ctx)}, token)
 	return v.accepted, v.err
 }
 
@@ -505,26 +513,31 @@ func (e *Engine) Check(ctx context.Context, token string) (svid.Accepted, error)
 // next to never even once, so the bound is for faults.
 const mostTries = 16
 
-// judge lets the machine judge a token. It returns the rules by which an accepted one was judged.
-func (e *Engine) judge(ctx context.Context, v *verdict) *Rules {
+// judge lets the machine judge a token that this caller presents. It returns the rules by which an accepted one was judged. In mode bound nothing is
+// judged without a caller: all who have none would be one caller.
+func (e *Engine) judge(ctx context.Context, from Caller, v *verdict) *Rules {
+	if e.Mode == Bound && from.fault != nil {
+		v.err = from.fault
+		return nil
+	}
 	e.look()
-	r := e.judgeOnce(ctx, v.token)
+	r := e.judgeOnce(ctx, from, v.token)
 	for tries := 1; tries < mostTries && r.isOfOldBundles(); tries++ {
 		e.verified.forget(r.recalled)
-		r = e.judgeOnce(ctx, v.token)
+		r = e.judgeOnce(ctx, from, v.token)
 	}
-	if e.Mode == Reuse && r.Err == nil {
+	if e.Mode.comesAgain() && r.Err == nil {
 		e.verified.keep(r.recalled, v.token, r.Key)
 	}
-	v.accepted, v.owner, v.err = r.Accepted, r.Owner, e.ofBundles(v.token, r.Err)
+	v.accepted, v.owner, v.other, v.err = r.Accepted, r.Owner, r.Other, e.ofBundles(v.token, r.Err)
 	return r.rules
 }
 
-func (e *Engine) judgeOnce(ctx context.Context, token string) *Request {
+func (e *Engine) judgeOnce(ctx context.Context, from Caller, token string) *Request {
 	r := NewRequest(token)
-	r.patient, r.done = isPatient(ctx), make(chan struct{})
+	r.Caller, r.patient, r.done = from.digest, isPatient(ctx), make(chan struct{})
 	e.stepFor(r, r)
-	if e.Mode == Strict {
+	if e.Mode.claims() {
 		e.awaitClaim(ctx, r)
 	} else {
 		<-r.done
@@ -556,13 +569,17 @@ func (e *Engine) isToHaveBundle(domain string) bool {
 // Withdraw withdraws the token of this key, which expires at exp, here and in the
 // group. An error that says the group was not told leaves the token withdrawn here;
 // the same call can be made again. usedBy is who accepted the token before, as the
-// group's store has it; zeros where nobody did, or there is no store.
+// group's store has it; zeros where nobody did, or there is no store. In mode bound
+// the store has a digest of the caller, and no validator: so zeros there too.
 func (e *Engine) Withdraw(key svid.TokenKey, exp uint64) (use svid.Use, usedBy svid.ValidatorID, err error) {
 	e.look()
 	w := &Withdraw{Key: key, Expires: exp}
 	e.call(&w.Call, w)
 	if w.Err != nil {
 		return svid.Use{}, usedBy, w.Err
+	}
+	if e.Mode == Bound {
+		return w.Use, usedBy, nil
 	}
 	return w.Use, w.UsedBy.ValidatorID(), nil
 }

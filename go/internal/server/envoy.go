@@ -72,7 +72,11 @@ func (e *Engine) checkEnvoy(r *http.Request) (answer []byte, fault *grpcFault) {
 	if fault != nil {
 		return nil, fault
 	}
-	asked, err := extauthz.ReadHeaders(message, "authorization", "x-request-id", "x-forwarded-for")
+	asked, err := extauthz.ReadHeaders(message, e.Caller.wanted("authorization", "x-request-id", "x-forwarded-for")...)
+	var source extauthz.Source
+	if err == nil && e.Mode == Bound {
+		source, err = extauthz.ReadSource(message)
+	}
 	if err != nil {
 		return nil, &grpcFault{extauthz.InvalidArgument, "it is no CheckRequest"}
 	}
@@ -81,6 +85,7 @@ func (e *Engine) checkEnvoy(r *http.Request) (answer []byte, fault *grpcFault) {
 		header[textproto.CanonicalMIMEHeaderKey(name)] = values
 	}
 	who := callerOf(&http.Request{Header: header, RemoteAddr: r.RemoteAddr})
+	who.bound = e.callerIn(header, Source(source))
 	v := e.judgeBearer(r.Context(), who, header["Authorization"])
 	if v.err != nil {
 		return e.deniedByEnvoy(who, v.err), nil

@@ -61,6 +61,7 @@ func (e *Engine) serveCheck(w http.ResponseWriter, r *http.Request) {
 	headers := w.Header()
 	headers["Cache-Control"] = noStore
 	who := callerOf(r)
+	who.bound = e.callerIn(r.Header, Source{})
 	values := &[4]string{who.request}
 	headers["X-Request-Id"] = values[0:1:1]
 	v := e.judgeBearer(r.Context(), who, r.Header["Authorization"])
@@ -80,7 +81,8 @@ type verdict struct {
 	accepted svid.Accepted
 	audience string           // the first of the engine's that an accepted token names
 	err      error            // nil for an accepted token, a svid.NoBearer for none; else as that of Engine.Check
-	owner    svid.ValidatorID // whose claim the token is, where the group's store said so; else zeros
+	owner    svid.ValidatorID // in mode strict: whose claim the token is, where the group's store said so; else zeros
+	other    bool             // in mode bound: the token is another caller's
 }
 
 // judgeBearer judges the bearer token of these fields Authorization, counts that, and logs it.
@@ -101,7 +103,7 @@ func (e *Engine) judgeBearer(ctx context.Context, who caller, authorization []st
 // judgeToken judges a token, counts that, and logs it.
 func (e *Engine) judgeToken(ctx context.Context, who caller, token string) verdict {
 	from, v := time.Now(), verdict{token: token}
-	if rules := e.judge(ctx, &v); v.err == nil {
+	if rules := e.judge(ctx, who.bound, &v); v.err == nil {
 		v.audience = rules.audience(token)
 	}
 	e.note(from, who, v)
@@ -151,7 +153,9 @@ func (e *Engine) ReasonOf(err error) string {
 		return "NoMemory"
 	case errors.As(err, &kept):
 		return "NotKept"
-	case e.Mode == Strict:
+	case errors.Is(err, ErrNoCaller):
+		return "NoCaller"
+	case e.Mode.claims():
 		return "NotClaimed"
 	}
 	return "NotJudged"
@@ -183,13 +187,16 @@ func (e *Engine) writeDecision(at time.Time, took time.Duration, level Level, wh
 		who.request = names.next()
 	}
 	said := readUnverified(v.token)
-	d := decision{Time: at, Level: level.String(), Request: who.request, Client: who.client, ValidatorID: e.ValidatorID, UsedBy: v.owner, Micros: took.Microseconds()}
+	d := decision{Time: at, Level: level.String(), Request: who.request, Client: who.client, Caller: who.bound.name, ValidatorID: e.ValidatorID, UsedBy: v.owner, Micros: took.Microseconds()}
 	switch {
 	case err == nil:
 		d.Event, d.Subject, d.KeyID = "accepted", v.accepted.ID, said.KeyID
 		d.Aud, d.Expires, d.Key = v.audience, v.accepted.Use.Expires, &v.accepted.Use.Key
 	case refused:
 		d.Event, d.Reason, d.Says, d.Claimed = "refused", refusal.String(), refusal.Sentence(), said.short()
+		if v.other {
+			d.Says = "another caller used this token first"
+		}
 	case err == ErrNotAllowed:
 		d.Event, d.Reason, d.Says, d.Claimed = "refused", "NotAllowed", err.Error(), said.short()
 	default:

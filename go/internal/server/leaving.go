@@ -12,7 +12,7 @@ const lookPause = 50 * time.Millisecond
 // whoLeft is the key of a context's function that says whether the client has left.
 type whoLeft struct{}
 
-// WithLeaving is a context that never ends by itself as its client leaves: hasLeft says whether it has. In mode strict the engine asks that now
+// WithLeaving is a context that never ends by itself as its client leaves: hasLeft says whether it has. In modes strict and bound the engine asks that now
 // and then while a request waits for others, and takes its claim back if it was not put. (A request that puts its own claim waits for
 // the store.)
 func WithLeaving(ctx context.Context, hasLeft func() bool) context.Context {

@@ -158,6 +158,7 @@ func (l *Log) decide(d *decision) {
 	}
 	line = appendMember(line, "request", d.Request)
 	line = appendUnlessEmpty(line, "client", d.Client)
+	line = appendUnlessEmpty(line, "caller", d.Caller)
 	line = appendDigits(line, "validator_id", d.ValidatorID[:])
 	if d.UsedBy != (svid.ValidatorID{}) {
 		line = appendDigits(line, "used_by", d.UsedBy[:])
@@ -216,6 +217,7 @@ type decision struct {
 	Key         *svid.TokenKey
 	Request     string
 	Client      string // "" where a service asks by Engine.Check
+	Caller      string // "" in other modes than bound
 	ValidatorID svid.ValidatorID
 	UsedBy      svid.ValidatorID // who has the token's claim, where it is another one's; else zeros
 	Claimed     *unverified      // what a refused token says of itself

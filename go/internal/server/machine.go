@@ -33,7 +33,7 @@ type Machine struct {
 	requests    map[uint64]*Request  // without an answer, by their numbers
 	withdrawals map[uint64]*Withdraw // the same
 	again       []uint64             // numbers of requests whose tokens are to be judged again
-	claims      claimQueue           // in mode strict
+	claims      claimQueue           // in modes strict and bound
 	state       claims.State         // of the store, as it was when it was looked at last
 
 	keeper keeper // what the disk is to have
@@ -92,7 +92,7 @@ type Call struct {
 }
 
 // memberModes are the modes as the member has them.
-var memberModes = map[Mode]svid.MemberMode{Once: svid.MemberOnce, Strict: svid.MemberStrict, Reuse: svid.MemberReuse}
+var memberModes = map[Mode]svid.MemberMode{Once: svid.MemberOnce, Strict: svid.MemberStrict, Bound: svid.MemberBound, Reuse: svid.MemberReuse}
 
 // NewMachine returns a machine that is not ready, whose validator has an empty record and no member. It wants Renewed and Load, where
 // Options.Grouped is set Joined and CaughtUp, and where Options.Stored is set StoreOpened and Looked. It uses the validator until Ended.
@@ -101,7 +101,7 @@ func NewMachine(o Options, validator *svid.Validator, now Time) (*Machine, error
 }
 
 func newMachine(o *Options, metrics *Metrics, validator *svid.Validator, now Time) (*Machine, error) {
-	o.Stored = o.Stored || o.Mode == Strict
+	o.Stored = o.Stored || o.Mode.claims()
 	mode, ok := memberModes[o.Mode]
 	if !ok {
 		return nil, fmt.Errorf("%q is no mode", o.Mode)
@@ -307,7 +307,7 @@ func (m *Machine) Ready(now Time, full, away bool) error {
 var (
 	// errKeepsNothing: in mode once a token would be answered 503, and be burnt.
 	errKeepsNothing = errors.New("the state folder takes no acceptances: the log says why")
-	// errAway: in mode strict a token would be answered 503.
+	// errAway: in modes strict and bound a token would be answered 503.
 	errAway = errors.New("the group's store does not answer, so no token can be claimed")
 )
 

@@ -34,6 +34,7 @@ type Metrics struct {
 	Snapshots, JournalFailures          atomic.Uint64
 	Uses, Moment                        atomic.Uint64
 	OtherMode                           atomic.Uint64
+	OtherCaller                         atomic.Uint64
 	Epochs                              atomic.Uint64
 
 	// BundleAges returns the seconds since each trust domain's bundle was read.
@@ -83,8 +84,9 @@ func (e *Engine) WriteMetrics(w io.Writer) error {
 	p.value(`svidd_checks_total{result="no_token"}`, float64(m.noToken.Load()))
 	p.value(`svidd_checks_total{result="not_allowed"}`, float64(m.notAllowed.Load()))
 	p.histogram("svidd_check_seconds", "Time from a request to its answer.", &m.seconds)
-	p.counters("svidd_claims_total", "outcome", "Claims of mode strict, by outcome.",
+	p.counters("svidd_claims_total", "outcome", "Claims of modes strict and bound, by outcome.",
 		row{"won", &m.ClaimsWon}, row{"lost", &m.ClaimsLost}, row{"failed", &m.ClaimsFailed})
+	p.counter("svidd_other_caller_total", "Requests of mode bound that were refused since another caller used their token first: it may be stolen.", m.OtherCaller.Load())
 	p.counters("svidd_told_total", "outcome", "Uses for the group, told or given up (summaries repair that).",
 		row{"told", &m.Told}, row{"given_up", &m.Untold})
 	p.counter("svidd_withdrawals_total", "Tokens withdrawn at this sidecar.", m.Withdrawals.Load())

@@ -8,7 +8,7 @@ import (
 	"svid.example/go/v2/svid"
 )
 
-// verified keeps which key made the signature of a token, for mode reuse, where a token comes again and again: it need not be
+// verified keeps which key made the signature of a token, for modes reuse and bound, where a token comes again and again: it need not be
 // verified each time. What is kept is no verdict. The validator judges the token each time, and counts a key only if it has it
 // at that moment. So a kept key counts no longer than its bundles. A token is known by a digest of all of it, so its key is of no
 // use for another token.

@@ -4,6 +4,7 @@ import (
 	"context"
 	"errors"
 	"fmt"
+	"time"
 
 	"svid.example/go/v2/carriers"
 	"svid.example/go/v2/claims"
@@ -45,12 +46,18 @@ type Request struct {
 	Key   *svid.Key // that made the signature; nil where none did
 	Fault error     // why nobody could find that out
 
-	recalled recalled // of mode reuse: what the engine had of the token
+	recalled recalled // of modes reuse and bound: what the engine had of the token
 
 	write *Write // of mode once
 
-	// Of mode strict.
-	Owner   svid.ValidatorID // whose claim the token is, where the answer is Replayed by the store; else zeros
+	// Of mode bound.
+	Caller [32]byte      // a digest of who presents the token
+	Other  bool          // the token is another caller's, so the answer is Replayed
+	came   time.Duration // by Time.Up
+	shared *answeredClaim
+
+	// Of modes strict and bound.
+	Owner   svid.ValidatorID // in mode strict: whose claim the token is, where the answer is Replayed by the store; else zeros
 	claim   claims.Claim     // that was put, or waits for a call
 	patient bool             // it has no end but Options.Wait, so its goroutine may put the claim itself
 	fault   error            // what the store said last, where that was no answer
@@ -88,7 +95,7 @@ func (r *Request) happen(m *Machine) {
 		m.answer(&r.Call, m.notReady(err))
 		return
 	}
-	r.number = deed.Number
+	r.number, r.came = deed.Number, m.now.Up
 	m.requests[r.number] = r
 	m.comes()
 	m.do(Verify{r})
@@ -145,10 +152,13 @@ func (g Gone) happen(m *Machine) {
 
 // carryOut does what the member says of a request.
 func (m *Machine) carryOut(deed svid.Deed) {
+	r := m.requests[deed.Number]
 	if deed.Kind == svid.DeedAnswer && deed.Next != svid.NoRequest {
 		m.again = append(m.again, deed.Next)
+		if next := m.requests[deed.Next]; next != nil && r != nil {
+			next.shared = r.shared
+		}
 	}
-	r := m.requests[deed.Number]
 	if r == nil {
 		return
 	}
@@ -207,7 +217,8 @@ func (r *Request) ended(why error) error {
 // finish answers a request. What was read of its token is let go here, or by who verifies it still.
 //
 // In mode once the group is told now, without waiting: what does not reach it is repaired by summaries. In mode strict the use goes to the disk, where
-// there is one, and the answer does not wait for that: it is the store that makes the token unusable.
+// there is one, and the answer does not wait for that: it is the store that makes the token unusable. In modes bound and reuse there is no use: the token
+// may come again.
 func (m *Machine) finish(r *Request, err error) {
 	delete(m.requests, r.number)
 	switch {
@@ -220,6 +231,9 @@ func (m *Machine) finish(r *Request, err error) {
 	}
 	if r.stage == claiming {
 		m.count(err)
+	}
+	if r.Other {
+		m.metrics.OtherCaller.Add(1)
 	}
 	if r.stage != verifying {
 		r.read.Close()

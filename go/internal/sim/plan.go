@@ -136,6 +136,22 @@ func (w *world) issued(number int) *token {
 	return w.pool.tokens[s%slots][number/4%eachSlot]
 }
 
+// The callers that send tokens. In mode bound one token in four comes from a thief, who may be the first.
+const (
+	owner = iota
+	thief
+	anotherThief
+	callers
+)
+
+// sender is who sends a token next.
+func (w *world) sender(r *rand.Rand) int {
+	if w.plan.mode != server.Bound || r.Intn(4) > 0 {
+		return owner
+	}
+	return owner + 1 + r.Intn(callers-1)
+}
+
 // do does a deed.
 func (w *world) do(d deed) {
 	m := w.members[d.member]
@@ -148,6 +164,7 @@ func (w *world) do(d deed) {
 	case "send":
 		one := w.issued(d.number)
 		for n := 1 + r.Intn(6); n > 0; n-- {
+			by := w.sender(r)
 			to, gives := w.members[r.Intn(len(w.members))], time.Duration(0)
 			if r.Intn(8) == 0 {
 				gives = time.Duration(1 + r.Int63n(int64(wait)))
@@ -156,7 +173,7 @@ func (w *world) do(d deed) {
 			if r.Intn(4) == 0 {
 				d = time.Duration(r.Int63n(int64(4 * time.Second)))
 			}
-			w.after(d, func() { to.ask(one, gives) })
+			w.after(d, func() { to.ask(one, by, gives) })
 		}
 	case "kill":
 		if l != nil {
@@ -359,9 +376,9 @@ func (l *list) Write(b []byte) (int, error) {
 }
 
 // wantEqual wants the records of all members to be equal, of those that have read all. In mode strict each has its own uses,
-// and in reuse a store that has lost its withdrawals tells a member that starts later of none.
+// and in bound and reuse a store that has lost its withdrawals tells a member that starts later of none.
 func (w *world) wantEqual() {
-	if w.plan.mode == server.Strict || w.plan.mode == server.Reuse && w.store.lost {
+	if w.plan.mode == server.Strict || w.plan.mode != server.Once && w.store.lost {
 		return
 	}
 	var moment uint64
@@ -423,15 +440,15 @@ func (w *world) wantEqual() {
 	}
 }
 
-// known is what two records have in common of a use. In mode reuse each member makes its own use of a withdrawal that it reads.
+// known is what two records have in common of a use. In modes bound and reuse each member makes its own use of a withdrawal that it reads.
 func (w *world) known(use svid.Use) svid.Use {
-	if w.plan.mode == server.Reuse {
+	if w.plan.mode != server.Once {
 		return svid.Use{Key: use.Key, Withdrawn: use.Withdrawn}
 	}
 	return use
 }
 
-// wantFresh wants fresh tokens to be accepted by each member.
+// wantFresh wants fresh tokens to be accepted by each member. In mode bound its owner is accepted again, by each member, and a thief is not.
 func (w *world) wantFresh() {
 	now := int(w.now/time.Second) / slot
 	for i, m := range w.members {
@@ -439,18 +456,32 @@ func (w *world) wantFresh() {
 		if i >= 2 {
 			one = w.pool.tokens[(now-1)%slots][4+i%2*2]
 		}
-		a := m.ask(one, 0)
-		w.run(w.now + 3*time.Second)
-		if w.report.failure != "" {
+		if !w.wantAnswer(m, one, owner, nil) {
 			return
 		}
-		if a == nil || !a.done {
-			w.fail("%v: is not up, though no fault is left", m)
-			return
+		if w.plan.mode != server.Bound {
+			continue
 		}
-		if a.request.Err != nil {
-			w.fail("%v: %s is not accepted, though no fault is left: %v", m, one, a.request.Err)
-			return
+		for _, other := range w.members {
+			if !w.wantAnswer(other, one, thief, svid.Replayed) || !w.wantAnswer(other, one, owner, nil) {
+				return
+			}
 		}
 	}
+}
+
+// wantAnswer wants this answer of a member to a caller.
+func (w *world) wantAnswer(m *member, one *token, by int, want error) bool {
+	a := m.ask(one, by, 0)
+	for end := w.now + 3*time.Second; w.now < end && w.report.failure == "" && a != nil && !a.done; {
+		w.run(w.now + 100*time.Millisecond)
+	}
+	switch {
+	case w.report.failure != "":
+	case a == nil || !a.done:
+		w.fail("%v: is not up, though no fault is left", m)
+	case a.request.Err != want:
+		w.fail("%v: caller %d of %s is answered wrongly, though no fault is left: %v", m, by, one, a.request.Err)
+	}
+	return w.report.failure == ""
 }

@@ -6,6 +6,7 @@ import (
 	"strings"
 	"time"
 
+	"svid.example/go/v2/claims"
 	"svid.example/go/v2/internal/server"
 	"svid.example/go/v2/svid"
 )
@@ -21,8 +22,9 @@ type report struct {
 
 // An acceptance is a 200.
 type acceptance struct {
-	by *member
-	at time.Duration
+	by     *member
+	caller int
+	at     time.Duration
 }
 
 // fail says what happened that may not. The first time counts.
@@ -37,6 +39,7 @@ func (w *world) fail(format string, args ...any) {
 type ask struct {
 	l         *life
 	token     *token
+	caller    int
 	request   *server.Request
 	withdraw  *server.Withdraw
 	at        time.Duration
@@ -72,24 +75,31 @@ func (uses names) String() string {
 	return strings.Join(all, ", ")
 }
 
-// ask lets a client send a token to a member. It goes away after a while, if that is more than 0.
-func (m *member) ask(one *token, gives time.Duration) *ask {
+// caller is one of those that send tokens, as a machine knows it.
+func caller(number int) (digest [32]byte) {
+	digest[0] = byte(number)
+	return digest
+}
+
+// ask lets a caller send a token to a member. It goes away after a while, if that is more than 0.
+func (m *member) ask(one *token, by int, gives time.Duration) *ask {
 	l := m.life
 	if l == nil || l.ending {
 		return nil
 	}
-	a := &ask{l: l, token: one, at: m.w.now, request: server.NewRequest(one.text)}
+	a := &ask{l: l, token: one, caller: by, at: m.w.now, request: server.NewRequest(one.text)}
+	a.request.Caller = caller(by)
 	_, a.withdrawn = m.withdrawn[one.key]
 	if _, heard := l.heard[one.key]; heard {
 		a.withdrawn = true
 	}
-	if by, done := m.w.store.gone[one.key]; done && by != svid.OwnerOfLife(m.id, l.name, one.expires) {
+	if by, done := m.w.store.gone[one.key]; done && by != l.ownerOf(one, a.caller) {
 		a.withdrawn = true
 	}
 	l.asks[&a.request.Call] = a
-	m.w.tell("%v: is asked about %s", m, one)
+	m.w.tell("%v: is asked about %s by caller %d", m, one, by)
 	l.step(a.request)
-	if gives > 0 && m.w.plan.mode == server.Strict {
+	if gives > 0 && m.w.claims() {
 		m.w.after(gives, func() {
 			if !l.dead && !a.done {
 				a.gone = true
@@ -103,6 +113,17 @@ func (m *member) ask(one *token, gives time.Duration) *ask {
 		}
 	})
 	return a
+}
+
+// claims says whether a token is claimed in the store before it is accepted.
+func (w *world) claims() bool { return w.plan.mode == server.Strict || w.plan.mode == server.Bound }
+
+// ownerOf is for whom a life claims a token that this caller sends.
+func (l *life) ownerOf(one *token, by int) claims.Owner {
+	if l.w.plan.mode == server.Bound {
+		return svid.OwnerOfCaller(caller(by), one.expires)
+	}
+	return svid.OwnerOfLife(l.m.id, l.name, one.expires)
 }
 
 // withdraw withdraws a token at a member.
@@ -138,8 +159,9 @@ func (a *ask) answered(err error) {
 			if m.disk != nil && !m.kept[a.withdraw.Use] {
 				w.fail("%v: a withdrawal is done that is not on the disk", m)
 			}
-			// (Where the store has a claim of it, the answer says whose: its one acceptance is that life's, now or before.)
-			if _, before := w.store.gone[a.token.key]; w.plan.mode == server.Strict && !before {
+			// (Where the store has a claim of it, the answer says whose: its one acceptance is that life's, now or before. In mode bound that caller goes on
+			// to be accepted where nobody has heard of the withdrawal yet, and no other one is.)
+			if _, before := w.store.gone[a.token.key]; w.claims() && !before {
 				w.store.gone[a.token.key] = a.withdraw.UsedBy
 			}
 			// (Without a disk, a member has it for as long as it lives, or the group has it.)
@@ -185,7 +207,7 @@ func (a *ask) accepted() {
 	}
 	set := a.set
 	by := a.rules
-	if w.plan.mode == server.Strict { // (judged again as its claim was answered)
+	if w.claims() { // (judged again as its claim was answered)
 		set, by = l.set, l.rules
 	}
 	if by > 1 {
@@ -209,12 +231,16 @@ func (a *ask) accepted() {
 			if other.by == m {
 				w.fail("%s is accepted twice by %v, before at %v", one, m, other.at)
 			}
+		case server.Bound:
+			if other.caller != a.caller {
+				w.fail("%s is accepted from caller %d by %v at %v, and from caller %d by %v", one, other.caller, other.by, other.at, a.caller, m)
+			}
 		}
 	}
-	w.report.accepted[one.key] = append(before, acceptance{m, w.now})
+	w.report.accepted[one.key] = append(before, acceptance{m, a.caller, w.now})
 	switch w.plan.mode {
-	case server.Strict:
-		if !w.store.ever[one.key][m.id] {
+	case server.Strict, server.Bound:
+		if !w.store.ever[one.key][l.ownerOf(one, a.caller)] {
 			w.fail("%v: %s is accepted, and the store did not have its claim", m, one)
 		}
 	case server.Once:

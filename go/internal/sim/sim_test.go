@@ -89,11 +89,12 @@ func tell(t *testing.T, p *plan) {
 
 func TestStrict(t *testing.T) { check(t, server.Strict) }
 func TestOnce(t *testing.T)   { check(t, server.Once) }
+func TestBound(t *testing.T)  { check(t, server.Bound) }
 func TestReuse(t *testing.T)  { check(t, server.Reuse) }
 
 // A plan has the same run each time.
 func TestASeedIsOneRun(t *testing.T) {
-	for _, mode := range []server.Mode{server.Once, server.Strict, server.Reuse} {
+	for _, mode := range []server.Mode{server.Once, server.Strict, server.Bound, server.Reuse} {
 		for n := int64(0); n < 20; n++ {
 			var runs [2]strings.Builder
 			for i := range runs {

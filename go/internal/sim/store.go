@@ -23,14 +23,14 @@ type storeServer struct {
 	away   time.Duration // nobody reaches it before this time
 	lost   bool          // it has lost entries
 
-	ever map[svid.TokenKey]map[svid.ValidatorID]bool // whose claims it took first
-	puts [][]claims.Claim                            // that came
-	gone map[svid.TokenKey]claims.Owner              // tokens whose withdrawal was answered as done, and whose claim the store had; claims.Withdrawn for nobody's
-	told map[svid.TokenKey]bool                      // tokens whose withdrawal it has
+	ever map[svid.TokenKey]map[claims.Owner]bool // whose claims it took first
+	puts [][]claims.Claim                        // that came
+	gone map[svid.TokenKey]claims.Owner          // tokens whose withdrawal was answered as done, and whose claim the store had; claims.Withdrawn for nobody's
+	told map[svid.TokenKey]bool                  // tokens whose withdrawal it has
 }
 
 func newStore(w *world) *storeServer {
-	s := &storeServer{w: w, ever: map[svid.TokenKey]map[svid.ValidatorID]bool{}, gone: map[svid.TokenKey]claims.Owner{}, told: map[svid.TokenKey]bool{}}
+	s := &storeServer{w: w, ever: map[svid.TokenKey]map[claims.Owner]bool{}, gone: map[svid.TokenKey]claims.Owner{}, told: map[svid.TokenKey]bool{}}
 	s.Store = memory.Store{Terms: terms, Now: func() uint64 { return base + uint64((w.now+s.offset)/time.Second) }}
 	return s
 }
@@ -41,9 +41,9 @@ func (s *storeServer) take(these []claims.Claim, found []claims.Found) {
 	for i, c := range these {
 		if found[i].Owner == c.Owner {
 			if s.ever[c.Key] == nil {
-				s.ever[c.Key] = map[svid.ValidatorID]bool{}
+				s.ever[c.Key] = map[claims.Owner]bool{}
 			}
-			s.ever[c.Key][c.Owner.ValidatorID()] = true
+			s.ever[c.Key][c.Owner] = true
 		}
 	}
 	s.w.tell("store: puts %d claims", len(these))

@@ -1,0 +1,209 @@
+package main
+
+import (
+	"fmt"
+	"io"
+	"net/http"
+	"path/filepath"
+	"strings"
+	"sync"
+	"sync/atomic"
+	"testing"
+
+	"svid.example/go/v2/internal/envoytest"
+)
+
+// inBound starts n sidecars of mode bound that share a store, whose callers a header names.
+func inBound(t *testing.T, n int, url string, more ...string) []*process {
+	t.Helper()
+	bundle := bundleOption(bundleFile(t, example))
+	all := make([]*process, n)
+	for i := range all {
+		all[i] = start(t, append([]string{bundle, "--replay", "bound", "--caller", "address:X-Real-Ip", "--store", url,
+			"--wait", "20s"}, more...)...)
+	}
+	return all
+}
+
+// sendsFrom sends a token as the proxy of a client with this address does.
+func (p *process) sendsFrom(client, token string) (status int, reason string) {
+	p.t.Helper()
+	r, err := http.NewRequest(http.MethodGet, "http://"+p.address+"/check", nil)
+	if err != nil {
+		p.t.Fatal(err)
+	}
+	r.Header.Set("Authorization", "Bearer "+token)
+	if client != "" {
+		r.Header.Set("X-Real-Ip", client)
+	}
+	answer, err := p.client.Do(r)
+	if err != nil {
+		p.t.Error(err)
+		return 0, err.Error()
+	}
+	defer answer.Body.Close()
+	body, err := io.ReadAll(answer.Body)
+	if err != nil {
+		p.t.Error(err)
+	}
+	return answer.StatusCode, string(body)
+}
+
+// Over each store, at one sidecar and at three: the owners of 300 tokens send each of them ten times, and a thief sends each while they do so. No
+// owner is refused, and no thief is accepted.
+func TestBoundRefusesThieves(t *testing.T) {
+	t.Parallel()
+	for name, begin := range stores {
+		for _, n := range []int{1, 3} {
+			begin, n := begin, n
+			t.Run(fmt.Sprint(name, n), func(t *testing.T) {
+				t.Parallel()
+				_, url := begin(t)
+				all := inBound(t, n, url, "--log", "errors")
+				const atATime = 16
+				owned, times := 300, 10
+				if *long {
+					owned, times = 1000, 20
+				}
+				sent := tokens(t, fmt.Sprint("bound", n), owned)
+				var refused, stolen, unjudged atomic.Int32
+				sends := func(p *process, client, token string, accepted int, counted *atomic.Int32) {
+					switch status, _ := p.sendsFrom(client, token); status {
+					case accepted:
+					case http.StatusOK, http.StatusUnauthorized:
+						counted.Add(1)
+					default:
+						unjudged.Add(1)
+					}
+				}
+				var workers sync.WaitGroup
+				next := int64(-1)
+				for w := 0; w < atATime; w++ {
+					workers.Add(1)
+					go func(w int) {
+						defer workers.Done()
+						for i := int(atomic.AddInt64(&next, 1)); i < owned; i = int(atomic.AddInt64(&next, 1)) {
+							owner, thief := fmt.Sprintf("192.0.2.%d", i%250), fmt.Sprintf("198.51.100.%d", i%250)
+							sends(all[i%n], owner, sent[i], http.StatusOK, &refused)
+							var both sync.WaitGroup // (both at once)
+							both.Add(1)
+							go func() {
+								defer both.Done()
+								for k := 0; k < n; k++ {
+									sends(all[(i+k)%n], thief, sent[i], http.StatusUnauthorized, &stolen)
+								}
+							}()
+							for k := 1; k < times; k++ {
+								sends(all[(i+k)%n], owner, sent[i], http.StatusOK, &refused)
+							}
+							both.Wait()
+						}
+					}(w)
+				}
+				workers.Wait()
+				if refused.Load() != 0 || stolen.Load() != 0 || unjudged.Load() != 0 {
+					t.Errorf("%d requests of owners refused, %d of thieves accepted, %d not judged", refused.Load(), stolen.Load(), unjudged.Load())
+				}
+				others := 0
+				for _, p := range all {
+					var count int
+					if _, err := fmt.Sscan(p.metric("svidd_other_caller_total"), &count); err != nil {
+						t.Fatal(err)
+					}
+					others += count
+				}
+				if others != n*owned {
+					t.Errorf("%d requests of other callers are counted, want %d", others, n*owned)
+				}
+				wantNoLoss(t, all)
+				t.Logf("%d tokens to %d sidecars, each %d times: %d requests of thieves refused", owned, n, times, others)
+			})
+		}
+	}
+}
+
+// A token that was withdrawn after its owner used it is refused within seconds at another sidecar. The lines of the log say who called.
+func TestBoundOverAWithdrawal(t *testing.T) {
+	t.Parallel()
+	_, url := stores["Redis"](t)
+	admin := filepath.Join(t.TempDir(), "admin.sock")
+	all := append(inBound(t, 1, url, "--admin", admin), inBound(t, 1, url)...)
+	one := token(t, "withdrawn in bound", lasting)
+	for _, p := range all {
+		if status, body := p.sendsFrom("192.0.2.1", one); status != 200 {
+			t.Fatalf("%d %s", status, body)
+		}
+	}
+	if status, body := all[1].sendsFrom("192.0.2.2", one); status != 401 || !strings.Contains(body, `"Replayed"`) {
+		t.Errorf("a thief: %d %s", status, body)
+	}
+	if status, body := all[1].sendsFrom("", one); status != 503 || !strings.Contains(body, `"NoCaller"`) {
+		t.Errorf("no caller: %d %s", status, body)
+	}
+	all[1].await("the lines", func() bool { return len(all[1].events("refused")) == 1 && len(all[1].events("unavailable")) == 1 })
+	if line := all[1].events("refused")[0]; line["caller"] != "192.0.2.2" || line["says"] != "another caller used this token first" {
+		t.Errorf("the line of the thief: %v", line)
+	}
+	if line := all[1].events("unavailable")[0]; line["reason"] != "the request names no caller: there is no header X-Real-Ip: let the proxy set it" {
+		t.Errorf("the line without a caller: %v", line)
+	}
+	status, out, said := svidd(t, one, "withdraw", "--admin", admin, "-")
+	if status != 0 || !strings.HasPrefix(out, "withdrawn ") || strings.Contains(out, "used by") {
+		t.Fatalf("%d %s %s", status, out, said)
+	}
+	if status, body := all[0].sendsFrom("192.0.2.1", one); status != 401 || !strings.Contains(body, `"Withdrawn"`) {
+		t.Errorf("where it was withdrawn: %d %s", status, body)
+	}
+	all[1].await("the other sidecar hears of it", func() bool {
+		status, body := all[1].sendsFrom("192.0.2.1", one)
+		return status == 401 && strings.Contains(body, `"Withdrawn"`)
+	})
+}
+
+// Envoy says by gRPC who the client is: its address, or the principal of its certificate. A header says neither.
+func TestBoundBehindEnvoy(t *testing.T) {
+	t.Parallel()
+	_, url := stores["Redis"](t)
+	for i, row := range []struct {
+		rule                string
+		owner, same, thief  [2]string // address and principal
+		none                [2]string
+		ownerSends, forgery []string
+	}{
+		{rule: "peer", owner: [2]string{"192.0.2.1", "p"}, same: [2]string{"192.0.2.1", "other"}, thief: [2]string{"192.0.2.2", "p"}, none: [2]string{"", "p"}},
+		{rule: "peer/24,64", owner: [2]string{"192.0.2.1", "p"}, same: [2]string{"192.0.2.9", "p"}, thief: [2]string{"192.0.3.1", "p"}, none: [2]string{"", "p"}},
+		{rule: "principal", owner: [2]string{"192.0.2.1", "spiffe://example.org/a"}, same: [2]string{"192.0.2.2", "spiffe://example.org/a"},
+			thief: [2]string{"192.0.2.1", "spiffe://example.org/b"}, none: [2]string{"192.0.2.1", ""}},
+		{rule: "header:X-Client-Hash", owner: [2]string{"192.0.2.1", ""}, same: [2]string{"192.0.2.9", ""}, thief: [2]string{"192.0.2.1", ""}, none: [2]string{"192.0.2.1", ""},
+			ownerSends: []string{"x-client-hash", "ab"}, forgery: []string{"x-client-hash", "cd"}},
+	} {
+		p, address := startEnvoy(t, false, "--replay", "bound", "--caller", row.rule, "--store", url, "--wait", "20s")
+		envoy := envoytest.Start(t, address)
+		one := token(t, fmt.Sprint("envoy", i), lasting)
+		sends := func(who [2]string, more []string) (status int, reason string) {
+			a := envoy.CheckFrom(t, who[0], who[1], append([]string{"authorization", "Bearer " + one, "x-forwarded-for", "192.0.2.1"}, more...)...)
+			if a.Denied != nil {
+				return a.Denied.Status.Code, a.Status.Message
+			}
+			return map[bool]int{true: 200}[a.OK != nil], a.Failed
+		}
+		for _, it := range []struct {
+			who    [2]string
+			more   []string
+			status int
+			reason string
+		}{
+			{row.none, nil, 503, "NoCaller"}, {row.owner, row.ownerSends, 200, ""}, {row.same, row.ownerSends, 200, ""}, {row.thief, row.forgery, 401, "Replayed"},
+			{row.owner, row.ownerSends, 200, ""},
+		} {
+			if status, reason := sends(it.who, it.more); status != it.status || reason != it.reason {
+				t.Errorf("%s: %v %q: %d %s, want %d %s", row.rule, it.who, it.more, status, reason, it.status, it.reason)
+			}
+		}
+		if strings.HasPrefix(row.rule, "p") { // /check by HTTP has no such address
+			if status, body := p.sendsFrom("192.0.2.1", one); status != 503 || !strings.Contains(body, "NoCaller") {
+				t.Errorf("%s by HTTP: %d %s", row.rule, status, body)
+			}
+		}
+	}
+}

@@ -1,0 +1,227 @@
+package server
+
+import (
+	"context"
+	"crypto/sha256"
+	"encoding/hex"
+	"errors"
+	"fmt"
+	"net/http"
+	"net/netip"
+	"net/textproto"
+	"strconv"
+	"strings"
+)
+
+// A CallerRule says what names the caller of a request, in mode bound:
+//
+//	address:HEADER  the one IP address of a header that the proxy sets
+//	peer            the address of the connection to Envoy, as Envoy says it by gRPC
+//	header:NAME     the value of a header that the proxy sets
+//	principal       the first URI of the client's certificate, as Envoy says it by gRPC
+//
+// For guard.Protect, peer and principal are those of the connection to the service.
+//
+// Behind address:HEADER and peer may stand /BITS4,BITS6: then all addresses of a network of so many bits (IPv4, IPv6) are one caller.
+type CallerRule struct {
+	text      string
+	kind      string // address, peer, header or principal
+	header    string // its canonical name
+	four, six int    // bits of a network
+}
+
+// Source is what is known of a client beside its headers: "" where it is unknown.
+type Source struct{ Address, Principal string }
+
+// errCaller says how the rule is written.
+var errCaller = errors.New("write address:HEADER or header:NAME, with a header that the proxy in front sets, or peer or principal where Envoy asks by gRPC")
+
+// ParseCaller reads a rule.
+func ParseCaller(text string) (*CallerRule, error) {
+	rule := &CallerRule{text: text, four: 32, six: 128}
+	rest, network, hasNetwork := strings.Cut(text, "/")
+	kind, header, hasHeader := strings.Cut(rest, ":")
+	rule.kind = kind
+	switch kind {
+	case "address", "header":
+		if !hasHeader || header == "" {
+			return nil, fmt.Errorf("%q names no header: write %s:HEADER, with one that the proxy in front sets, as %s:X-Real-Ip", text, kind, kind)
+		}
+		if !isHeaderName(header) {
+			return nil, fmt.Errorf("%q is no name of a header", header)
+		}
+		if rule.header = textproto.CanonicalMIMEHeaderKey(header); rule.header == "Authorization" {
+			return nil, errors.New("Authorization has the token itself, which a thief has too: name a header that the proxy in front sets")
+		}
+	case "peer", "principal":
+		if hasHeader {
+			return nil, fmt.Errorf("%q: behind %s stands no header", text, kind)
+		}
+	default:
+		return nil, fmt.Errorf("%q names no caller: %w", text, errCaller)
+	}
+	if !hasNetwork {
+		return rule, nil
+	}
+	if kind != "address" && kind != "peer" {
+		return nil, fmt.Errorf("%q: a network stands behind an address alone", text)
+	}
+	four, six, both := strings.Cut(network, ",")
+	var okFour, okSix bool
+	rule.four, okFour = bitsOf(four, 32)
+	rule.six, okSix = bitsOf(six, 128)
+	if !both || !okFour || !okSix {
+		return nil, fmt.Errorf("%q: write a network as its bits of IPv4 (1 to 32) and of IPv6 (1 to 128), as /24,64", text)
+	}
+	return rule, nil
+}
+
+// bitsOf reads how many bits a network has.
+func bitsOf(text string, most int) (bits int, ok bool) {
+	n, err := strconv.ParseUint(text, 10, 8)
+	return int(n), err == nil && n > 0 && int(n) <= most
+}
+
+// isHeaderName says whether a text is a token (RFC 9110, section 5.6.2).
+func isHeaderName(text string) bool {
+	for _, c := range []byte(text) {
+		if !(c >= 'a' && c <= 'z' || c >= 'A' && c <= 'Z' || c >= '0' && c <= '9' || strings.IndexByte("!#$%&'*+-.^_`|~", c) >= 0) {
+			return false
+		}
+	}
+	return text != ""
+}
+
+// String is the rule as it was written.
+func (c *CallerRule) String() string { return c.text }
+
+// OfEnvoy says whether Envoy alone names such callers, by gRPC.
+func (c *CallerRule) OfEnvoy() bool { return c.kind == "peer" || c.kind == "principal" }
+
+// wanted are names of headers in small letters, with that of the rule.
+func (c *CallerRule) wanted(names ...string) []string {
+	if c == nil || c.header == "" {
+		return names
+	}
+	name := strings.ToLower(c.header)
+	for _, one := range names {
+		if one == name {
+			return names
+		}
+	}
+	return append(names, name)
+}
+
+// A Caller is who presents a token, in mode bound.
+type Caller struct {
+	name   string   // for the log
+	digest [32]byte // tells it from all others
+	fault  error    // why the request names none, an ErrNoCaller; then there is no digest
+}
+
+// ErrNoCaller: the request does not say who presents the token, so it is not judged.
+var ErrNoCaller = errors.New("the request names no caller")
+
+func noCaller(text string, values ...any) Caller {
+	return Caller{fault: fmt.Errorf("%w: "+text, append([]any{ErrNoCaller}, values...)...)}
+}
+
+// callerBy is the caller of this name. The digest is over what kind of name it is, and the name. No kind has a byte 0, so no two of them have one
+// text. It leaves out which header the name came from: all members of a group have one --caller, and where two proxies name one client by two headers,
+// it is one caller.
+func callerBy(kind, name string) Caller {
+	digest := sha256.Sum256([]byte(kind + "\x00" + name))
+	if kind != "address" && !isName(name) { // It may be a secret, such as a token.
+		name = "sha256:" + hex.EncodeToString(digest[:16])
+	}
+	return Caller{name: name, digest: digest}
+}
+
+// Of is the caller of a request.
+func (c *CallerRule) Of(header http.Header, source Source) Caller {
+	switch {
+	case c == nil:
+		return noCaller("no rule says who the caller is")
+	case c.kind == "principal" && source.Principal == "":
+		return noCaller("no principal is known: let Envoy ask by gRPC, and clients show a certificate (require_client_certificate)")
+	case c.kind == "principal":
+		return callerBy("principal", source.Principal)
+	case c.kind == "peer" && source.Address == "":
+		return noCaller("no address of a peer is known: let Envoy ask by gRPC, or name a header that the proxy sets (--caller address:HEADER)")
+	case c.kind == "peer":
+		return c.within(source.Address, "the peer")
+	}
+	values := header[c.header]
+	switch {
+	case len(values) == 0:
+		return noCaller("there is no header %s: let the proxy set it", c.header)
+	case len(values) > 1:
+		return noCaller("there are %d headers %s: let the proxy replace what a client sent", len(values), c.header)
+	case strings.TrimSpace(values[0]) == "":
+		return noCaller("the header %s is empty: let the proxy set it", c.header)
+	case c.kind == "address":
+		return c.within(strings.TrimSpace(values[0]), "the header "+c.header)
+	}
+	return callerBy("header", strings.TrimSpace(values[0]))
+}
+
+// mostShown is how many bytes of what is no address stand in the log. No token is so short.
+const mostShown = 64
+
+// within is the caller of an address, or of its network.
+func (c *CallerRule) within(text, where string) Caller {
+	address, err := netip.ParseAddr(text)
+	if err != nil && len(text) > mostShown {
+		return noCaller("%s has %d bytes that are not one IP address: let the proxy set it to that of the client", where, len(text))
+	}
+	if err != nil {
+		return noCaller("%s has %q, which is not one IP address: let the proxy set it to that of the client", where, text)
+	}
+	address = address.Unmap().WithZone("")
+	bits := c.six
+	if address.Is4() {
+		bits = c.four
+	}
+	if bits == address.BitLen() {
+		return callerBy("address", address.String())
+	}
+	network, err := address.Prefix(bits)
+	if err != nil {
+		return noCaller("%s has no network of %d bits: %v", where, bits, err)
+	}
+	return callerBy("address", network.String())
+}
+
+// callerIn is the caller of a request, in mode bound.
+func (e *Engine) callerIn(header http.Header, source Source) Caller {
+	if e.Mode != Bound {
+		return Caller{}
+	}
+	return e.Caller.Of(header, source)
+}
+
+type callerKey struct{}
+
+// WithCaller returns a context by which Engine.Check knows who presents the token.
+func WithCaller(ctx context.Context, from Caller) context.Context {
+	return context.WithValue(ctx, callerKey{}, from)
+}
+
+// CallerNamed is the caller of a name that a service gives.
+func CallerNamed(name string) Caller {
+	if name == "" {
+		return noCaller("its name is empty")
+	}
+	return callerBy("name", name)
+}
+
+// namedIn is the caller of WithCaller, in mode bound.
+func (e *Engine) namedIn(ctx context.Context) Caller {
+	if e.Mode != Bound {
+		return Caller{}
+	}
+	if from, ok := ctx.Value(callerKey{}).(Caller); ok {
+		return from
+	}
+	return noCaller("call guard.WithCaller, or let guard.Protect find it (Options.Caller)")
+}

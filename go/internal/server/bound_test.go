@@ -1,0 +1,562 @@
+package server
+
+import (
+	"bytes"
+	"context"
+	"encoding/json"
+	"errors"
+	"fmt"
+	"net/http"
+	"net/http/httptest"
+	"strings"
+	"sync"
+	"testing"
+	"time"
+
+	"svid.example/go/v2/claims"
+	"svid.example/go/v2/svid"
+)
+
+// ruleOf is a rule that a test knows to be one.
+func ruleOf(t testing.TB, text string) *CallerRule {
+	t.Helper()
+	rule, err := ParseCaller(text)
+	if err != nil {
+		t.Fatal(err)
+	}
+	return rule
+}
+
+// inBound are options of mode bound whose callers this rule names.
+func inBound(t testing.TB, rule string, o Options) Options {
+	o.Mode, o.Stored, o.Terms, o.Caller = Bound, true, claims.Terms{Lasts: 3660, Margin: 90, Back: 60}, ruleOf(t, rule)
+	return o
+}
+
+// bound returns engines of one group in mode bound.
+func bound(t testing.TB, n int, rule string) ([]*Engine, *shop) {
+	t.Helper()
+	s := newShop()
+	var all []*Engine
+	for i := 0; i < n; i++ {
+		all = append(all, s.use(t, ready(t, engine(t, inBound(t, rule, Options{ValidatorID: svid.ValidatorID{byte(i + 1)}})))))
+	}
+	return all, s
+}
+
+// by sends a token as a caller of this name does.
+func by(e *Engine, name, token string) error {
+	_, err := e.Check(WithCaller(context.Background(), CallerNamed(name)), token)
+	return err
+}
+
+// from sends a token to /check with these headers.
+func from(e *Engine, token string, header http.Header) *httptest.ResponseRecorder {
+	r, w := httptest.NewRequest(http.MethodGet, "http://svidd/check", nil), httptest.NewRecorder()
+	r.Header = header.Clone()
+	if r.Header == nil {
+		r.Header = http.Header{}
+	}
+	r.Header.Set("Authorization", "Bearer "+token)
+	e.Handler().ServeHTTP(w, r)
+	return w
+}
+
+// A token is accepted at each sidecar from the caller that used it first, again and again, and from nobody else.
+func TestBoundAcceptsOneCaller(t *testing.T) {
+	all, _ := bound(t, 3, "header:X-Caller")
+	one := token("a")
+	for round := 0; round < 3; round++ {
+		for i, e := range all {
+			if err := by(e, "owner", one); err != nil {
+				t.Errorf("the owner at sidecar %d: %v", i, err)
+			}
+			if err := by(e, "thief", one); err != svid.Replayed {
+				t.Errorf("the thief at sidecar %d: %v", i, err)
+			}
+		}
+	}
+	for _, e := range all {
+		if uses, err := svid.Uses(saved(t, e)); err != nil || len(uses) != 0 {
+			t.Errorf("the record has %d uses: %v", len(uses), err)
+		}
+		if n := withMachine(e, (*Machine).Backlog); n != 0 {
+			t.Errorf("%d things are under way", n)
+		}
+		if got := e.Metrics.OtherCaller.Load(); got != 3 {
+			t.Errorf("%d requests of another caller are counted", got)
+		}
+	}
+}
+
+// Many requests of an owner at once are all accepted, and none of as many thieves.
+func TestBoundAtOnce(t *testing.T) {
+	all, _ := bound(t, 3, "header:X-Caller")
+	for round := 0; round < 10; round++ {
+		one := token(fmt.Sprint("at once ", round))
+		if err := by(all[round%3], "owner", one); err != nil {
+			t.Fatal(err)
+		}
+		var group sync.WaitGroup
+		for i := 0; i < 24; i++ {
+			group.Add(2)
+			go func(i int) {
+				defer group.Done()
+				if err := by(all[i%3], "owner", one); err != nil {
+					t.Errorf("the owner: %v", err)
+				}
+			}(i)
+			go func(i int) {
+				defer group.Done()
+				if err := by(all[i%3], fmt.Sprint("thief ", i), one); err != svid.Replayed {
+					t.Errorf("a thief: %v", err)
+				}
+			}(i)
+		}
+		group.Wait()
+	}
+}
+
+// Requests of one caller that come while the store is asked share its answer. One that comes later asks again.
+func TestRequestsOfOneCallerShareAClaim(t *testing.T) {
+	all, store := bound(t, 1, "header:X-Caller")
+	e, one := all[0], token("a")
+	const waiters = 100
+	release, answers := store.hold(), make(chan error, waiters+1)
+	send := func() { answers <- by(e, "owner", one) }
+	go send()
+	await(t, "the claim", func() bool { return store.puts() == 1 })
+	for i := 0; i < waiters; i++ {
+		go send()
+	}
+	await(t, "all to wait", func() bool { return withMachine(e, at(waiting)) == waiters })
+	release()
+	for i := 0; i < waiters+1; i++ {
+		if err := <-answers; err != nil {
+			t.Error(err)
+		}
+	}
+	if n := store.puts(); n != 1 {
+		t.Errorf("%d requests of one caller took %d calls", waiters+1, n)
+	}
+	if err := by(e, "owner", one); err != nil || store.puts() != 2 {
+		t.Errorf("later: %v, after %d calls", err, store.puts())
+	}
+	if err := by(e, "thief", one); err != svid.Replayed || store.puts() != 3 {
+		t.Errorf("a thief: %v, after %d calls", err, store.puts())
+	}
+}
+
+// An answer of the store is for those that came before it. A request of the owner that comes later asks again, though it waited for a thief that left.
+func TestAnAnswerIsForWhoCameBeforeIt(t *testing.T) {
+	all, store := bound(t, 1, "header:X-Caller")
+	e, one := all[0], token("a")
+	store.hold()
+	owner, thief, later := make(chan error, 1), make(chan error, 1), make(chan error, 1)
+	ctx, leave := context.WithCancel(WithCaller(context.Background(), CallerNamed("thief")))
+	defer leave()
+	go func() { owner <- by(e, "owner", one) }()
+	await(t, "the owner's claim", func() bool { return store.puts() == 1 })
+	go func() {
+		_, err := e.Check(ctx, one)
+		thief <- err
+	}()
+	await(t, "the thief to wait", func() bool { return withMachine(e, at(waiting)) == 1 })
+	store.mu.Lock()
+	first := store.held
+	store.held = make(chan struct{}) // The thief's claim has no answer.
+	store.mu.Unlock()
+	close(first)
+	if err := <-owner; err != nil {
+		t.Error(err)
+	}
+	await(t, "the thief's claim", func() bool { return store.puts() == 2 })
+	go func() { later <- by(e, "owner", one) }()
+	await(t, "the owner to wait", func() bool { return withMachine(e, at(waiting)) == 1 })
+	store.mu.Lock()
+	store.held = nil
+	store.mu.Unlock()
+	leave()
+	if err := <-thief; !errors.Is(err, context.Canceled) {
+		t.Error(err)
+	}
+	if err := <-later; err != nil || store.puts() != 3 {
+		t.Errorf("the owner, later: %v, after %d calls", err, store.puts())
+	}
+}
+
+// Of two callers that send a token first at the same time, one gets 200, and goes on to get it.
+func TestBoundHasOneFirstCaller(t *testing.T) {
+	all, store := bound(t, 2, "header:X-Caller")
+	one := token("a")
+	release := store.hold()
+	answers := [2]chan error{make(chan error, 1), make(chan error, 1)}
+	for i, e := range all {
+		i, e := i, e
+		go func() { answers[i] <- by(e, fmt.Sprint(i), one) }()
+	}
+	await(t, "both claims", func() bool { return store.puts() == 2 })
+	release()
+	won, lost := 0, 0
+	var first string
+	for i := range answers {
+		switch err := <-answers[i]; err {
+		case nil:
+			won, first = won+1, fmt.Sprint(i)
+		case svid.Replayed:
+			lost++
+		default:
+			t.Error(err)
+		}
+	}
+	if won != 1 || lost != 1 {
+		t.Fatalf("%d won, %d lost", won, lost)
+	}
+	for i, e := range all {
+		if err := by(e, first, one); err != nil {
+			t.Errorf("at sidecar %d: %v", i, err)
+		}
+	}
+}
+
+// Another life of a sidecar knows the caller from the store.
+func TestBoundOverARestart(t *testing.T) {
+	all, store := bound(t, 1, "header:X-Caller")
+	one := token("a")
+	if err := by(all[0], "owner", one); err != nil {
+		t.Fatal(err)
+	}
+	next := store.use(t, ready(t, engine(t, inBound(t, "header:X-Caller", Options{ValidatorID: svid.ValidatorID{1}}))))
+	if err := by(next, "thief", one); err != svid.Replayed {
+		t.Errorf("a thief after a restart: %v", err)
+	}
+	if err := by(next, "owner", one); err != nil {
+		t.Errorf("the owner after a restart: %v", err)
+	}
+}
+
+// The thief's claim that the store answered is no claim of the owner: the owner asks the store each time, and the thief does not.
+func TestWhatAThiefWasAnswered(t *testing.T) {
+	all, store := bound(t, 1, "header:X-Caller")
+	e, one := all[0], token("a")
+	if err := by(e, "owner", one); err != nil {
+		t.Fatal(err)
+	}
+	for i, want := range []int{1, 0, 0} {
+		before := store.puts()
+		if err := by(e, "thief", one); err != svid.Replayed || store.puts()-before != want {
+			t.Errorf("the thief, time %d: %v, after %d calls", i, err, store.puts()-before)
+		}
+	}
+	for i := 0; i < 3; i++ {
+		before := store.puts()
+		if err := by(e, "owner", one); err != nil || store.puts()-before != 1 {
+			t.Errorf("the owner, time %d: %v, after %d calls", i, err, store.puts()-before)
+		}
+	}
+	store.Lose(nil)
+	if err := by(e, "owner", one); !errors.Is(err, ErrLost) {
+		t.Errorf("the owner, when the store has lost all: %v", err)
+	}
+}
+
+// A withdrawal here, and one that another sidecar put into the store after the claim, refuse the token of its owner too.
+func TestBoundHearsOfWithdrawals(t *testing.T) {
+	all, _ := bound(t, 2, "header:X-Caller")
+	one := token("a")
+	for _, e := range all {
+		if err := by(e, "owner", one); err != nil {
+			t.Fatal(err)
+		}
+	}
+	found, err := all[0].Find(one)
+	if err != nil {
+		t.Fatal(err)
+	}
+	if _, usedBy, err := all[0].Withdraw(found.Key, found.Expires); err != nil || usedBy != (svid.ValidatorID{}) {
+		t.Errorf("withdrawn: used by %v, %v", usedBy, err)
+	}
+	if err := by(all[0], "owner", one); err != svid.Withdrawn {
+		t.Errorf("where it was withdrawn: %v", err)
+	}
+	all[1].lookAtStore() // as each second
+	if err := by(all[1], "owner", one); err != svid.Withdrawn {
+		t.Errorf("at another sidecar: %v", err)
+	}
+	uses, err := svid.Uses(saved(t, all[1]))
+	if err != nil || len(uses) != 1 || !uses[0].Withdrawn {
+		t.Errorf("the record has %v: %v", uses, err)
+	}
+}
+
+// A sidecar that has not read the store's withdrawals judges nothing. The member is told of a store that is away, or has lost entries: what that
+// means for /readyz it says itself.
+func TestReadyInBound(t *testing.T) {
+	s := newShop()
+	e := ready(t, engine(t, inBound(t, "header:X-Caller", Options{Wait: time.Millisecond})))
+	if err := by(e, "owner", token("a")); !errors.Is(err, ErrNotReady) || e.Ready() == nil {
+		t.Errorf("without a store: %v, ready: %v", err, e.Ready())
+	}
+	if s.use(t, e); e.Ready() != nil {
+		t.Error(e.Ready())
+	}
+	s.Lose(nil)
+	e.lookAtStore()
+	_ = e.Ready()
+	if known := withMachine(e, func(m *Machine) svid.Known { return m.known }); !known.Deaf || known.Away || !known.Heard {
+		t.Errorf("with a store that has lost entries: %+v", known)
+	}
+	e.storeAnswered(errors.New("connection lost"))
+	await(t, "the store to be away for longer than a request waits", func() bool {
+		_ = e.Ready()
+		return withMachine(e, func(m *Machine) bool { return m.known.Away })
+	})
+}
+
+// What stands in the place of a caller names none, and then nothing is judged: the answer is 503, and its line says what to set.
+func TestARequestWithoutACaller(t *testing.T) {
+	type headers = http.Header
+	for _, row := range []struct {
+		rule   string
+		header headers
+		says   string // "" where there is a caller
+	}{
+		{"header:x-client-hash", headers{"X-Client-Hash": {"ab12"}}, ""},
+		{"header:X-Client-Hash", nil, "there is no header X-Client-Hash: let the proxy set it"},
+		{"header:X-Client-Hash", headers{"X-Client-Hash": {""}}, "the header X-Client-Hash is empty: let the proxy set it"},
+		{"header:X-Client-Hash", headers{"X-Client-Hash": {" "}}, "the header X-Client-Hash is empty: let the proxy set it"},
+		{"header:X-Client-Hash", headers{"X-Client-Hash": {"a", "a"}}, "there are 2 headers X-Client-Hash: let the proxy replace what a client sent"},
+		{"address:X-Real-Ip", headers{"X-Real-Ip": {"192.0.2.1"}}, ""},
+		{"address:X-Real-Ip", headers{"X-Real-Ip": {"2001:db8::1"}}, ""},
+		{"address:X-Real-Ip", headers{"X-Forwarded-For": {"192.0.2.1"}}, "there is no header X-Real-Ip: let the proxy set it"},
+		{"address:X-Real-Ip", headers{"X-Real-Ip": {"192.0.2.1", "192.0.2.2"}}, "there are 2 headers X-Real-Ip"},
+		{"address:X-Real-Ip", headers{"X-Real-Ip": {"192.0.2.1, 192.0.2.2"}}, "which is not one IP address"},
+		{"address:X-Real-Ip", headers{"X-Real-Ip": {"unix:"}}, "which is not one IP address"},
+		{"address:X-Real-Ip", headers{"X-Real-Ip": {"192.0.2.1:80"}}, "which is not one IP address"},
+		{"address:X-Real-Ip/24,64", headers{"X-Real-Ip": {strings.Repeat("a", 5000)}}, "has 5000 bytes that are not one IP address"},
+		{"peer", headers{"X-Real-Ip": {"192.0.2.1"}}, "no address of a peer is known"},
+		{"principal", headers{"X-Forwarded-Client-Cert": {"URI=spiffe://example.org/web"}}, "no principal is known"},
+	} {
+		var out bytes.Buffer
+		all, store := bound(t, 1, row.rule)
+		e := all[0]
+		e.Log = NewLog(&out, Decisions)
+		one := token("a")
+		w := from(e, one, row.header)
+		if row.says == "" {
+			if w.Code != 200 {
+				t.Errorf("%+v: %d %s", row, w.Code, w.Body)
+			}
+			continue
+		}
+		if want := `{"reason":"NoCaller","result":"unavailable"}`; w.Code != 503 || strings.TrimSpace(w.Body.String()) != want || w.Header().Get("Retry-After") == "" {
+			t.Errorf("%+v: %d %v %s", row, w.Code, w.Header(), w.Body)
+		}
+		var line map[string]any
+		if err := json.Unmarshal(out.Bytes(), &line); err != nil {
+			t.Fatalf("%s: %v", &out, err)
+		}
+		said, _ := line["reason"].(string)
+		if line["level"] != "error" || line["event"] != "unavailable" || !strings.Contains(said, row.says) || len(said) > 300 || line["caller"] != nil {
+			t.Errorf("%+v: the line is %s", row, &out)
+		}
+		if store.puts() != 0 || e.Metrics.unavailable.Load() != 1 {
+			t.Errorf("%+v: %d claims, %d unavailable", row, store.puts(), e.Metrics.unavailable.Load())
+		}
+		// (A token that nobody was accepted with is nobody's.)
+		if err := by(e, "owner", one); err != nil {
+			t.Errorf("%+v: its owner: %v", row, err)
+		}
+	}
+	all, _ := bound(t, 1, "peer")
+	if err := check(all[0], token("a")); !errors.Is(err, ErrNoCaller) {
+		t.Errorf("without a request: %v", err)
+	}
+	if err := by(all[0], "", token("a")); !errors.Is(err, ErrNoCaller) {
+		t.Errorf("an empty name: %v", err)
+	}
+}
+
+// Who is one caller, and who is another.
+func TestCallersAreToldApart(t *testing.T) {
+	address := func(text string) http.Header { return http.Header{"X-Real-Ip": {text}} }
+	hash := func(text string) http.Header { return http.Header{"X-Hash": {text}} }
+	for _, row := range []struct {
+		rule  string
+		one   http.Header
+		other http.Header
+		same  bool
+	}{
+		{"address:X-Real-Ip", address("192.0.2.1"), address("192.0.2.1"), true},
+		{"address:X-Real-Ip", address("192.0.2.1"), address(" 192.0.2.1 "), true},
+		{"address:X-Real-Ip", address("192.0.2.1"), address("::ffff:192.0.2.1"), true},
+		{"address:X-Real-Ip", address("2001:db8::1"), address("2001:0db8:0:0::1"), true},
+		{"address:X-Real-Ip", address("192.0.2.1"), address("192.0.2.2"), false},
+		{"address:X-Real-Ip", address("2001:db8::1"), address("2001:db8::2"), false},
+		{"address:X-Real-Ip", address("192.0.2.1"), address("::192.0.2.1"), false},
+		{"address:X-Real-Ip/24,64", address("192.0.2.1"), address("192.0.2.254"), true},
+		{"address:X-Real-Ip/24,64", address("192.0.2.1"), address("192.0.3.1"), false},
+		{"address:X-Real-Ip/24,64", address("2001:db8::1"), address("2001:db8::ffff:1"), true},
+		{"address:X-Real-Ip/24,64", address("2001:db8:0:1::1"), address("2001:db8:0:2::1"), false},
+		{"address:X-Real-Ip/24,64", address("192.0.2.1"), address("::ffff:192.0.2.77"), true},
+		{"address:X-Real-Ip/32,128", address("192.0.2.1"), address("192.0.2.2"), false},
+		{"header:X-Hash", hash("ab"), hash("ab"), true},
+		{"header:X-Hash", hash("ab"), hash("AB"), false},
+		{"header:X-Hash", hash("ab"), hash("ab,cd"), false},
+	} {
+		all, _ := bound(t, 2, row.rule)
+		want := map[bool]int{true: 200, false: 401}[row.same]
+		one := token("a")
+		if w := from(all[0], one, row.one); w.Code != 200 {
+			t.Errorf("%+v: the first one: %d %s", row, w.Code, w.Body)
+		}
+		if w := from(all[1], one, row.other); w.Code != want {
+			t.Errorf("%+v: the other one: %d %s", row, w.Code, w.Body)
+		}
+	}
+	// Kinds of names are told apart, and a name can't be one of another kind.
+	digests := map[[32]byte]string{}
+	for _, kind := range []string{"address", "header", "principal", "name"} {
+		for _, name := range []string{"192.0.2.1", "header\x00192.0.2.1", "\x00192.0.2.1"} {
+			c := callerBy(kind, name)
+			if before, is := digests[c.digest]; is {
+				t.Errorf("%s %q has the digest of %s", kind, name, before)
+			}
+			digests[c.digest] = fmt.Sprintf("%s %q", kind, name)
+		}
+	}
+}
+
+// The lines of a token say who sent it, also those of a thief, which say why.
+func TestLinesSayWhoCalls(t *testing.T) {
+	var out bytes.Buffer
+	all, _ := bound(t, 1, "address:X-Real-Ip/24,64")
+	e, one := all[0], token("a")
+	e.Log = NewLog(&out, Decisions)
+	for _, row := range []struct {
+		address, event, caller, says string
+	}{
+		{"192.0.2.7", "accepted", "192.0.2.0/24", ""},
+		{"198.51.100.7", "refused", "198.51.100.0/24", "another caller used this token first"},
+		{"198.51.100.8", "refused", "198.51.100.0/24", "another caller used this token first"},
+		{"2001:db8::1", "refused", "2001:db8::/64", "another caller used this token first"},
+	} {
+		out.Reset()
+		from(e, one, http.Header{"X-Real-Ip": {row.address}})
+		var line map[string]any
+		if err := json.Unmarshal(out.Bytes(), &line); err != nil {
+			t.Fatalf("%s: %v", &out, err)
+		}
+		says, _ := line["says"].(string)
+		if line["event"] != row.event || line["caller"] != row.caller || says != row.says || line["used_by"] != nil {
+			t.Errorf("%+v: %s", row, &out)
+		}
+	}
+	if page := request(e.Handler(), "GET", "/metrics").Body.String(); !strings.Contains(page, "svidd_other_caller_total 3\n") {
+		t.Errorf("the metrics: %s", page)
+	}
+}
+
+// A header that is no short name may be a secret: the log has a digest of it.
+func TestNoSecretOfACallerIsLogged(t *testing.T) {
+	var out bytes.Buffer
+	all, _ := bound(t, 1, "header:X-Client")
+	e := all[0]
+	e.Log = NewLog(&out, Decisions)
+	for _, row := range []struct {
+		value, says string // "" for a digest
+	}{
+		{"ab:cd:ef", "ab:cd:ef"}, {"spiffe://example.org/web", "spiffe://example.org/web"}, {token("secret"), ""}, {"a secret", ""}, {"\u009b2J", ""},
+		{"\xff", ""}, {strings.Repeat("a", 129), ""},
+	} {
+		out.Reset()
+		w := from(e, token("of "+row.value), http.Header{"X-Client": {row.value}})
+		var line map[string]any
+		if err := json.Unmarshal(out.Bytes(), &line); err != nil {
+			t.Fatalf("%s: %v", &out, err)
+		}
+		said, _ := line["caller"].(string)
+		if w.Code != 200 || row.says != "" && said != row.says || row.says == "" && (!strings.HasPrefix(said, "sha256:") || len(said) != 39) {
+			t.Errorf("%q: %d, the line has %q", row.value, w.Code, said)
+		}
+	}
+}
+
+// A token that its owner has sent twice is not verified again.
+func TestABoundTokenIsKnown(t *testing.T) {
+	all, _ := bound(t, 1, "header:X-Caller")
+	e, one := all[0], token("a")
+	for i := 0; i < 2; i++ {
+		if err := by(e, "owner", one); err != nil {
+			t.Fatal(err)
+		}
+	}
+	e.keyring.Close()
+	if err := by(e, "owner", one); err != nil {
+		t.Error(err)
+	}
+	if err := by(e, "thief", one); err != svid.Replayed {
+		t.Errorf("a thief: %v", err)
+	}
+	if err := by(e, "owner", token("b")); err != svid.ErrClosed {
+		t.Errorf("another token: %v", err)
+	}
+}
+
+// A store that does not answer is a 503 that says so. The claim is the caller's all the same.
+func TestABoundClaimOfUnknownOutcome(t *testing.T) {
+	s := newShop()
+	o := inBound(t, "header:X-Caller", Options{Wait: 300 * time.Millisecond})
+	e := s.use(t, ready(t, engine(t, o)))
+	one := token("a")
+	s.fail(errors.New("connection lost"))
+	if err := by(e, "owner", one); !errors.Is(err, context.DeadlineExceeded) || e.ReasonOf(err) != "NotClaimed" {
+		t.Errorf("%v, %s", err, e.ReasonOf(err))
+	}
+	s.fail(nil)
+	for name, want := range map[string]error{"thief": svid.Replayed, "owner": nil} {
+		err := by(e, name, one)
+		for ; errors.Is(err, context.DeadlineExceeded); err = by(e, name, one) { // (a busy machine)
+		}
+		if err != want {
+			t.Errorf("%s: %v", name, err)
+		}
+	}
+}
+
+// What is no rule, and what it says.
+func TestRulesThatNameNoCaller(t *testing.T) {
+	for text, want := range map[string]string{
+		"":                            "names no caller",
+		"address":                     "names no header: write address:HEADER",
+		"address:":                    "names no header",
+		"header":                      "names no header: write header:HEADER",
+		"header:a b":                  "is no name of a header",
+		"header:X-\u00e4":             "is no name of a header",
+		"header:authorization":        "a thief has too",
+		"address:Authorization":       "a thief has too",
+		"client":                      "names no caller: write address:HEADER",
+		"peer:X":                      "behind peer stands no header",
+		"principal:X":                 "behind principal stands no header",
+		"principal/24,64":             "a network stands behind an address alone",
+		"header:X/24,64":              "a network stands behind an address alone",
+		"peer/24":                     "write a network as",
+		"peer/0,64":                   "write a network as",
+		"peer/33,64":                  "write a network as",
+		"peer/24,129":                 "write a network as",
+		"address:X-Real-Ip/24,64,1":   "write a network as",
+		"address:X-Real-Ip/24,64/1":   "write a network as",
+		"address:X-Real-Ip/-1,64":     "write a network as",
+		"address:X-Real-Ip,X-Other":   "is no name of a header",
+		"address:X-Real-Ip/ 24 , 64 ": "write a network as",
+	} {
+		if rule, err := ParseCaller(text); rule != nil || err == nil || !strings.Contains(err.Error(), want) {
+			t.Errorf("%q: %v %v, want %q", text, rule, err, want)
+		}
+	}
+	for _, text := range []string{"address:X-Real-Ip", "peer", "peer/24,64", "header:x-client_hash", "principal", "address:X-Real-Ip/32,128", "address:X-Real-Ip/1,1"} {
+		if rule, err := ParseCaller(text); err != nil || rule.String() != text || rule.OfEnvoy() != strings.HasPrefix(text, "p") {
+			t.Errorf("%q: %v %v", text, rule, err)
+		}
+	}
+}
