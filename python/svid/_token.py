@@ -60,9 +60,9 @@ def _evidence(rows: bytes, text: bytes, verifies: Verifies) -> Evidence:
     return NO_KEY
 
 
-@functools.lru_cache(maxsize=256)
+@functools.lru_cache(maxsize=16)  # (a key may have 64 kB)
 def _keys(rows: bytes) -> list[tuple[str, bytes, Any]]:
-    """The keys that rows have, each with its algorithm and its length: many tokens have the same."""
+    """The keys that rows have, with algorithm and length. Many tokens have the same."""
     keys, at = [], 0
     while at < len(rows):
         alg, at = _field(rows, at)
