@@ -237,11 +237,14 @@ def test_a_store_that_answers_late():
 def test_a_store_that_never_answers(caplog):
     store, token = Fickle(), fresh()
     with strict(store, wait=0.2) as checks:
+        until(lambda: checks.ready)
         store.before = away
-        for _ in range(2):
+
+        def is_put_again():
             assert Soon(checks.check, token).answer == "Unavailable"
-        assert "the store is away" in caplog.text
-        assert len(store.puts) > 2  # (the claim is put again and again)
+            return len(store.puts) > 2 and "the store is away" in caplog.text
+
+        until(is_put_again)
         store.before = lambda: None
         assert in_time(checks.check, token) == SUBJECT
         assert nothing_waits(checks)
@@ -366,6 +369,7 @@ def test_a_claim_of_who_does_not_know_yet_that_it_is_late():
     """It is asked about right before it goes out."""
     store = Fickle()
     with strict(store, wait=0.3) as checks:
+        until(lambda: checks.ready)
         claims = checks._handle._claims
         claims._pacing.calls = 64
         until_due, checks._handle._until_due = checks._handle._until_due, lambda: PATIENCE
@@ -631,8 +635,13 @@ def test_a_disk_that_hangs(tmp_path, monkeypatch):
 
     with validator(state=tmp_path, wait=0.2) as checks:
         monkeypatch.setattr(os, "fdatasync", fdatasync)
-        assert Soon(checks.check, fresh(jti="1")).answer == "Unavailable"
-        assert checks.unready() == KEEPS_NOTHING and nothing_waits(checks)
+
+        def hangs():  # (a check that is late before it was judged keeps nothing, and shows nothing)
+            assert Soon(checks.check, fresh(jti=os.urandom(8).hex())).answer == "Unavailable"
+            return checks.unready() == KEEPS_NOTHING
+
+        until(hangs)
+        assert nothing_waits(checks)
         go.set()
         until(lambda: checks.ready)
         until(lambda: Soon(checks.check, fresh(jti=os.urandom(8).hex())).answer == SUBJECT)
@@ -654,10 +663,14 @@ def test_a_store_that_is_not_there_yet(caplog):
 def test_a_store_that_goes_away():
     store = Fickle()
     with strict(store, wait=0.1) as checks:
-        assert checks.ready
+        until(lambda: checks.ready)
         store.before = away
-        assert Soon(checks.check, fresh()).answer == "Unavailable"
-        until(lambda: not checks.ready)
+
+        def is_away():  # (a claim that is late does not go out, and shows nothing)
+            assert Soon(checks.check, fresh(jti=os.urandom(8).hex())).answer == "Unavailable"
+            return not checks.ready
+
+        until(is_away)
         assert checks.unready().startswith("The group's store does not answer")
         store.before = lambda: None
         until(lambda: checks.ready)  # (each look asks the store)
