@@ -289,6 +289,40 @@ func TestBoundHearsOfWithdrawals(t *testing.T) {
 	}
 }
 
+// A cutShop is a store of which a part is away, as a Redis Cluster without one of its servers. It can't say what it is. The rest goes on.
+type cutShop struct{ *shop }
+
+var errCut = errors.New("shard 7: connection refused")
+
+func (cutShop) State(context.Context) (claims.State, error) { return claims.State{}, errCut }
+
+// A withdrawal is heard of while the store can't say what it is: the claims of other shards go on meanwhile. The sidecar is not ready.
+func TestBoundHearsOfWithdrawalsOfAStoreThatIsPartlyAway(t *testing.T) {
+	all, store := bound(t, 2, "header:X-Caller")
+	one := token("a")
+	if err := by(all[1], "owner", one); err != nil {
+		t.Fatal(err)
+	}
+	all[1].store.Store(&reached{cutShop{store}})
+	found, err := all[0].Find(one)
+	if err != nil {
+		t.Fatal(err)
+	}
+	if _, _, err := all[0].Withdraw(found.Key, found.Expires); err != nil {
+		t.Fatal(err)
+	}
+	all[1].lookAtStore()
+	if err := by(all[1], "owner", one); err != svid.Withdrawn {
+		t.Errorf("at a sidecar whose look failed: %v", err)
+	}
+	if all[1].outlook.away.Load() == nil {
+		t.Error("the store counts as one that is there")
+	}
+	if err := by(all[1], "owner", token("b")); err != nil {
+		t.Errorf("another token: %v", err)
+	}
+}
+
 // A sidecar that has not read the store's withdrawals judges nothing. The member is told of a store that is away, or has lost entries: what that
 // means for /readyz it says itself.
 func TestReadyInBound(t *testing.T) {

@@ -44,8 +44,9 @@ const (
 	hearWithin = time.Second
 )
 
-// lookAtStore asks the store what it is, and reads the withdrawals that are new, by one goroutine at a time. In mode strict the claim of a
-// token tells that it was withdrawn.
+// lookAtStore asks the store what it is, and reads the withdrawals that are new, by one goroutine at a time. It reads them also where the first
+// call failed: while one server of a Redis Cluster is away, claims of the others go on. In mode strict the claim of a token tells that it was
+// withdrawn.
 func (e *Engine) lookAtStore() {
 	store := e.store.Load()
 	if store == nil {
@@ -58,8 +59,10 @@ func (e *Engine) lookAtStore() {
 	state, err := store.State(ctx)
 	if err == nil {
 		e.step(Looked{state})
-		if e.Mode != Strict {
-			err = e.hearFromStore(store)
+	}
+	if e.Mode != Strict {
+		if heard := e.hearFromStore(store); err == nil {
+			err = heard
 		}
 	}
 	if e.life.Err() != nil {
