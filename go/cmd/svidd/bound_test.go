@@ -165,45 +165,65 @@ func TestBoundBehindEnvoy(t *testing.T) {
 	t.Parallel()
 	_, url := stores["Redis"](t)
 	for i, row := range []struct {
-		rule                string
-		owner, same, thief  [2]string // address and principal
-		none                [2]string
-		ownerSends, forgery []string
+		rule               string
+		owner, same, thief [2]string // address and principal
+		none               [2]string
 	}{
 		{rule: "peer", owner: [2]string{"192.0.2.1", "p"}, same: [2]string{"192.0.2.1", "other"}, thief: [2]string{"192.0.2.2", "p"}, none: [2]string{"", "p"}},
 		{rule: "peer/24,64", owner: [2]string{"192.0.2.1", "p"}, same: [2]string{"192.0.2.9", "p"}, thief: [2]string{"192.0.3.1", "p"}, none: [2]string{"", "p"}},
 		{rule: "principal", owner: [2]string{"192.0.2.1", "spiffe://example.org/a"}, same: [2]string{"192.0.2.2", "spiffe://example.org/a"},
 			thief: [2]string{"192.0.2.1", "spiffe://example.org/b"}, none: [2]string{"192.0.2.1", ""}},
-		{rule: "header:X-Client-Hash", owner: [2]string{"192.0.2.1", ""}, same: [2]string{"192.0.2.9", ""}, thief: [2]string{"192.0.2.1", ""}, none: [2]string{"192.0.2.1", ""},
-			ownerSends: []string{"x-client-hash", "ab"}, forgery: []string{"x-client-hash", "cd"}},
 	} {
 		p, address := startEnvoy(t, false, "--replay", "bound", "--caller", row.rule, "--store", url, "--wait", "20s")
 		envoy := envoytest.Start(t, address)
 		one := token(t, fmt.Sprint("envoy", i), lasting)
-		sends := func(who [2]string, more []string) (status int, reason string) {
-			a := envoy.CheckFrom(t, who[0], who[1], append([]string{"authorization", "Bearer " + one, "x-forwarded-for", "192.0.2.1"}, more...)...)
-			if a.Denied != nil {
-				return a.Denied.Status.Code, a.Status.Message
-			}
-			return map[bool]int{true: 200}[a.OK != nil], a.Failed
-		}
 		for _, it := range []struct {
 			who    [2]string
-			more   []string
 			status int
 			reason string
 		}{
-			{row.none, nil, 503, "NoCaller"}, {row.owner, row.ownerSends, 200, ""}, {row.same, row.ownerSends, 200, ""}, {row.thief, row.forgery, 401, "Replayed"},
-			{row.owner, row.ownerSends, 200, ""},
+			{row.none, 503, "NoCaller"}, {row.owner, 200, ""}, {row.same, 200, ""}, {row.thief, 401, "Replayed"}, {row.owner, 200, ""},
 		} {
-			if status, reason := sends(it.who, it.more); status != it.status || reason != it.reason {
-				t.Errorf("%s: %v %q: %d %s, want %d %s", row.rule, it.who, it.more, status, reason, it.status, it.reason)
+			if status, reason := sentByEnvoy(t, envoy, it.who, one, "x-forwarded-for", "192.0.2.1"); status != it.status || reason != it.reason {
+				t.Errorf("%s: %v: %d %s, want %d %s", row.rule, it.who, status, reason, it.status, it.reason)
 			}
 		}
-		if strings.HasPrefix(row.rule, "p") { // /check by HTTP has no such address
-			if status, body := p.sendsFrom("192.0.2.1", one); status != 503 || !strings.Contains(body, "NoCaller") {
-				t.Errorf("%s by HTTP: %d %s", row.rule, status, body)
-			}
+		// (/check by HTTP has no such address)
+		if status, body := p.sendsFrom("192.0.2.1", one); status != 503 || !strings.Contains(body, "NoCaller") {
+			t.Errorf("%s by HTTP: %d %s", row.rule, status, body)
+		}
+	}
+}
+
+// sentByEnvoy lets Envoy ask about a token of a client with this address and principal, which sends more headers.
+func sentByEnvoy(t *testing.T, envoy *envoytest.Client, who [2]string, token string, more ...string) (status int, reason string) {
+	t.Helper()
+	a := envoy.CheckFrom(t, who[0], who[1], append([]string{"authorization", "Bearer " + token}, more...)...)
+	if a.Denied != nil {
+		return a.Denied.Status.Code, a.Status.Message
+	}
+	return map[bool]int{true: 200}[a.OK != nil], a.Failed
+}
+
+// The headers of a CheckRequest are those that the client sent: a rule of a header names nobody there, whatever the client says. To /check over HTTP it does.
+func TestNoHeaderNamesACallerToEnvoy(t *testing.T) {
+	t.Parallel()
+	_, url := stores["Redis"](t)
+	p, address := startEnvoy(t, false, "--replay", "bound", "--caller", "address:X-Real-Ip", "--store", url, "--wait", "20s")
+	envoy, one := envoytest.Start(t, address), token(t, "a header", lasting)
+	if status, body := p.sendsFrom("192.0.2.1", one); status != 200 {
+		t.Fatalf("the owner, by HTTP: %d %s", status, body)
+	}
+	for _, more := range [][]string{{"x-real-ip", "192.0.2.1"}, {"x-real-ip", "192.0.2.2"}, nil} {
+		if status, reason := sentByEnvoy(t, envoy, [2]string{"192.0.2.1", "p"}, one, more...); status != 503 || reason != "NoCaller" {
+			t.Errorf("%q: %d %s", more, status, reason)
+		}
+	}
+	p.await("the lines", func() bool { return len(p.events("unavailable")) == 3 })
+	const says = "the request names no caller: by gRPC, Envoy hands on the header X-Real-Ip as the client sent it: take --caller peer or --caller principal"
+	for _, line := range p.events("unavailable") {
+		if line["reason"] != says {
+			t.Error(line)
 		}
 	}
 }

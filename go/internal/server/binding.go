@@ -15,9 +15,9 @@ import (
 
 // A CallerRule says what names the caller of a request, in mode bound:
 //
-//	address:HEADER  the one IP address of a header that the proxy sets
+//	address:HEADER  the one IP address of a header that the proxy sets on its request to /check
 //	peer            the address of the connection to Envoy, as Envoy says it by gRPC
-//	header:NAME     the value of a header that the proxy sets
+//	header:NAME     the value of a header that the proxy sets on its request to /check
 //	principal       the first URI of the client's certificate, as Envoy says it by gRPC
 //
 // For guard.Protect, peer and principal are those of the connection to the service.
@@ -98,20 +98,6 @@ func (c *CallerRule) String() string { return c.text }
 // OfEnvoy says whether Envoy alone names such callers, by gRPC.
 func (c *CallerRule) OfEnvoy() bool { return c.kind == "peer" || c.kind == "principal" }
 
-// wanted are names of headers in small letters, with that of the rule.
-func (c *CallerRule) wanted(names ...string) []string {
-	if c == nil || c.header == "" {
-		return names
-	}
-	name := strings.ToLower(c.header)
-	for _, one := range names {
-		if one == name {
-			return names
-		}
-	}
-	return append(names, name)
-}
-
 // A Caller is who presents a token, in mode bound.
 type Caller struct {
 	name   string   // for the log
@@ -165,6 +151,15 @@ func (c *CallerRule) Of(header http.Header, source Source) Caller {
 	return callerBy("header", strings.TrimSpace(values[0]))
 }
 
+// ByEnvoy is the caller of a request that Envoy asks about by gRPC. The headers that Envoy hands on are the client's own, so none of them names
+// a caller.
+func (c *CallerRule) ByEnvoy(source Source) Caller {
+	if c != nil && !c.OfEnvoy() {
+		return noCaller("by gRPC, Envoy hands on the header %s as the client sent it: take --caller peer or --caller principal", c.header)
+	}
+	return c.Of(nil, source)
+}
+
 // mostShown is how many bytes of what is no address stand in the log. No token is so short.
 const mostShown = 64
 
@@ -192,12 +187,12 @@ func (c *CallerRule) within(text, where string) Caller {
 	return callerBy("address", network.String())
 }
 
-// callerIn is the caller of a request, in mode bound.
-func (e *Engine) callerIn(header http.Header, source Source) Caller {
+// callerIn is the caller of a request to /check, in mode bound.
+func (e *Engine) callerIn(header http.Header) Caller {
 	if e.Mode != Bound {
 		return Caller{}
 	}
-	return e.Caller.Of(header, source)
+	return e.Caller.Of(header, Source{})
 }
 
 type callerKey struct{}

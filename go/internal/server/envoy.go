@@ -72,10 +72,12 @@ func (e *Engine) checkEnvoy(r *http.Request) (answer []byte, fault *grpcFault) {
 	if fault != nil {
 		return nil, fault
 	}
-	asked, err := extauthz.ReadHeaders(message, e.Caller.wanted("authorization", "x-request-id", "x-forwarded-for")...)
-	var source extauthz.Source
+	asked, err := extauthz.ReadHeaders(message, "authorization", "x-request-id", "x-forwarded-for")
+	var from Caller
 	if err == nil && e.Mode == Bound {
+		var source extauthz.Source
 		source, err = extauthz.ReadSource(message)
+		from = e.Caller.ByEnvoy(Source(source))
 	}
 	if err != nil {
 		return nil, &grpcFault{extauthz.InvalidArgument, "it is no CheckRequest"}
@@ -85,7 +87,7 @@ func (e *Engine) checkEnvoy(r *http.Request) (answer []byte, fault *grpcFault) {
 		header[textproto.CanonicalMIMEHeaderKey(name)] = values
 	}
 	who := callerOf(&http.Request{Header: header, RemoteAddr: r.RemoteAddr})
-	who.bound = e.callerIn(header, Source(source))
+	who.bound = from
 	v := e.judgeBearer(r.Context(), who, header["Authorization"])
 	if v.err != nil {
 		return e.deniedByEnvoy(who, v.err), nil

@@ -61,7 +61,7 @@ func (e *Engine) serveCheck(w http.ResponseWriter, r *http.Request) {
 	headers := w.Header()
 	headers["Cache-Control"] = noStore
 	who := callerOf(r)
-	who.bound = e.callerIn(r.Header, Source{})
+	who.bound = e.callerIn(r.Header)
 	values := &[4]string{who.request}
 	headers["X-Request-Id"] = values[0:1:1]
 	v := e.judgeBearer(r.Context(), who, r.Header["Authorization"])
