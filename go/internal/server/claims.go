@@ -86,7 +86,7 @@ func (c *claimQueue) due() time.Duration {
 	return due
 }
 
-// openClaim lets the claim of a request wait for a call, unless the store has answered the same claim before: another's stays that.
+// openClaim lets the claim of a request wait for a call, unless the store has said before that the token is another's: it stays that.
 func (m *Machine) openClaim(r *Request, use svid.Use) {
 	r.claim = claims.Claim{Key: use.Key, Owner: m.ownerOf(r, use.Expires), Expires: use.Expires}
 	if found, lost := m.claims.lost.find(&r.claim); lost {
@@ -191,16 +191,17 @@ func (m *Machine) count(err error) {
 	}
 }
 
-// lostClaims are what the store answered to claims of tokens that others have claimed: the next try of one asks no store. It counts for the same
-// claim alone: in mode bound the token's owner asks the store each time. There are two generations, so that dropping the old ones takes one step.
+// lostClaims are what the store answered to claims of tokens that others have claimed: the next try of one asks no store, whoever makes it. The
+// answer does not count for the token's owner, who in mode bound asks the store each time. There are two generations, so that dropping the old ones
+// takes one step.
 type lostClaims struct {
 	young, old map[svid.TokenKey]lostClaim
 	turned     time.Duration
 }
 
 type lostClaim struct {
-	claim claims.Claim
-	found svid.Found
+	expires uint64
+	found   svid.Found
 }
 
 const (
@@ -218,7 +219,7 @@ func (l *lostClaims) add(now time.Duration, claim *claims.Claim, found svid.Foun
 	if len(l.young) >= mostLost || now-l.turned > lostLook && len(l.young) > 0 {
 		l.young, l.old, l.turned = map[svid.TokenKey]lostClaim{}, l.young, now
 	}
-	l.young[claim.Key] = lostClaim{*claim, found}
+	l.young[claim.Key] = lostClaim{claim.Expires, found}
 }
 
 func (l *lostClaims) find(claim *claims.Claim) (found svid.Found, lost bool) {
@@ -226,5 +227,5 @@ func (l *lostClaims) find(claim *claims.Claim) (found svid.Found, lost bool) {
 	if !lost {
 		is, lost = l.old[claim.Key]
 	}
-	return is.found, lost && is.claim == *claim
+	return is.found, lost && is.expires == claim.Expires && is.found.Owner != claim.Owner
 }

@@ -504,10 +504,13 @@ func TestALostTokenIsThatAlone(t *testing.T) {
 // Tokens of others are kept for a while, and not more than so many.
 func TestLostTokensHaveABound(t *testing.T) {
 	l := newLostClaims(0)
-	one := claims.Claim{Expires: moment}
-	l.add(0, &one, svid.Found{})
+	one, of := claims.Claim{Expires: moment}, svid.Found{Owner: svid.Owner{7}}
+	l.add(0, &one, of)
+	if _, lost := l.find(&one); !lost {
+		t.Error("it is not kept")
+	}
 	for i := 0; i < 3*mostLost; i++ {
-		l.add(time.Duration(i), &claims.Claim{Key: svid.TokenKey{1, byte(i), byte(i >> 8), byte(i >> 16)}}, svid.Found{})
+		l.add(time.Duration(i), &claims.Claim{Key: svid.TokenKey{1, byte(i), byte(i >> 8), byte(i >> 16)}}, of)
 	}
 	if n := len(l.young) + len(l.old); n > 2*mostLost {
 		t.Errorf("%d are kept", n)
@@ -516,7 +519,7 @@ func TestLostTokensHaveABound(t *testing.T) {
 		t.Error("one of long ago is kept")
 	}
 	for i := 1; i < 3; i++ { // and each for two minutes at the least, where few come
-		l.add(time.Duration(i)*2*lostLook, &claims.Claim{Key: svid.TokenKey{2, byte(i)}}, svid.Found{})
+		l.add(time.Duration(i)*2*lostLook, &claims.Claim{Key: svid.TokenKey{2, byte(i)}}, of)
 	}
 	if n := len(l.young) + len(l.old); n > 2 {
 		t.Errorf("%d are kept though few come", n)
