@@ -10,10 +10,12 @@ import (
 	"net/http/httptest"
 	"strings"
 	"sync"
+	"sync/atomic"
 	"testing"
 	"time"
 
 	"svid.example/go/v2/claims"
+	"svid.example/go/v2/claims/memory"
 	"svid.example/go/v2/svid"
 )
 
@@ -292,6 +294,66 @@ func TestBoundHearsOfWithdrawals(t *testing.T) {
 	uses, err := svid.Uses(saved(t, all[1]))
 	if err != nil || len(uses) != 1 || !uses[0].Withdrawn {
 		t.Errorf("the record has %v: %v", uses, err)
+	}
+}
+
+// An operator may give an expiry that is too early, and then the right one. The later one counts at each sidecar, and what is heard twice stands in
+// the record once.
+func TestALongerWithdrawalCounts(t *testing.T) {
+	var now atomic.Uint64
+	now.Store(moment)
+	store := &shop{Store: memory.Store{Now: now.Load, Terms: claims.Terms{Lasts: 3660, Margin: 90, Back: 60}}}
+	var all []*Engine
+	for i := byte(1); i <= 3; i++ {
+		all = append(all, store.use(t, ready(t, engine(t, inBound(t, "header:X-Caller", Options{ValidatorID: svid.ValidatorID{i}, Now: now.Load})))))
+	}
+	one := token("a")
+	if err := by(all[1], "owner", one); err != nil {
+		t.Fatal(err)
+	}
+	found, err := all[0].Find(one)
+	if err != nil {
+		t.Fatal(err)
+	}
+	for i, expires := range []uint64{moment + 10, found.Expires, moment + 20} {
+		if _, _, err := all[0].Withdraw(found.Key, expires); err != nil {
+			t.Fatal(err)
+		}
+		if i < 2 {
+			all[1].lookAtStore()
+		}
+	}
+	all[2].lookAtStore() // (it hears of all three at once)
+	for _, e := range all[1:] {
+		e.outlook.heard = "" // as where the store was made again, with the same withdrawals
+		e.lookAtStore()
+		if uses, err := svid.Uses(saved(t, e)); err != nil || len(uses) != 2 {
+			t.Errorf("the record has %v: %v", uses, err)
+		}
+	}
+	now.Store(moment + 30)
+	for i, e := range all {
+		if err := by(e, "owner", one); err != svid.Withdrawn {
+			t.Errorf("sidecar %d, once the first withdrawal has expired: %v", i, err)
+		}
+	}
+}
+
+// Withdrawals are kept until they expire, not for ever.
+func TestWithdrawalsThatHaveExpiredAreDropped(t *testing.T) {
+	w := withdrawnTokens{until: map[svid.TokenKey]uint64{}}
+	for i := uint64(0); i < 100*leastWithdrawn; i++ {
+		w.add(moment+i, svid.TokenKey{byte(i), byte(i >> 8), byte(i >> 16)}, moment+i+10)
+	}
+	if n := len(w.until); n > 2*leastWithdrawn {
+		t.Errorf("%d are kept", n)
+	}
+	w.add(moment, svid.TokenKey{1, 1, 1, 1}, moment+20)
+	w.add(moment, svid.TokenKey{1, 1, 1, 1}, moment+10)
+	for expires, want := range map[uint64]bool{moment + 10: true, moment + 20: true, moment + 21: false} {
+		if w.has(svid.TokenKey{1, 1, 1, 1}, expires) != want {
+			t.Errorf("until %d: %v", expires, !want)
+		}
 	}
 }
 

@@ -45,9 +45,12 @@ func (h *Heard) happen(m *Machine) {
 // hear adds withdrawals of others to the record, and brings them to the disk.
 func (m *Machine) hear(these []claims.Withdrawal) error {
 	for _, w := range these {
-		use, err := m.validator.WithdrawOnce(m.now.Wall, w.Key, w.Expires)
-		if err == svid.ErrGone || err == svid.Withdrawn {
-			continue // The token has expired, or the record has a withdrawal of it.
+		if m.withdrawn.has(w.Key, w.Expires) {
+			continue
+		}
+		use, err := m.withdraw(w.Key, w.Expires)
+		if err == svid.ErrGone {
+			continue // The token has expired.
 		}
 		if err != nil {
 			return err
@@ -55,6 +58,45 @@ func (m *Machine) hear(these []claims.Withdrawal) error {
 		m.keepSoon(use)
 	}
 	return nil
+}
+
+// withdraw adds a withdrawal to the record.
+func (m *Machine) withdraw(key svid.TokenKey, expires uint64) (svid.Use, error) {
+	use, err := m.validator.Withdraw(m.now.Wall, key, expires)
+	if err == nil && m.Stored {
+		m.withdrawn.add(m.now.Wall, key, expires)
+	}
+	return use, err
+}
+
+// withdrawnTokens are the withdrawals that this process added to the record, each with the latest expiry that was given for its token. So one that
+// the store tells of many times stands in the record once, and one that is to last longer than those before it counts.
+type withdrawnTokens struct {
+	until map[svid.TokenKey]uint64
+	full  int // so many are kept before those that have expired are dropped
+}
+
+// leastWithdrawn is how many are kept in any case.
+const leastWithdrawn = 1 << 10
+
+func (w *withdrawnTokens) has(key svid.TokenKey, expires uint64) bool {
+	until, is := w.until[key]
+	return is && until >= expires
+}
+
+func (w *withdrawnTokens) add(now uint64, key svid.TokenKey, expires uint64) {
+	if w.has(key, expires) {
+		return
+	}
+	if len(w.until) >= w.full {
+		for key, until := range w.until {
+			if until <= now {
+				delete(w.until, key)
+			}
+		}
+		w.full = 2*len(w.until) + leastWithdrawn
+	}
+	w.until[key] = expires
 }
 
 // A StoreWithdraw is a withdrawal on its way to the store.

@@ -293,7 +293,7 @@ type Withdraw struct {
 func (w *Withdraw) happen(m *Machine) {
 	err := m.validator.Judges()
 	if err == nil {
-		w.Use, err = m.validator.Withdraw(m.now.Wall, w.Key, w.Expires)
+		w.Use, err = m.withdraw(w.Key, w.Expires)
 	}
 	any := false
 	if err == nil {
