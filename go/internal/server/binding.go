@@ -9,6 +9,7 @@ import (
 	"net/http"
 	"net/netip"
 	"net/textproto"
+	"net/url"
 	"strconv"
 	"strings"
 )
@@ -129,7 +130,9 @@ func (c *CallerRule) Of(header http.Header, source Source) Caller {
 	case c == nil:
 		return noCaller("no rule says who the caller is")
 	case c.kind == "principal" && source.Principal == "":
-		return noCaller("no principal is known: let Envoy ask by gRPC, and clients show a certificate (require_client_certificate)")
+		return noCaller("no principal is known: let Envoy ask by gRPC, and clients show a certificate that it verifies (require_client_certificate, trusted_ca)")
+	case c.kind == "principal" && !isURI(source.Principal): // Where a certificate has none, Envoy says a DNS name of it, or the subject.
+		return noCaller("the client's certificate has no URI: let clients show an X.509-SVID that Envoy verifies (require_client_certificate, trusted_ca)")
 	case c.kind == "principal":
 		return callerBy("principal", source.Principal)
 	case c.kind == "peer" && source.Address == "":
@@ -138,17 +141,21 @@ func (c *CallerRule) Of(header http.Header, source Source) Caller {
 		return c.within(source.Address, "the peer")
 	}
 	values := header[c.header]
+	value := ""
+	if len(values) == 1 {
+		value = strings.Trim(values[0], " \t") // the white space of a header's value (RFC 9110, section 5.6.3)
+	}
 	switch {
 	case len(values) == 0:
 		return noCaller("there is no header %s: let the proxy set it", c.header)
 	case len(values) > 1:
 		return noCaller("there are %d headers %s: let the proxy replace what a client sent", len(values), c.header)
-	case strings.TrimSpace(values[0]) == "":
+	case value == "":
 		return noCaller("the header %s is empty: let the proxy set it", c.header)
 	case c.kind == "address":
-		return c.within(strings.TrimSpace(values[0]), "the header "+c.header)
+		return c.within(value, "the header "+c.header)
 	}
-	return callerBy("header", strings.TrimSpace(values[0]))
+	return callerBy("header", value)
 }
 
 // ByEnvoy is the caller of a request that Envoy asks about by gRPC. The headers that Envoy hands on are the client's own, so none of them names
@@ -158,6 +165,12 @@ func (c *CallerRule) ByEnvoy(source Source) Caller {
 		return noCaller("by gRPC, Envoy hands on the header %s as the client sent it: take --caller peer or --caller principal", c.header)
 	}
 	return c.Of(nil, source)
+}
+
+// isURI says whether a text is an absolute URI with an authority, as SPIFFE IDs are.
+func isURI(text string) bool {
+	u, err := url.Parse(text)
+	return err == nil && u.Scheme != "" && strings.HasPrefix(text[len(u.Scheme):], "://")
 }
 
 // mostShown is how many bytes of what is no address stand in the log. No token is so short.
@@ -172,7 +185,10 @@ func (c *CallerRule) within(text, where string) Caller {
 	if err != nil {
 		return noCaller("%s has %q, which is not one IP address: let the proxy set it to that of the client", where, text)
 	}
-	address = address.Unmap().WithZone("")
+	if address.Zone() != "" { // Hosts of two links may have one such address, and only this machine knows which link a zone is.
+		return noCaller("%s has an address with a zone, which two clients may share: let the proxy set it to one without", where)
+	}
+	address = address.Unmap()
 	bits := c.six
 	if address.Is4() {
 		bits = c.four

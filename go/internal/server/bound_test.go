@@ -436,6 +436,9 @@ func TestARequestWithoutACaller(t *testing.T) {
 		{"address:X-Real-Ip", headers{"X-Real-Ip": {"unix:"}}, "which is not one IP address"},
 		{"address:X-Real-Ip", headers{"X-Real-Ip": {"192.0.2.1:80"}}, "which is not one IP address"},
 		{"address:X-Real-Ip/24,64", headers{"X-Real-Ip": {strings.Repeat("a", 5000)}}, "has 5000 bytes that are not one IP address"},
+		{"address:X-Real-Ip", headers{"X-Real-Ip": {"fe80::1%eth0"}}, "has an address with a zone"},
+		{"address:X-Real-Ip/24,64", headers{"X-Real-Ip": {"fe80::1%eth0"}}, "has an address with a zone"},
+		{"address:X-Real-Ip", headers{"X-Real-Ip": {"\u00a0192.0.2.1"}}, "which is not one IP address"},
 		{"peer", headers{"X-Real-Ip": {"192.0.2.1"}}, "no address of a peer is known"},
 		{"principal", headers{"X-Forwarded-Client-Cert": {"URI=spiffe://example.org/web"}}, "no principal is known"},
 	} {
@@ -503,6 +506,8 @@ func TestCallersAreToldApart(t *testing.T) {
 		{"address:X-Real-Ip/24,64", address("192.0.2.1"), address("::ffff:192.0.2.77"), true},
 		{"address:X-Real-Ip/32,128", address("192.0.2.1"), address("192.0.2.2"), false},
 		{"header:X-Hash", hash("ab"), hash("ab"), true},
+		{"header:X-Hash", hash("ab"), hash(" ab\t"), true},
+		{"header:X-Hash", hash("ab"), hash("ab\u00a0"), false},
 		{"header:X-Hash", hash("ab"), hash("AB"), false},
 		{"header:X-Hash", hash("ab"), hash("ab,cd"), false},
 	} {
@@ -525,6 +530,24 @@ func TestCallersAreToldApart(t *testing.T) {
 				t.Errorf("%s %q has the digest of %s", kind, name, before)
 			}
 			digests[c.digest] = fmt.Sprintf("%s %q", kind, name)
+		}
+	}
+}
+
+// Envoy says the subject of a certificate that has no URI, or a DNS name of it. Many certificates may have one of these, so they name no caller.
+func TestAPrincipalIsAURI(t *testing.T) {
+	rule := ruleOf(t, "principal")
+	for principal, want := range map[string]string{
+		"spiffe://example.org/web": "", "SPIFFE://example.org/web": "", "https://example.org": "",
+		"": "no principal is known", "O=Acme,C=US": "has no URI", "web.example.org": "has no URI", "CN=spiffe://example.org/web": "has no URI",
+		"://example.org": "has no URI", "spiffe:example.org": "has no URI",
+	} {
+		from := rule.Of(nil, Source{Address: "192.0.2.1", Principal: principal})
+		if want == "" && (from.fault != nil || from.name != principal) {
+			t.Errorf("%q: %v", principal, from.fault)
+		}
+		if want != "" && (!errors.Is(from.fault, ErrNoCaller) || !strings.Contains(from.fault.Error(), want) || from.digest != [32]byte{}) {
+			t.Errorf("%q: %v, want %q", principal, from.fault, want)
 		}
 	}
 }
