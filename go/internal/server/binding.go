@@ -113,6 +113,17 @@ func noCaller(text string, values ...any) Caller {
 	return Caller{fault: fmt.Errorf("%w: "+text, append([]any{ErrNoCaller}, values...)...)}
 }
 
+// isOne says whether it is a caller. One that nobody made is none: all requests of such would be one caller.
+func (c Caller) isOne() bool { return c.fault == nil && c.digest != [32]byte{} }
+
+// whyNone is why it is none.
+func (c Caller) whyNone() error {
+	if c.fault == nil {
+		return ErrNoCaller
+	}
+	return c.fault
+}
+
 // callerBy is the caller of this name. The digest is over what kind of name it is, and the name. No kind has a byte 0, so no two of them have one
 // text. It leaves out which header the name came from: all members of a group have one --caller, and where two proxies name one client by two headers,
 // it is one caller.

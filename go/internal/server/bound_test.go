@@ -221,6 +221,21 @@ func TestBoundHasOneFirstCaller(t *testing.T) {
 	}
 }
 
+// Where one sidecar of a group runs in strict and one in bound, a token belongs to that which claimed it first: the other one refuses it.
+func TestBoundBesideStrict(t *testing.T) {
+	all, store := bound(t, 1, "header:X-Caller")
+	other := store.use(t, ready(t, engine(t, inStrict(Options{ValidatorID: svid.ValidatorID{2}}))))
+	one, two := token("a"), token("b")
+	for i, row := range []struct{ is, want error }{
+		{by(all[0], "owner", one), nil}, {check(other, one), svid.Replayed}, {by(all[0], "owner", one), nil},
+		{check(other, two), nil}, {by(all[0], "owner", two), svid.Replayed}, {check(other, two), svid.Replayed},
+	} {
+		if row.is != row.want {
+			t.Errorf("request %d: %v, want %v", i, row.is, row.want)
+		}
+	}
+}
+
 // Another life of a sidecar knows the caller from the store.
 func TestBoundOverARestart(t *testing.T) {
 	all, store := bound(t, 1, "header:X-Caller")
@@ -479,6 +494,9 @@ func TestARequestWithoutACaller(t *testing.T) {
 	}
 	if err := by(all[0], "", token("a")); !errors.Is(err, ErrNoCaller) {
 		t.Errorf("an empty name: %v", err)
+	}
+	if _, err := all[0].Check(WithCaller(context.Background(), Caller{}), token("a")); !errors.Is(err, ErrNoCaller) {
+		t.Errorf("a caller that nobody made: %v", err)
 	}
 }
 

@@ -516,8 +516,8 @@ const mostTries = 16
 // judge lets the machine judge a token that this caller presents. It returns the rules by which an accepted one was judged. In mode bound nothing is
 // judged without a caller: all who have none would be one caller.
 func (e *Engine) judge(ctx context.Context, from Caller, v *verdict) *Rules {
-	if e.Mode == Bound && from.fault != nil {
-		v.err = from.fault
+	if e.Mode == Bound && !from.isOne() {
+		v.err = from.whyNone()
 		return nil
 	}
 	e.look()
