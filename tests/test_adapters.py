@@ -60,7 +60,7 @@ DECIDED = {
     # whether a token is over, by whichever clock
     "expiry": (
         r"\b([eE]xpires|[eE]xpiry|exp)\b(\(\))? *([-+] *[\w.()]+ *)?[<>]=?(?!>)|[^-=<>][<>]=? *[\w.]*\b([eE]xpires|[eE]xpiry|exp)\b",
-        {},
+        {"go/internal/server/store.go": "the member is told of a withdrawal again only where it is to last longer than those before it"},
         (
             "if use.Expires <= now {",
             "if now >= use.expires:",
@@ -73,7 +73,7 @@ DECIDED = {
     "owners": (
         r"[oO]wner(\(\))? *([!=]==?|is not |is )|[!=]==? *[\w.]*[oO]wner\b|[!=]==? *claims\.Withdrawn|claims\.Withdrawn *[!=]==?"
         r"|(equal|Equal|equals|compare)\([^()]*[oO]wner",
-        {"go/internal/server/claims.go": "how many claims were lost to another life or member is counted, and told to the operator"},
+        {"go/internal/server/claims.go": "how many claims were lost to another is counted, and told to the operator; and the store's answer to one of these is told to the member again"},
         (
             "if found.Owner == claim.Owner {",
             "return claims.Withdrawn != o",
