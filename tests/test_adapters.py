@@ -73,7 +73,10 @@ DECIDED = {
     "owners": (
         r"[oO]wner(\(\))? *([!=]==?|is not |is )|[!=]==? *[\w.]*[oO]wner\b|[!=]==? *claims\.Withdrawn|claims\.Withdrawn *[!=]==?"
         r"|(equal|Equal|equals|compare)\([^()]*[oO]wner",
-        {"go/internal/server/claims.go": "how many claims were lost to another is counted, and told to the operator; and the store's answer to one of these is told to the member again"},
+        {
+            "go/internal/server/claims.go": "how many claims were lost to another is counted, and told to the operator; and what the store"
+            " answered to one of these is told to the member again"
+        },
         (
             "if found.Owner == claim.Owner {",
             "return claims.Withdrawn != o",
