@@ -480,8 +480,9 @@ func TestARequestWithoutACaller(t *testing.T) {
 		if line["level"] != "error" || line["event"] != "unavailable" || !strings.Contains(said, row.says) || len(said) > 300 || line["caller"] != nil {
 			t.Errorf("%+v: the line is %s", row, &out)
 		}
-		if store.puts() != 0 || e.Metrics.unavailable.Load() != 1 {
-			t.Errorf("%+v: %d claims, %d unavailable", row, store.puts(), e.Metrics.unavailable.Load())
+		if page := request(e.Handler(), "GET", "/metrics").Body.String(); store.puts() != 0 ||
+			!strings.Contains(page, `svidd_checks_total{result="no_caller"} 1`+"\n") || !strings.Contains(page, `svidd_checks_total{result="unavailable"} 0`+"\n") {
+			t.Errorf("%+v: %d claims, and the metrics: %s", row, store.puts(), page)
 		}
 		// (A token that nobody was accepted with is nobody's.)
 		if err := by(e, "owner", one); err != nil {

@@ -2,6 +2,7 @@ package server
 
 import (
 	"bufio"
+	"errors"
 	"fmt"
 	"io"
 	"math"
@@ -24,6 +25,7 @@ type Metrics struct {
 	accepted    atomic.Uint64
 	refused     [64]atomic.Uint64 // by the number of a refusal, from that of TooLong on
 	unavailable atomic.Uint64
+	noCaller    atomic.Uint64
 	noToken     atomic.Uint64
 	notAllowed  atomic.Uint64
 	seconds     histogram
@@ -66,6 +68,8 @@ func (m *Metrics) observe(err error, took time.Duration) {
 		m.notAllowed.Add(1)
 	case ok:
 		m.refused[refusal-svid.TooLong].Add(1)
+	case errors.Is(err, ErrNoCaller):
+		m.noCaller.Add(1)
 	default:
 		m.unavailable.Add(1)
 	}
@@ -81,6 +85,7 @@ func (e *Engine) WriteMetrics(w io.Writer) error {
 		p.value(fmt.Sprintf("svidd_checks_total{result=%q}", r.String()), float64(m.refused[r-svid.TooLong].Load()))
 	}
 	p.value(`svidd_checks_total{result="unavailable"}`, float64(m.unavailable.Load()))
+	p.value(`svidd_checks_total{result="no_caller"}`, float64(m.noCaller.Load()))
 	p.value(`svidd_checks_total{result="no_token"}`, float64(m.noToken.Load()))
 	p.value(`svidd_checks_total{result="not_allowed"}`, float64(m.notAllowed.Load()))
 	p.histogram("svidd_check_seconds", "Time from a request to its answer.", &m.seconds)
