@@ -751,6 +751,49 @@ func move(t *testing.T, from, to *broker.Redis, slot int) {
 
 func port(s *broker.Redis) string { _, port, _ := strings.Cut(s.Address, ":"); return port }
 
+// While one server of a Cluster is away, State fails. Claims of the other servers' shards go on, and withdrawals are read where one of these has
+// their list: so who looks must read them though State failed.
+func TestClusterWithoutOneServer(t *testing.T) {
+	t.Parallel()
+	all, o := clusterOf(t, 0, 3)
+	a, b := opened(t, o), opened(t, o)
+	lists := owns(t, all, a.shards[0])
+	there := claim(1)
+	for owns(t, all, a.shards[there.Key[0]>>4]) != lists {
+		there = claim(1)
+	}
+	if f := claimstest.Put(t, b, there)[0]; claimstest.Judge(there, f, 60) != claimstest.Mine {
+		t.Fatalf("%+v", f)
+	}
+	all[(lists+1)%len(all)].Kill()
+	soon := func(try func(ctx context.Context) error) error {
+		ctx, cancel := context.WithTimeout(context.Background(), 2*time.Second)
+		defer cancel()
+		return try(ctx)
+	}
+	state := func(ctx context.Context) error { _, err := b.State(ctx); return err }
+	logtest.Await(t, "State to fail", func() bool { return soon(state) != nil })
+	logtest.Await(t, "a claim that goes on", func() bool {
+		f := claimstest.Try(b, 2*time.Second, there)[0]
+		return f.Err == nil && f.Owner == there.Owner
+	})
+	w := claims.Withdrawal{Key: there.Key, Expires: there.Expires}
+	logtest.Await(t, "the withdrawal", func() bool {
+		return soon(func(ctx context.Context) error { _, err := a.Withdraw(ctx, w); return err }) == nil
+	})
+	logtest.Await(t, "who hears of it", func() (is bool) {
+		_ = soon(func(ctx context.Context) error {
+			these, _, err := b.Withdrawals(ctx, "")
+			is = err == nil && contains(these, w)
+			return nil
+		})
+		return is
+	})
+	if soon(state) == nil {
+		t.Error("State has an answer")
+	}
+}
+
 // In a Cluster a replica takes over from a primary that was killed, and lacks an entry.
 func TestClusterTakeover(t *testing.T) {
 	t.Parallel()
