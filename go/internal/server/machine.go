@@ -35,7 +35,7 @@ type Machine struct {
 	again       []uint64             // numbers of requests whose tokens are to be judged again
 	claims      claimQueue           // in modes strict and bound
 	state       claims.State         // of the store, as it was when it was looked at last
-	withdrawn   withdrawnTokens      // with a store
+	withdrawn   withdrawnTokens      // that this process withdrew, where there is a store
 
 	keeper keeper // what the disk is to have
 	tale   tale   // what the group is to be told
@@ -112,8 +112,9 @@ func newMachine(o *Options, metrics *Metrics, validator *svid.Validator, now Tim
 		return nil, err
 	}
 	m := &Machine{Options: o, metrics: metrics, validator: validator, now: now, began: now.Wall, due: never, second: never,
-		requests: map[uint64]*Request{}, withdrawals: map[uint64]*Withdraw{}, claims: newClaimQueue(now.Up), withdrawn: withdrawnTokens{until: map[svid.TokenKey]uint64{}}, rules: &Rules{o.Audiences, nil},
-		known: svid.Known{Opened: !o.Stored, Heard: !o.Stored, Joined: !o.Grouped, CaughtUp: !o.Grouped}}
+		requests: map[uint64]*Request{}, withdrawals: map[uint64]*Withdraw{}, claims: newClaimQueue(now.Up), rules: &Rules{o.Audiences, nil},
+		withdrawn: withdrawnTokens{until: map[svid.TokenKey]uint64{}},
+		known:     svid.Known{Opened: !o.Stored, Heard: !o.Stored, Joined: !o.Grouped, CaughtUp: !o.Grouped}}
 	m.keeper.due, m.tale.due, m.mixedAt = never, never, now.Up-seldomTime
 	if o.Allow == nil {
 		return m, nil
