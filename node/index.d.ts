@@ -101,8 +101,8 @@ export interface Asked {
  */
 export interface Store {
   /**
-   * Puts each claim if its key has no owner yet, and says what each key has afterwards, in the order of the claims. Without claims it answers an
-   * empty list: so a validator learns that the store is there.
+   * Puts each claim if its key has no owner yet, and says what each key has afterwards. Answers in the order of the claims. Without claims it answers
+   * an empty list: so a validator learns that the store is there. The list and its claims are frozen.
    */
   put(claims: readonly Claim[], about: Asked): Promise<readonly Found[]>;
   /**

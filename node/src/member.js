@@ -132,7 +132,7 @@ export class Member {
       return null;
     }
     const owner = this.#library.ownerOf(use, this.#life, this.#isBound ? request.caller : undefined);
-    return { key: use.key, owner, expires: use.expires };
+    return Object.freeze({ key: use.key, owner, expires: use.expires });
   }
 
   /** The store has answered the claim of a request. */

@@ -225,6 +225,25 @@ test("what is no answer counts as none: the claim is put again", async () => {
   validator.close();
 });
 
+test("a store that changes the list of claims, or a claim, throws, and nothing is accepted", async () => {
+  const changes = [(claims) => claims.push(claims.pop()), (claims) => (claims[0].owner = new Uint8Array(32).fill(7))];
+  for (const change of changes) {
+    const store = new Fickle(), put = store.put.bind(store);
+    store.put = async (claims, about) => {
+      if (claims.length) change(claims);
+      return put(claims, about);
+    };
+    const validator = await strict(store, { wait: 0.2 });
+    await until(async () => {
+      const why = await validator.check(token(one)).then(() => ({ name: "accepted" }), (it) => it);
+      assert.equal(why.name, "Unavailable");
+      return why.cause instanceof TypeError;
+    });
+    assert.equal(store.puts.length, 0);
+    validator.close();
+  }
+});
+
 test("many claims share a call, and 256 at the most", async (t) => {
   let moment = performance.now();
   const clock = t.mock.method(performance, "now", () => moment);

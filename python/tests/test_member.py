@@ -320,6 +320,26 @@ def test_an_answer_that_is_none(wrong):
     assert store.wrongs == 2
 
 
+def test_a_store_that_sorts_its_claims(caplog):
+    """That raises, so that no answer goes to another request."""
+
+    class Sorting(Fickle):
+        def put(self, claims):
+            if claims:
+                claims.sort()
+            return super().put(claims)
+
+    store = Sorting()
+    with strict(store, wait=0.2) as checks:
+
+        def has_raised():
+            assert Soon(checks.check, fresh()).answer == "Unavailable"
+            return "no attribute 'sort'" in caplog.text
+
+        until(has_raised)
+    assert store.puts == []
+
+
 @pytest.mark.parametrize("most", [THREADS, 10])
 def test_many_claims_share_a_call(most, monkeypatch):
     monkeypatch.setattr(_claims, "_MOST", most)

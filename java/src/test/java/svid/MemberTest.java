@@ -481,6 +481,31 @@ public class MemberTest {
         assertThrows(IllegalArgumentException.class, () -> Owner.of(new byte[31]));
     }
 
+    /** That fails, so that no answer goes to another request. */
+    @Test
+    public void aStoreThatSortsItsClaims() throws Exception {
+        Fickle store = new Fickle();
+        AtomicReference<Exception> why = new AtomicReference<>();
+        Answering sorting = claims -> {
+            try {
+                if (!claims.isEmpty()) {
+                    claims.sort((one, other) -> other.key().toString().compareTo(one.key().toString()));
+                }
+            } catch (UnsupportedOperationException thrown) {
+                why.set(thrown);
+                throw thrown;
+            }
+            return store.put(claims);
+        };
+        try (Validator validator = open(strict(sorting).wait(Duration.ofMillis(200)))) {
+            until(() -> {
+                assertEquals("Unavailable", soon(() -> validator.check(token())));
+                return why.get() != null;
+            });
+            assertEquals(0, store.puts.size());
+        }
+    }
+
     @Test
     public void manyClaimsShareACall() throws Exception {
         for (int count : List.of(THREADS, 257)) {
