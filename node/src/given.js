@@ -90,10 +90,11 @@ export function aboutCheck(given) {
   return given;
 }
 
-/** The 32 bytes that tell a caller from all others. */
+/** The 32 bytes that tell a caller from all others. Its bytes are copied at once, since a buffer may be filled again by the next request. */
 export async function callerOf(given) {
   if (typeof given !== "string" && !(given instanceof Uint8Array)) throw new TypeError("caller is a string or a Uint8Array");
-  return new Uint8Array(await (await webCrypto()).subtle.digest("SHA-256", typeof given === "string" ? utf8(given) : given));
+  const caller = typeof given === "string" ? utf8(given) : new Uint8Array(given);
+  return new Uint8Array(await (await webCrypto()).subtle.digest("SHA-256", caller));
 }
 
 /** What a store answers to so many claims. Throws TypeError for what is none. */

@@ -138,6 +138,15 @@ test("a token is bound to its caller, in the whole group", async () => {
   for (const it of both) it.close();
 });
 
+test("a caller whose bytes change during its check is the one that it was", async () => {
+  const validator = await bound(new MemoryStore()), text = token(one), owner = Uint8Array.of(1), caller = Uint8Array.of(2);
+  assert.equal(await said(validator.check(text, { caller: owner })), "accepted");
+  const thief = said(validator.check(text, { caller }));
+  caller.set(owner);
+  assert.equal(await thief, "Replayed");
+  validator.close();
+});
+
 test("a caller is given in mode bound, and in no other one", async () => {
   const checks = await bound(new MemoryStore()), others = [await Validator.open(terms), await strict(new MemoryStore())], text = token(one);
   for (const it of [undefined, {}, now(), { now: now() }]) await assert.rejects(checks.check(text, it), { name: "TypeError", message: /in the mode bound/ });
