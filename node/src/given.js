@@ -73,12 +73,17 @@ export function waitOf(given = 2) {
   throw new RangeError("wait is a number of seconds, and more than 0");
 }
 
-/** The patterns of who may call, once each of them is one. Undefined for all callers, which an empty list is not. */
-export function patternsOf(name, given, allows) {
+/** The patterns of who may call, in a list that is a copy. Undefined for all callers, which an empty list is not. */
+export function patternsOf(name, given) {
   if (given === undefined) return undefined;
   const patterns = typeof given === "string" ? [given] : [...given];
   if (!patterns.length) throw new RangeError(`${name} is empty: name who may call, or leave it out to let all call`);
-  for (const it of patterns) allows(nameOf("a pattern", it), ANYBODY);
+  return patterns.map((it) => nameOf("a pattern", it));
+}
+
+/** These patterns, once the library has read each of them. Throws where one is none. */
+export function readPatterns(patterns, allows) {
+  patterns?.forEach((it) => allows(it, ANYBODY));
   return patterns;
 }
 
@@ -136,17 +141,20 @@ export function bytesOf(name, given) {
   return given;
 }
 
-/** Bundles as the library takes them: their one text, or of each trust domain its name and the text of its bundle. Throws BadBundles. */
+/**
+ * Bundles as the library takes them: their one text, or of each trust domain its name and the text of its bundle. Bytes are copied, since they may
+ * change until the library reads them. Throws BadBundles.
+ */
 export function bundlesOf(given) {
   if (typeof given === "string") return utf8(given);
-  if (given instanceof Uint8Array) return given;
+  if (given instanceof Uint8Array) return new Uint8Array(given);
   if (typeof given !== "object" || given === null || Array.isArray(given)) {
     throw new TypeError("bundles is an object from trust domains to bundles, or the JSON text of one");
   }
   return Object.entries(given).map(([name, it]) => [name, bundleText(name, it)]);
 }
 
-// The text of one bundle, which the library judges. Bytes are copied, since they may change until it does.
+// The text of one bundle, which the library judges.
 function bundleText(name, given) {
   if (typeof given === "string") return utf8(given);
   if (given instanceof Uint8Array) return new Uint8Array(given);
