@@ -132,7 +132,8 @@ export class Member {
       return null;
     }
     const owner = this.#library.ownerOf(use, this.#life, this.#isBound ? request.caller : undefined);
-    return Object.freeze({ key: use.key, owner, expires: use.expires });
+    // (a store that changes the key must not change that of the deed, which may go out again)
+    return Object.freeze({ key: use.key.slice(), owner, expires: use.expires });
   }
 
   /** The store has answered the claim of a request. */

@@ -253,6 +253,24 @@ test("a store that changes the list of claims, or a claim, throws, and nothing i
   }
 });
 
+test("a claim whose key a store has changed is put again with its own key", async () => {
+  const changes = [(it) => it.key.reverse(), (it) => structuredClone(it.key, { transfer: [it.key.buffer] })];
+  for (const change of changes) {
+    const store = new Fickle(), validator = await strict(store, { wait: LONG }), text = token(one), keys = [];
+    store.before = () => {
+      const [claim] = store.puts.at(-1);
+      keys.push(Buffer.from(claim.key));
+      if (keys.length > 1) return;
+      change(claim);
+      throw new Error("the store is away");
+    };
+    assert.equal(await said(validator.check(text)), "accepted");
+    const { key } = validator.says(text);
+    assert.deepEqual(keys, [Buffer.from(key), Buffer.from(key)]);
+    validator.close();
+  }
+});
+
 test("many claims share a call, and 256 at the most", async (t) => {
   let moment = performance.now();
   const clock = t.mock.method(performance, "now", () => moment);
