@@ -145,7 +145,7 @@ export interface ValidatorOptions extends BundlesOptions {
    * all may call. What is no pattern throws RangeError, and so does an empty list.
    */
   callers?: string | Iterable<string>;
-  /** How many seconds `check`, `withdraw` and `withdrawKey` may take, until they throw `Unavailable`. By default 2. */
+  /** How many seconds `check`, `withdraw` and `withdrawKey` may take, until they throw `Unavailable`. At least 0.001, and by default 2. */
   wait?: number;
   /** How many seconds a message's moment, or the store's time, may lie past `now`: a little more than clocks differ. By default 10. */
   ahead?: Seconds;

@@ -5,6 +5,7 @@ import { ANY, MODES, TOKEN_ROOM, utf8 } from "./library.js";
 
 const YEAR_5138 = 100_000_000_000n;
 const VALIDATOR_ID = 16, KEY = 32, OWNER = 32;
+const LEAST_WAIT = 0.001; // (the library counts milliseconds)
 const ANYBODY = "spiffe://example.org";
 
 /** The time of a call, in whole seconds: by default that of the clock. */
@@ -69,8 +70,8 @@ export function modeOf({ mode = "once", store }) {
 
 /** For how many seconds a call waits. */
 export function waitOf(given = 2) {
-  if (typeof given === "number" && given > 0) return given;
-  throw new RangeError("wait is a number of seconds, and more than 0");
+  if (typeof given === "number" && given >= LEAST_WAIT) return given;
+  throw new RangeError(`wait is a number of seconds, and at least ${LEAST_WAIT}`);
 }
 
 /** The patterns of who may call, in a list that is a copy. Undefined for all callers, which an empty list is not. */

@@ -72,8 +72,9 @@ test("a store is given in the modes that claim tokens, and in no other one", asy
   for (const mode of ["twice", "", "toString", null, 1]) {
     await assert.rejects(Validator.open({ ...terms, mode, store }), { name: "RangeError", message: /^mode is one of once, strict, bound, reuse, and not/ });
   }
-  for (const wait of [0, -1, NaN, "2", null, 2n]) await assert.rejects(Validator.open({ ...terms, wait }), /wait is a number of seconds/);
-  for (const wait of [0.5, 1e300, Infinity]) (await Validator.open({ ...terms, wait })).close();
+  const due = { name: "RangeError", message: "wait is a number of seconds, and at least 0.001" };
+  for (const wait of [0, 0.0009, -1, NaN, "2", null, 2n]) await assert.rejects(Validator.open({ ...terms, wait }), due);
+  for (const wait of [0.001, 0.5, 1e300, Infinity]) (await Validator.open({ ...terms, wait })).close();
 });
 
 test("of many checks of one token at once one is accepted, and one claim goes out", async () => {

@@ -130,6 +130,16 @@ def test_a_mode_and_its_store(terms):
         validator(**terms)
 
 
+@pytest.mark.parametrize("wait", [0, 0.0009, -1, float("nan")])
+def test_a_wait_that_can_not_be(wait):
+    with pytest.raises(ValueError, match=r"^wait is a number of seconds, and at least 0\.001$"):
+        validator(wait=wait)
+
+
+def test_a_wait_of_a_millisecond():
+    validator(wait=0.001).close()
+
+
 def test_one_of_many_threads_is_accepted():
     store, token = Fickle(), fresh()
     with strict(store) as checks:
