@@ -6,7 +6,7 @@ import { test } from "node:test";
 import { promisify } from "node:util";
 import { PACKAGE, PATIENCE, counted, gate, imported, issuer, listed, now, said, seen, token, until } from "./making.mjs";
 
-const { MemoryStore, Unavailable, Validator } = await imported();
+const { MemoryStore, SvidError, Unavailable, Validator } = await imported();
 const { sentences } = await listed();
 
 const LONG = 600; // seconds that no test waits
@@ -530,6 +530,36 @@ test("a library that has stopped answers all that wait", async () => {
   assert.deepEqual(counted(await Promise.all(answers)), { Stopped: 3 });
   assert.equal(timers(), before);
   validator.close();
+});
+
+// A member over a library of the test's own, which takes a request and says what a test wants.
+async function memberOver(said) {
+  const { Member } = await imported("src/member.js"), pacing = { maySend: () => false, due: () => 2n ** 64n - 1n };
+  const library = { openMember() {}, pacing: () => pacing, read: () => ({}), closeToken() {}, come: () => ({ what: 0, number: 1n }), ...said };
+  return new Member(library, {}, { mode: "strict", store: {}, wait: LONG, own: ["ledger"], longest: 1n, ahead: 1n });
+}
+
+test("a claim that has no request does not go out, and does not come again", async () => {
+  const { CLAIM } = await imported("src/library.js"), due = { what: CLAIM, number: 7n, use: { key: new Uint8Array(32), expires: 1n } };
+  let looks = 0;
+  const pacing = { maySend: () => (looks += 1) < 0, due: () => 2n ** 64n - 1n };
+  const member = await memberOver({ send: () => due, pacing: () => pacing });
+  assert.equal(member.send(due), null);
+  assert.equal(looks, 0);
+});
+
+test("how a request ends that did not come is no rejection that nobody handles", async (t) => {
+  const heard = [], hear = (why) => heard.push(why);
+  process.on("unhandledRejection", hear);
+  t.after(() => process.off("unhandledRejection", hear));
+  const fault = new SvidError("no more"), fails = () => {
+    throw fault;
+  };
+  const member = await memberOver({ due: fails, leave: fails });
+  await assert.rejects(member.check("a", () => 1n), fault);
+  member.fail(new Error("the end"));
+  await new Promise((resolve) => setTimeout(resolve, 5));
+  assert.deepEqual(heard, []);
 });
 
 // What a program says that ends by itself. It has the package, a collector of what nobody refers to, options of a validator, and a good token.
