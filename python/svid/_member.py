@@ -389,10 +389,13 @@ class Member(Handle):
         """Tells the library what the validator has."""
         claims = self._claims
         known = lib.Known(bundled=1, loaded=1, heard=1, joined=1, caught_up=1, jumped=jumped)
-        known.opened = claims is None or claims.is_there
         known.away = claims is not None and claims.look(self._wait)
         known.deaf = claims is not None and claims.deaf >= now + self._longest
-        self._make(lib.quick.svid_member_know, lib.address(known))
+        with self._lock:
+            # (read with the lock held: who looked earlier must not say later that the store was
+            # not reached)
+            known.opened = claims is None or claims.is_there
+            self._check(lib.quick.svid_member_know(self._at, lib.address(known)))
 
     def _bring(self, number: int, use: Use) -> None:
         """Brings a withdrawal to its keepers."""

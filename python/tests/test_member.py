@@ -690,6 +690,33 @@ def test_a_store_that_is_not_there_yet(caplog):
         assert in_time(checks.check, fresh()) == SUBJECT
 
 
+def test_a_store_that_is_reached_meanwhile():
+    """Who has looked before does not say later that it was not reached."""
+    store = Fickle()
+    store.before = away
+    with strict(store, wait=0.01) as checks:
+        member, claims = checks._handle, checks._handle._claims
+        lock, look = member._lock, claims.look
+
+        class Reached:
+            """The lock of the validator. While a thread waits for it, the store is reached."""
+
+            def __enter__(self):
+                member._lock = lock
+                claims._answered([], [])
+                lock.acquire()
+
+            def __exit__(self, *_):
+                lock.release()
+
+        def looks(_):
+            claims.look, member._lock = look, Reached()
+            return False
+
+        claims.look = looks
+        assert checks.unready() is None
+
+
 def test_a_store_that_goes_away():
     store = Fickle()
     with strict(store, wait=0.1) as checks:

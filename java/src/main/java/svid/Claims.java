@@ -241,7 +241,7 @@ final class Claims {
     }
 
     /** The store has answered a call. */
-    private void answered(List<Member.Deed> deeds, List<Store.Found> found) {
+    void answered(List<Member.Deed> deeds, List<Store.Found> found) {
         synchronized (gate) {
             Library.svid_pacing_answered(pacing);
             silent = Library.NONE;

@@ -454,7 +454,6 @@ final class Member extends State {
 
     /** Tells the library what the validator has. */
     private void know(long now, boolean isJumped) {
-        boolean isOpened = claims == null || claims.isThere();
         boolean isAway = claims != null && claims.isAway(wait);
         boolean isDeaf = claims != null && Long.compareUnsigned(claims.deaf(), Times.sum(now, longest)) >= 0;
         synchronized (this) {
@@ -464,6 +463,8 @@ final class Member extends State {
                          Library.Known.BUNDLED, Library.Known.LOADED, Library.Known.HEARD, Library.Known.JOINED, Library.Known.CAUGHT_UP}) {
                 known.setLong(it, 1);
             }
+            // (read with the lock held: who looked earlier must not say later that the store was not reached)
+            boolean isOpened = claims == null || claims.isThere();
             known.setLong(Library.Known.OPENED, isOpened ? 1 : 0);
             known.setLong(Library.Known.JUMPED, isJumped ? 1 : 0);
             known.setLong(Library.Known.AWAY, isAway ? 1 : 0);

@@ -2,6 +2,7 @@ package svid;
 
 import static org.junit.Assert.assertEquals;
 import static org.junit.Assert.assertFalse;
+import static org.junit.Assert.assertNotEquals;
 import static org.junit.Assert.assertThrows;
 import static org.junit.Assert.assertTrue;
 import static svid.Making.PATIENCE;
@@ -933,6 +934,31 @@ public class MemberTest {
             store.before = NOTHING;
             until(validator::isReady);
             assertEquals(SUBJECT, inTime(validator, token()));
+        }
+    }
+
+    /** Who has looked before does not say later that it was not reached. */
+    @Test
+    public void aStoreThatIsReachedMeanwhile() throws Exception {
+        Fickle store = new Fickle();
+        store.before = AWAY;
+        try (Validator validator = open(strict(store).wait(Duration.ofMillis(1)))) {
+            Claims claims = memberOf(validator).claims;
+            AtomicReference<Optional<String>> said = new AtomicReference<>();
+            Soon looks;
+            synchronized (claims.gate) {
+                looks = new Soon(() -> {
+                    said.set(validator.unready());
+                    return 0;
+                });
+                Thread thread = looks.thread;
+                until(()
+                                -> Stream.of(thread.getStackTrace()).anyMatch(it -> it.getMethodName().equals("isAway"))
+                                && thread.getState() == Thread.State.BLOCKED);
+                claims.answered(List.of(), List.of());
+            }
+            assertEquals("", looks.answer());
+            assertNotEquals(Optional.of("The group's store was not reached yet."), said.get());
         }
     }
 
