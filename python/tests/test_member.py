@@ -690,6 +690,25 @@ def test_a_store_that_is_not_there_yet(caplog):
         assert in_time(checks.check, fresh()) == SUBJECT
 
 
+def test_an_answer_that_is_not_handed_on():
+    """As where there is no memory for that: nobody waits for longer than their time."""
+    store = Fickle()
+    with strict(store, wait=1) as checks, holding(store):
+        member = checks._handle
+        calls = [Soon(checks.check, fresh(jti="1")), Soon(checks.withdraw, fresh(jti="2"))]
+
+        def have_come():
+            with member._lock:
+                have = len(member._open) == len(member._withdrawals) == 1
+                if have:
+                    member._open.clear()
+                    member._withdrawals.clear()
+            return have
+
+        until(have_come)
+        assert [it.answer for it in calls] == ["Unavailable"] * 2
+
+
 def test_a_store_that_is_reached_meanwhile():
     """Who has looked before does not say later that it was not reached."""
     store = Fickle()

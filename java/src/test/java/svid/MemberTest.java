@@ -962,6 +962,29 @@ public class MemberTest {
         }
     }
 
+    /** As where there is no memory to hand it on: nobody waits for longer than their time. */
+    @Test
+    public void anAnswerThatIsNotHandedOn() throws Exception {
+        Fickle store = new Fickle();
+        try (Validator validator = open(strict(store).wait(Duration.ofSeconds(1))); Holding held = new Holding(store)) {
+            List<Soon> calls = List.of(new Soon(() -> validator.check(token())), new Soon(() -> validator.withdraw(token())));
+            until(() -> haveBeenForgotten(memberOf(validator)));
+            assertEquals(List.of("Unavailable", "Unavailable"), answers(calls));
+        }
+    }
+
+    /** Forgets a request and a withdrawal, once both have come. */
+    private static boolean haveBeenForgotten(Member member) {
+        synchronized (member) {
+            if (member.requests.size() != 1 || member.withdrawals.size() != 1) {
+                return false;
+            }
+            member.requests.clear();
+            member.withdrawals.clear();
+            return true;
+        }
+    }
+
     /** A thread that puts claims may wait for the lock of the validator. So nobody who has that lock waits for it. */
     @Test
     public void nobodyWaitsForTheClaimsUnderTheLock() throws Exception {
