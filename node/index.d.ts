@@ -101,8 +101,8 @@ export interface Asked {
  */
 export interface Store {
   /**
-   * Puts each claim if its key has no owner yet, and says what each key has afterwards, in the order of the claims. Without claims it answers an
-   * empty list: so a validator learns that the store is there.
+   * Puts each claim if its key has no owner yet, and says what each key has afterwards. Answers in the order of the claims. Without claims it answers
+   * an empty list: so a validator learns that the store is there. The list and its claims are frozen.
    */
   put(claims: readonly Claim[], about: Asked): Promise<readonly Found[]>;
   /**
@@ -145,7 +145,7 @@ export interface ValidatorOptions extends BundlesOptions {
    * all may call. What is no pattern throws RangeError, and so does an empty list.
    */
   callers?: string | Iterable<string>;
-  /** How many seconds `check`, `withdraw` and `withdrawKey` may take, until they throw `Unavailable`. By default 2. */
+  /** How many seconds `check`, `withdraw` and `withdrawKey` may take, until they throw `Unavailable`. At least 0.001, and by default 2. */
   wait?: number;
   /** How many seconds a message's moment, or the store's time, may lie past `now`: a little more than clocks differ. By default 10. */
   ahead?: Seconds;

@@ -103,7 +103,8 @@ export class Claims {
   async #put(deeds, claims) {
     let found;
     try {
-      found = foundOf(await this.#store.put(claims, { signal: this.#ending.signal }), claims.length);
+      // (a store that sorted the list in place would give each answer to another request)
+      found = foundOf(await this.#store.put(Object.freeze(claims), { signal: this.#ending.signal }), claims.length);
     } catch (why) {
       return this.#failed(deeds, why);
     }

@@ -5,6 +5,7 @@ import { ANY, MODES, TOKEN_ROOM, utf8 } from "./library.js";
 
 const YEAR_5138 = 100_000_000_000n;
 const VALIDATOR_ID = 16, KEY = 32, OWNER = 32;
+const LEAST_WAIT = 0.001; // (the library counts milliseconds)
 const ANYBODY = "spiffe://example.org";
 
 /** The time of a call, in whole seconds: by default that of the clock. */
@@ -69,16 +70,21 @@ export function modeOf({ mode = "once", store }) {
 
 /** For how many seconds a call waits. */
 export function waitOf(given = 2) {
-  if (typeof given === "number" && given > 0) return given;
-  throw new RangeError("wait is a number of seconds, and more than 0");
+  if (typeof given === "number" && given >= LEAST_WAIT) return given;
+  throw new RangeError(`wait is a number of seconds, and at least ${LEAST_WAIT}`);
 }
 
-/** The patterns of who may call, once each of them is one. Undefined for all callers, which an empty list is not. */
-export function patternsOf(name, given, allows) {
+/** The patterns of who may call, in a list that is a copy. Undefined for all callers, which an empty list is not. */
+export function patternsOf(name, given) {
   if (given === undefined) return undefined;
   const patterns = typeof given === "string" ? [given] : [...given];
   if (!patterns.length) throw new RangeError(`${name} is empty: name who may call, or leave it out to let all call`);
-  for (const it of patterns) allows(nameOf("a pattern", it), ANYBODY);
+  return patterns.map((it) => nameOf("a pattern", it));
+}
+
+/** These patterns, once the library has read each of them. Throws where one is none. */
+export function readPatterns(patterns, allows) {
+  patterns?.forEach((it) => allows(it, ANYBODY));
   return patterns;
 }
 
@@ -90,10 +96,11 @@ export function aboutCheck(given) {
   return given;
 }
 
-/** The 32 bytes that tell a caller from all others. */
+/** The 32 bytes that tell a caller from all others. Its bytes are copied at once, since a buffer may be filled again by the next request. */
 export async function callerOf(given) {
   if (typeof given !== "string" && !(given instanceof Uint8Array)) throw new TypeError("caller is a string or a Uint8Array");
-  return new Uint8Array(await (await webCrypto()).subtle.digest("SHA-256", typeof given === "string" ? utf8(given) : given));
+  const caller = typeof given === "string" ? utf8(given) : new Uint8Array(given);
+  return new Uint8Array(await (await webCrypto()).subtle.digest("SHA-256", caller));
 }
 
 /** What a store answers to so many claims. Throws TypeError for what is none. */
@@ -135,17 +142,20 @@ export function bytesOf(name, given) {
   return given;
 }
 
-/** Bundles as the library takes them: their one text, or of each trust domain its name and the text of its bundle. Throws BadBundles. */
+/**
+ * Bundles as the library takes them: their one text, or of each trust domain its name and the text of its bundle. Bytes are copied, since they may
+ * change until the library reads them. Throws BadBundles.
+ */
 export function bundlesOf(given) {
   if (typeof given === "string") return utf8(given);
-  if (given instanceof Uint8Array) return given;
+  if (given instanceof Uint8Array) return new Uint8Array(given);
   if (typeof given !== "object" || given === null || Array.isArray(given)) {
     throw new TypeError("bundles is an object from trust domains to bundles, or the JSON text of one");
   }
   return Object.entries(given).map(([name, it]) => [name, bundleText(name, it)]);
 }
 
-// The text of one bundle, which the library judges. Bytes are copied, since they may change until it does.
+// The text of one bundle, which the library judges.
 function bundleText(name, given) {
   if (typeof given === "string") return utf8(given);
   if (given instanceof Uint8Array) return new Uint8Array(given);

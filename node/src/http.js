@@ -1,7 +1,7 @@
 // Middleware for Express, and for servers of node:http: lets in requests with a good token.
 
 import { NotAllowed, Refusal } from "./errors.js";
-import { patternsOf } from "./given.js";
+import { patternsOf, readPatterns } from "./given.js";
 
 const HEADER = "authorization";
 const NOT_ALLOWED = 'Bearer error="insufficient_scope", error_description="NotAllowed"';
@@ -33,7 +33,8 @@ export function protect(validator, handler, options) {
 function termsOf(validator, { onError = () => {}, allow, caller } = {}) {
   if (typeof validator?.check !== "function" || typeof validator?.bearer !== "function") throw new TypeError("a Validator is wanted");
   if (caller !== undefined && typeof caller !== "function") throw new TypeError("caller is a function of a request");
-  return { validator, onError, caller, patterns: patternsOf("allow", allow, (...it) => validator.allows(...it)) };
+  const patterns = readPatterns(patternsOf("allow", allow), (...it) => validator.allows(...it));
+  return { validator, onError, caller, patterns };
 }
 
 // Whether a request is let in. Else it is answered here.

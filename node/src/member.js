@@ -65,6 +65,7 @@ export class Member {
   async check(text, clock, caller = NOBODY) {
     const request = { token: this.#library.read(clock(), text), clock, caller, edition: -1 };
     const answered = new Promise((resolve, reject) => Object.assign(request, { resolve, reject }));
+    answered.catch(() => {}); // (where the request does not come, nobody hears how it ends)
     try {
       this.#come(request);
       return await answered;
@@ -127,12 +128,14 @@ export class Member {
   /** The claim of a request, if it is to go out now, or else null. */
   send({ number, use }) {
     const request = this.#open.get(number), deed = this.#library.send(up(), number);
-    if (deed.what !== CLAIM || !request) {
+    if (deed.what !== CLAIM) {
       this.#hand(deed);
       return null;
     }
+    if (!request) return null; // (handed on, the claim would come here again)
     const owner = this.#library.ownerOf(use, this.#life, this.#isBound ? request.caller : undefined);
-    return { key: use.key, owner, expires: use.expires };
+    // (a store that changes the key must not change that of the deed, which may go out again)
+    return Object.freeze({ key: use.key.slice(), owner, expires: use.expires });
   }
 
   /** The store has answered the claim of a request. */

@@ -2,8 +2,8 @@
 
 import { Refusal } from "./errors.js";
 import {
-  aboutCheck, audiences, bundlesOf, bytesOf, callerOf, expiryOf, keyOf, limit, modeOf, nameOf, patternsOf, random, seconds, tokenOf, validatorId,
-  waitOf,
+  aboutCheck, audiences, bundlesOf, bytesOf, callerOf, expiryOf, keyOf, limit, modeOf, nameOf, patternsOf, random, readPatterns, seconds, tokenOf,
+  validatorId, waitOf,
 } from "./given.js";
 import { BATCH, LEAST_RSA_BITS, Library, MOST_RSA_BITS, USUAL_RSA_BITS, joined } from "./library.js";
 import { Member } from "./member.js";
@@ -19,10 +19,11 @@ function rsaBits(given = USUAL_RSA_BITS) {
   throw new RangeError(`rsaBits is a number from ${LEAST_RSA_BITS} to ${MOST_RSA_BITS}`);
 }
 
-/** The verifier of these options. */
-function verifierOf(library, options) {
-  if (options.verify !== undefined && typeof options.verify !== "function") throw new TypeError("verify is a function");
-  return new Verifier(library, rsaBits(options.rsaBits), options.verify);
+/** How these options verify: what makes their verifier, once there is a library. */
+function verifierOf(options) {
+  const { verify } = options, bits = rsaBits(options.rsaBits);
+  if (verify !== undefined && typeof verify !== "function") throw new TypeError("verify is a function");
+  return (library) => new Verifier(library, bits, verify);
 }
 
 /** Calls `open` with a library, and closes that where it throws. */
@@ -48,12 +49,14 @@ export class Validator {
     if (options.log !== undefined) throw new TypeError(NO_LOG);
     const own = audiences(options.audiences), bundles = bundlesOf(options.bundles), { mode, store } = modeOf(options), wait = waitOf(options.wait);
     const longest = limit("longest", options.longest), ahead = limit("ahead", options.ahead ?? 10), step = limit("step", options.step);
+    const callers = patternsOf("callers", options.callers), verifier = verifierOf(options);
+    // (all options are read by here: whoever gave them may change them while this waits)
     const terms = { longest, ahead, step, validatorId: await validatorId(options.validatorId) }, life = await random();
     const ready = await opened((library) => {
-      const verifier = verifierOf(library, options), callers = patternsOf("callers", options.callers, (...it) => library.allows(...it));
+      readPatterns(callers, (...it) => library.allows(...it));
       if (callers && own.some((it) => it.includes("\n"))) throw new RangeError("with callers, no audience has a line feed");
       library.openValidator(terms, own, bundles);
-      return { library, mode, member: new Member(library, verifier, { mode, wait, callers, store, own, longest, ahead, life }) };
+      return { library, mode, member: new Member(library, verifier(library), { mode, wait, callers, store, own, longest, ahead, life }) };
     });
     const validator = new this(ready);
     await ready.member.begin();
@@ -181,10 +184,10 @@ export class Bundles {
   /** Reads bundles. */
   static async open(options) {
     const own = audiences(options.audiences), longest = limit("longest", options.longest), bundles = bundlesOf(options.bundles);
+    const verifier = verifierOf(options);
     return opened((library) => {
-      const verifier = verifierOf(library, options);
       library.openBundles(bundles);
-      return new Bundles({ library, verifier, terms: { own, longest } });
+      return new Bundles({ library, verifier: verifier(library), terms: { own, longest } });
     });
   }
 

@@ -6,7 +6,7 @@ import { test } from "node:test";
 import { promisify } from "node:util";
 import { PACKAGE, PATIENCE, counted, gate, imported, issuer, listed, now, said, seen, token, until } from "./making.mjs";
 
-const { MemoryStore, Unavailable, Validator } = await imported();
+const { MemoryStore, SvidError, Unavailable, Validator } = await imported();
 const { sentences } = await listed();
 
 const LONG = 600; // seconds that no test waits
@@ -72,8 +72,9 @@ test("a store is given in the modes that claim tokens, and in no other one", asy
   for (const mode of ["twice", "", "toString", null, 1]) {
     await assert.rejects(Validator.open({ ...terms, mode, store }), { name: "RangeError", message: /^mode is one of once, strict, bound, reuse, and not/ });
   }
-  for (const wait of [0, -1, NaN, "2", null, 2n]) await assert.rejects(Validator.open({ ...terms, wait }), /wait is a number of seconds/);
-  for (const wait of [0.5, 1e300, Infinity]) (await Validator.open({ ...terms, wait })).close();
+  const due = { name: "RangeError", message: "wait is a number of seconds, and at least 0.001" };
+  for (const wait of [0, 0.0009, -1, NaN, "2", null, 2n]) await assert.rejects(Validator.open({ ...terms, wait }), due);
+  for (const wait of [0.001, 0.5, 1e300, Infinity]) (await Validator.open({ ...terms, wait })).close();
 });
 
 test("of many checks of one token at once one is accepted, and one claim goes out", async () => {
@@ -136,6 +137,15 @@ test("a token is bound to its caller, in the whole group", async () => {
   await both[0].withdraw(text);
   for (const it of both) assert.equal(await said(it.check(text, { caller: owner })), "Withdrawn");
   for (const it of both) it.close();
+});
+
+test("a caller whose bytes change during its check is the one that it was", async () => {
+  const validator = await bound(new MemoryStore()), text = token(one), owner = Uint8Array.of(1), caller = Uint8Array.of(2);
+  assert.equal(await said(validator.check(text, { caller: owner })), "accepted");
+  const thief = said(validator.check(text, { caller }));
+  caller.set(owner);
+  assert.equal(await thief, "Replayed");
+  validator.close();
 });
 
 test("a caller is given in mode bound, and in no other one", async () => {
@@ -223,6 +233,43 @@ test("what is no answer counts as none: the claim is put again", async () => {
   answers = (found) => found.map((it) => ({ owner: it.owner, time: Number(it.time) }));
   assert.equal(await said(validator.check(token(one))), "accepted");
   validator.close();
+});
+
+test("a store that changes the list of claims, or a claim, throws, and nothing is accepted", async () => {
+  const changes = [(claims) => claims.push(claims.pop()), (claims) => (claims[0].owner = new Uint8Array(32).fill(7))];
+  for (const change of changes) {
+    const store = new Fickle(), put = store.put.bind(store);
+    store.put = async (claims, about) => {
+      if (claims.length) change(claims);
+      return put(claims, about);
+    };
+    const validator = await strict(store, { wait: 0.2 });
+    await until(async () => {
+      const why = await validator.check(token(one)).then(() => ({ name: "accepted" }), (it) => it);
+      assert.equal(why.name, "Unavailable");
+      return why.cause instanceof TypeError;
+    });
+    assert.equal(store.puts.length, 0);
+    validator.close();
+  }
+});
+
+test("a claim whose key a store has changed is put again with its own key", async () => {
+  const changes = [(it) => it.key.reverse(), (it) => structuredClone(it.key, { transfer: [it.key.buffer] })];
+  for (const change of changes) {
+    const store = new Fickle(), validator = await strict(store, { wait: LONG }), text = token(one), keys = [];
+    store.before = () => {
+      const [claim] = store.puts.at(-1);
+      keys.push(Buffer.from(claim.key));
+      if (keys.length > 1) return;
+      change(claim);
+      throw new Error("the store is away");
+    };
+    assert.equal(await said(validator.check(text)), "accepted");
+    const { key } = validator.says(text);
+    assert.deepEqual(keys, [Buffer.from(key), Buffer.from(key)]);
+    validator.close();
+  }
 });
 
 test("many claims share a call, and 256 at the most", async (t) => {
@@ -483,6 +530,36 @@ test("a library that has stopped answers all that wait", async () => {
   assert.deepEqual(counted(await Promise.all(answers)), { Stopped: 3 });
   assert.equal(timers(), before);
   validator.close();
+});
+
+// A member over a library of the test's own, which takes a request and says what a test wants.
+async function memberOver(said) {
+  const { Member } = await imported("src/member.js"), pacing = { maySend: () => false, due: () => 2n ** 64n - 1n };
+  const library = { openMember() {}, pacing: () => pacing, read: () => ({}), closeToken() {}, come: () => ({ what: 0, number: 1n }), ...said };
+  return new Member(library, {}, { mode: "strict", store: {}, wait: LONG, own: ["ledger"], longest: 1n, ahead: 1n });
+}
+
+test("a claim that has no request does not go out, and does not come again", async () => {
+  const { CLAIM } = await imported("src/library.js"), due = { what: CLAIM, number: 7n, use: { key: new Uint8Array(32), expires: 1n } };
+  let looks = 0;
+  const pacing = { maySend: () => (looks += 1) < 0, due: () => 2n ** 64n - 1n };
+  const member = await memberOver({ send: () => due, pacing: () => pacing });
+  assert.equal(member.send(due), null);
+  assert.equal(looks, 0);
+});
+
+test("how a request ends that did not come is no rejection that nobody handles", async (t) => {
+  const heard = [], hear = (why) => heard.push(why);
+  process.on("unhandledRejection", hear);
+  t.after(() => process.off("unhandledRejection", hear));
+  const fault = new SvidError("no more"), fails = () => {
+    throw fault;
+  };
+  const member = await memberOver({ due: fails, leave: fails });
+  await assert.rejects(member.check("a", () => 1n), fault);
+  member.fail(new Error("the end"));
+  await new Promise((resolve) => setTimeout(resolve, 5));
+  assert.deepEqual(heard, []);
 });
 
 // What a program says that ends by itself. It has the package, a collector of what nobody refers to, options of a validator, and a good token.

@@ -286,6 +286,26 @@ test("options that can't be are refused", async () => {
   assert.throws(() => new Bundles(), TypeError);
 });
 
+test("options that change while a validator opens are those that were given", async () => {
+  const other = issuer("k1"), text = token(one, { aud: "first" }), forged = token(other, { aud: "first" });
+  const opening = (kind, given) => {
+    const options = { ...terms, audiences: ["first"], bundles: Buffer.from(JSON.stringify(bundles)), ...given }, opens = kind.open(options);
+    options.audiences[0] = "other";
+    options.bundles.fill(0x20);
+    options.callers?.splice(0, 1, "spiffe://example.org");
+    Object.assign(options, { verify: () => true, rsaBits: 1, callers: undefined });
+    return opens;
+  };
+  for (const kind of [Validator, Bundles]) {
+    const it = await opening(kind);
+    assert.deepEqual([await said(it.judge(forged)), await said(it.judge(text))], ["BadSignature", "accepted"], kind.name);
+    it.close();
+  }
+  const admins = await opening(Validator, { callers: ["spiffe://example.org/admin"] });
+  assert.equal(await said(admins.check(text)), "NotAllowed");
+  admins.close();
+});
+
 test("a log of a group is refused, and the error says how a token is accepted once in a group", async () => {
   for (const log of [{}, null]) {
     const due = { name: "TypeError", message: /^log is no option: .* write mode "strict" and give the group's store/ };

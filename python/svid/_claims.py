@@ -118,7 +118,9 @@ class Claims:
         """Puts claims until it is closed. One thread more than calls are under way does so."""
         while (these := self._next()) is not None:
             try:
-                found = [_packed(it) for it in self._store.put([claim for _, claim in these])]
+                # (a store that sorted a list in place would give each answer to another request)
+                claims = tuple(claim for _, claim in these)
+                found = [_packed(it) for it in self._store.put(claims)]
                 if len(found) != len(these):
                     raise ValueError(f"{len(these)} claims have {len(found)} answers")
             except Exception as why:

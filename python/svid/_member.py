@@ -67,7 +67,7 @@ class Request:
 
     __slots__ = (
         *("token", "clock", "caller", "verifies"),
-        *("steps", "number", "subject", "is_writing", "why"),
+        *("steps", "number", "end", "subject", "is_writing", "why"),
     )
 
     def __init__(
@@ -80,6 +80,7 @@ class Request:
         self.verifies = verifies
         self.steps: _Steps = queue.SimpleQueue()
         self.number = lib.NONE
+        self.end = 0.0  # when it is late
         self.subject = ""
         self.is_writing = False  # its use is on its way to the disk
         self.why: Exception | None = None  # why the disk did not take it
@@ -167,9 +168,10 @@ class Member(Handle):
             self._check(lib.quick.svid_withdrawal_come(self._at, up(), self._made_at))
             number = self._made.number
             self._withdrawals[number] = ends
+            end = time.monotonic() + self._wait
         try:
             self._bring(number, use)
-            ended = self._next(ends)
+            ended = self._next(ends, end)
         finally:
             with self._lock:
                 self._withdrawals.pop(number, None)
@@ -239,12 +241,13 @@ class Member(Handle):
             if what != lib.DEED_JUDGE:
                 raise Unavailable("no more requests can be told apart: open another validator")
             self._open[request.number] = request
+            request.end = time.monotonic() + self._wait
 
     def _see_through(self, request: Request) -> Accepted:
         """Does what is to be done for a request, until it is answered."""
         self._ask(request, lib.quick.svid_member_judge)
         while True:
-            step = self._next(request.steps)
+            step = self._next(request.steps, request.end)
             if isinstance(step, bytes):
                 self._ask(request, lib.quick.svid_member_found, request.caller, step)
             elif isinstance(step, Exception):
@@ -316,15 +319,21 @@ class Member(Handle):
             with contextlib.suppress(Error), self._lock:
                 self._tell(lib.quick.svid_member_leave, up(), request.number)
 
-    def _next(self, steps: queue.SimpleQueue[_T]) -> _T:
-        """The next step. Whatever is due meanwhile is answered that it is late."""
+    def _next(self, steps: queue.SimpleQueue[_T], end: float) -> _T:
+        """The next step. Whatever is due meanwhile is answered that it is late.
+
+        end: when it is late itself. One comes by then, unless there was no memory to hand it on.
+        """
         while True:
             try:
                 return steps.get_nowait()
             except queue.Empty:
+                left = end - time.monotonic()
                 with contextlib.suppress(queue.Empty):
-                    return steps.get(timeout=self._until_due())
+                    return steps.get(timeout=min(self._until_due(), max(left, 0)))
                 self._overdue()
+                if left < 0 and steps.empty():
+                    raise fault(lib.LATE) from None
 
     def _until_due(self) -> float:
         """For how many seconds nothing is due."""
@@ -389,10 +398,13 @@ class Member(Handle):
         """Tells the library what the validator has."""
         claims = self._claims
         known = lib.Known(bundled=1, loaded=1, heard=1, joined=1, caught_up=1, jumped=jumped)
-        known.opened = claims is None or claims.is_there
         known.away = claims is not None and claims.look(self._wait)
         known.deaf = claims is not None and claims.deaf >= now + self._longest
-        self._make(lib.quick.svid_member_know, lib.address(known))
+        with self._lock:
+            # (read with the lock held: who looked earlier must not say later that the store was
+            # not reached)
+            known.opened = claims is None or claims.is_there
+            self._check(lib.quick.svid_member_know(self._at, lib.address(known)))
 
     def _bring(self, number: int, use: Use) -> None:
         """Brings a withdrawal to its keepers."""

@@ -31,6 +31,7 @@ _PIECE = 2**22
 """How many bytes of messages are written, or read of a file, at a time."""
 _NOBODY = bytes(32)
 _CLAIMS = ("strict", "bound")
+_LEAST_WAIT = 0.001  # (the library counts milliseconds)
 """The modes in which tokens are claimed in a store."""
 
 Token = Union[str, bytes]
@@ -107,7 +108,8 @@ class Validator:
             again after a crash, a restart or a loss of power. The validator has the ID that is
             in it. In mode "once" `check` returns once the disk has the use, and so does `withdraw`
             in each mode. What `take` got is kept from the next snapshot on. See `svid.Journal`.
-        wait: how many seconds `check` and `withdraw` may take, until they raise Unavailable.
+        wait: how many seconds `check` and `withdraw` may take, until they raise Unavailable. It is
+            at least 0.001.
 
         Raises BadBundles, OSError for a file of bundles, and ValueError and TypeError for arguments
         that can't be. With `state` it raises what `svid.Journal` does, and TooFar where the clock
@@ -117,8 +119,8 @@ class Validator:
             raise ValueError("validator_id has 16 bytes, and a folder of state has its own")
         if refresh is not None and not refresh >= 0:
             raise ValueError("refresh is a number of seconds, or None")
-        if not wait > 0:
-            raise ValueError("wait is a number of seconds, and more than 0")
+        if not wait >= _LEAST_WAIT:
+            raise ValueError(f"wait is a number of seconds, and at least {_LEAST_WAIT}")
         if mode not in lib.MODES:
             raise ValueError(f"mode is one of {', '.join(lib.MODES)}, and not {mode!r}")
         if (store is not None) != (mode in _CLAIMS):

@@ -55,7 +55,8 @@ class Store(Protocol):
     def put(self, claims: Sequence[Claim]) -> Sequence[Found]:
         """Puts each claim if its key has no owner yet, and says what each key has afterwards.
 
-        Without claims it answers none: so a validator learns that the store is there.
+        Answers in the order of the claims, which are a tuple. Without claims it answers none: so a
+        validator learns that the store is there.
         """
 
     def withdraw(self, key: bytes, expires: int) -> None:

@@ -130,6 +130,16 @@ def test_a_mode_and_its_store(terms):
         validator(**terms)
 
 
+@pytest.mark.parametrize("wait", [0, 0.0009, -1, float("nan")])
+def test_a_wait_that_can_not_be(wait):
+    with pytest.raises(ValueError, match=r"^wait is a number of seconds, and at least 0\.001$"):
+        validator(wait=wait)
+
+
+def test_a_wait_of_a_millisecond():
+    validator(wait=0.001).close()
+
+
 def test_one_of_many_threads_is_accepted():
     store, token = Fickle(), fresh()
     with strict(store) as checks:
@@ -318,6 +328,26 @@ def test_an_answer_that_is_none(wrong):
     with strict(store, wait=PATIENCE) as checks:
         assert Soon(checks.check, fresh()).answer == SUBJECT
     assert store.wrongs == 2
+
+
+def test_a_store_that_sorts_its_claims(caplog):
+    """That raises, so that no answer goes to another request."""
+
+    class Sorting(Fickle):
+        def put(self, claims):
+            if claims:
+                claims.sort()
+            return super().put(claims)
+
+    store = Sorting()
+    with strict(store, wait=0.2) as checks:
+
+        def has_raised():
+            assert Soon(checks.check, fresh()).answer == "Unavailable"
+            return "no attribute 'sort'" in caplog.text
+
+        until(has_raised)
+    assert store.puts == []
 
 
 @pytest.mark.parametrize("most", [THREADS, 10])
@@ -658,6 +688,52 @@ def test_a_store_that_is_not_there_yet(caplog):
         store.before = lambda: None
         until(lambda: checks.ready)
         assert in_time(checks.check, fresh()) == SUBJECT
+
+
+def test_an_answer_that_is_not_handed_on():
+    """As where there is no memory for that: nobody waits for longer than their time."""
+    store = Fickle()
+    with strict(store, wait=1) as checks, holding(store):
+        member = checks._handle
+        calls = [Soon(checks.check, fresh(jti="1")), Soon(checks.withdraw, fresh(jti="2"))]
+
+        def have_come():
+            with member._lock:
+                have = len(member._open) == len(member._withdrawals) == 1
+                if have:
+                    member._open.clear()
+                    member._withdrawals.clear()
+            return have
+
+        until(have_come)
+        assert [it.answer for it in calls] == ["Unavailable"] * 2
+
+
+def test_a_store_that_is_reached_meanwhile():
+    """Who has looked before does not say later that it was not reached."""
+    store = Fickle()
+    store.before = away
+    with strict(store, wait=0.01) as checks:
+        member, claims = checks._handle, checks._handle._claims
+        lock, look = member._lock, claims.look
+
+        class Reached:
+            """The lock of the validator. While a thread waits for it, the store is reached."""
+
+            def __enter__(self):
+                member._lock = lock
+                claims._answered([], [])
+                lock.acquire()
+
+            def __exit__(self, *_):
+                lock.release()
+
+        def looks(_):
+            claims.look, member._lock = look, Reached()
+            return False
+
+        claims.look = looks
+        assert checks.unready() is None
 
 
 def test_a_store_that_goes_away():

@@ -180,7 +180,7 @@ impl<V> Guard<V> {
     }
 
     /// The validator, for its other calls. Hold it for as short as may be: no other thread checks meanwhile. Check by the guard: in a guard with a
-    /// mode, a journal or callers, `check` of the validator answers [`Error::Options`].
+    /// mode, a journal or callers, `check` of the validator answers [`Error::Options`]. Never swap it with another one: its requests are the guard's.
     pub fn validator(&self) -> MutexGuard<'_, Validator> {
         self.requests.validator()
     }

@@ -32,6 +32,7 @@ pub(crate) struct Core {
     edition: u64, // how often the bundles were replaced
     /// Its member alone accepts tokens.
     pub is_guarded: bool,
+    opened: u64, // whether the store of its member was reached, as the library has it
     waiting: Waiting,
 }
 
@@ -40,7 +41,7 @@ impl Core {
         crate::same_version()?;
         let (own, validator_id) = (Audiences::of(options)?, options.own_id()?);
         let (raw, waiting, mut told) = (Handle::CLOSED, Waiting::default(), Told::default());
-        let mut core = Core { raw, room: Vec::new(), spare: Vec::new(), validator_id, edition: 0, is_guarded: false, waiting };
+        let mut core = Core { raw, room: Vec::new(), spare: Vec::new(), validator_id, edition: 0, is_guarded: false, opened: 0, waiting };
         ffi::grow(&mut core.room, ROOM).map_err(|_| Error::NoMemory)?;
         let terms = Audiences::terms(options, validator_id);
         // SAFETY: the handle is closed, each input is a slice with its length, and nothing overlaps.

@@ -55,9 +55,12 @@ impl Core {
         told(unsafe { ffi::svid_member_rules(&mut self.raw, own.as_ptr(), own.len(), 0, callers.as_ptr(), callers.len()) })
     }
 
+    /// Tells the library what the validator has. A store that was reached stays so: a thread that looked before may tell that later.
     pub fn know(&mut self, known: &Known) -> Result<(), Error> {
+        self.opened |= known.opened;
+        let known = Known { opened: self.opened, ..*known };
         // SAFETY: the handle is open, and nothing overlaps.
-        told(unsafe { ffi::svid_member_know(&mut self.raw, known) })
+        told(unsafe { ffi::svid_member_know(&mut self.raw, &known) })
     }
 
     pub fn ready(&mut self) -> Result<(), Error> {

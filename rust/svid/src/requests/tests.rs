@@ -901,6 +901,21 @@ fn a_store_that_is_not_there_yet() {
     assert_eq!(in_time(&guard, &fresh(1)), "accepted");
 }
 
+/// Who has looked before does not say later that it was not reached.
+#[test]
+fn a_store_that_is_reached_meanwhile() {
+    let store = Fickle::new();
+    store.before(away);
+    let guard = opened(&strict(&store).wait(SHORT));
+    let known = |opened| ffi::Known { bundled: 1, loaded: 1, heard: 1, joined: 1, caught_up: 1, opened, ..ffi::Known::default() };
+    let mut validator = guard.validator();
+    assert!(validator.core.ready().is_err());
+    for opened in [1, 0] {
+        validator.core.know(&known(opened)).expect("it is open");
+        assert_eq!(validator.core.ready(), Ok(()));
+    }
+}
+
 #[test]
 fn a_store_that_goes_away() {
     let store = Fickle::new();

@@ -147,7 +147,8 @@ final class Claims {
             }
             List<Store.Found> found;
             try {
-                found = List.copyOf(store.put(these.claims));
+                // (a store that sorted the list in place would give each answer to another request)
+                found = List.copyOf(store.put(List.copyOf(these.claims)));
                 if (found.size() != these.claims.size()) {
                     throw new IllegalStateException(these.claims.size() + " claims have " + found.size() + " answers");
                 }
@@ -240,7 +241,7 @@ final class Claims {
     }
 
     /** The store has answered a call. */
-    private void answered(List<Member.Deed> deeds, List<Store.Found> found) {
+    void answered(List<Member.Deed> deeds, List<Store.Found> found) {
         synchronized (gate) {
             Library.svid_pacing_answered(pacing);
             silent = Library.NONE;

@@ -130,6 +130,7 @@ final class Member extends State {
         private final byte[] caller;
         private final BlockingQueue<Step> steps = new LinkedBlockingQueue<>();
         private long number = Library.NONE;
+        private long end; // when it is late
         private SpiffeId subject;
         private boolean isAnswered;
 
@@ -229,6 +230,7 @@ final class Member extends State {
         must(Library.svid_member_come(open(), up.getAsLong(), deed));
         Deed read = deed();
         request.number = read.number;
+        request.end = up.getAsLong() + wait;
         requests.put(read.number, request);
         request.steps.add(read);
     }
@@ -236,7 +238,7 @@ final class Member extends State {
     /** Does what is to be done for a request, until it is answered. */
     private Admission seenThrough(Request request) throws Refusal {
         while (true) {
-            Step step = next(request.steps);
+            Step step = next(request.steps, request.end);
             if (step instanceof Failure failure) {
                 throw failure.why;
             } else if (step instanceof Answer answer) {
@@ -323,15 +325,20 @@ final class Member extends State {
         }
     }
 
-    /** The next one of these. Whatever is due meanwhile is answered that it is late. */
-    private <T> T next(BlockingQueue<T> steps) {
+    /**
+     * The next one of these. Whatever is due meanwhile is answered that it is late.
+     *
+     * @param end when it is late itself: one comes by then, unless there was no memory to hand it on
+     */
+    private <T> T next(BlockingQueue<T> steps, long end) {
         while (true) {
             T step = steps.poll();
             if (step != null) {
                 return step;
             }
+            long left = end - up.getAsLong();
             try {
-                step = steps.poll(untilDue(), TimeUnit.MILLISECONDS);
+                step = steps.poll(Math.min(untilDue(), Math.max(left + 1, 0)), TimeUnit.MILLISECONDS);
             } catch (InterruptedException why) {
                 Thread.currentThread().interrupt();
                 throw new SvidException.Unavailable("the thread was interrupted while it waited for an answer: make the call again", why);
@@ -340,6 +347,9 @@ final class Member extends State {
                 return step;
             }
             overdue();
+            if (left < 0 && steps.isEmpty()) {
+                throw fault(Library.LATE);
+            }
         }
     }
 
@@ -368,8 +378,10 @@ final class Member extends State {
     private void bring(TokenKey key, long expiry) {
         BlockingQueue<End> ends = new LinkedBlockingQueue<>();
         long number;
+        long due;
         synchronized (this) {
             must(Library.svid_withdrawal_come(open(), up.getAsLong(), made));
+            due = up.getAsLong() + wait;
             number = made.getLong(Library.Withdrawal.NUMBER);
             withdrawals.put(number, ends);
         }
@@ -381,7 +393,7 @@ final class Member extends State {
                 cause[0] = why;
                 told(number, Library.AT_STORE, why == null);
             });
-            End end = next(ends);
+            End end = next(ends, due);
             if (end.why != null) {
                 throw end.why;
             }
@@ -454,7 +466,6 @@ final class Member extends State {
 
     /** Tells the library what the validator has. */
     private void know(long now, boolean isJumped) {
-        boolean isOpened = claims == null || claims.isThere();
         boolean isAway = claims != null && claims.isAway(wait);
         boolean isDeaf = claims != null && Long.compareUnsigned(claims.deaf(), Times.sum(now, longest)) >= 0;
         synchronized (this) {
@@ -464,6 +475,8 @@ final class Member extends State {
                          Library.Known.BUNDLED, Library.Known.LOADED, Library.Known.HEARD, Library.Known.JOINED, Library.Known.CAUGHT_UP}) {
                 known.setLong(it, 1);
             }
+            // (read with the lock held: who looked earlier must not say later that the store was not reached)
+            boolean isOpened = claims == null || claims.isThere();
             known.setLong(Library.Known.OPENED, isOpened ? 1 : 0);
             known.setLong(Library.Known.JUMPED, isJumped ? 1 : 0);
             known.setLong(Library.Known.AWAY, isAway ? 1 : 0);

@@ -23,9 +23,9 @@ import java.util.Objects;
  */
 public interface Store {
     /**
-     * Puts each claim if its key has no owner yet, and says what each key has afterwards, in the same order.
+     * Puts each claim if its key has no owner yet, and says what each key has afterwards. Answers in the order of the claims.
      *
-     * @param claims none where a validator only asks whether the store is there
+     * @param claims none where a validator only asks whether the store is there; the list can't be changed
      */
     List<Found> put(List<Claim> claims) throws Exception;
 

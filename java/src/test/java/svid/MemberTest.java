@@ -2,6 +2,7 @@ package svid;
 
 import static org.junit.Assert.assertEquals;
 import static org.junit.Assert.assertFalse;
+import static org.junit.Assert.assertNotEquals;
 import static org.junit.Assert.assertThrows;
 import static org.junit.Assert.assertTrue;
 import static svid.Making.PATIENCE;
@@ -481,6 +482,31 @@ public class MemberTest {
         assertThrows(IllegalArgumentException.class, () -> Owner.of(new byte[31]));
     }
 
+    /** That fails, so that no answer goes to another request. */
+    @Test
+    public void aStoreThatSortsItsClaims() throws Exception {
+        Fickle store = new Fickle();
+        AtomicReference<Exception> why = new AtomicReference<>();
+        Answering sorting = claims -> {
+            try {
+                if (!claims.isEmpty()) {
+                    claims.sort((one, other) -> other.key().toString().compareTo(one.key().toString()));
+                }
+            } catch (UnsupportedOperationException thrown) {
+                why.set(thrown);
+                throw thrown;
+            }
+            return store.put(claims);
+        };
+        try (Validator validator = open(strict(sorting).wait(Duration.ofMillis(200)))) {
+            until(() -> {
+                assertEquals("Unavailable", soon(() -> validator.check(token())));
+                return why.get() != null;
+            });
+            assertEquals(0, store.puts.size());
+        }
+    }
+
     @Test
     public void manyClaimsShareACall() throws Exception {
         for (int count : List.of(THREADS, 257)) {
@@ -908,6 +934,54 @@ public class MemberTest {
             store.before = NOTHING;
             until(validator::isReady);
             assertEquals(SUBJECT, inTime(validator, token()));
+        }
+    }
+
+    /** Who has looked before does not say later that it was not reached. */
+    @Test
+    public void aStoreThatIsReachedMeanwhile() throws Exception {
+        Fickle store = new Fickle();
+        store.before = AWAY;
+        try (Validator validator = open(strict(store).wait(Duration.ofMillis(1)))) {
+            Claims claims = memberOf(validator).claims;
+            AtomicReference<Optional<String>> said = new AtomicReference<>();
+            Soon looks;
+            synchronized (claims.gate) {
+                looks = new Soon(() -> {
+                    said.set(validator.unready());
+                    return 0;
+                });
+                Thread thread = looks.thread;
+                until(()
+                                -> Stream.of(thread.getStackTrace()).anyMatch(it -> it.getMethodName().equals("isAway"))
+                                && thread.getState() == Thread.State.BLOCKED);
+                claims.answered(List.of(), List.of());
+            }
+            assertEquals("", looks.answer());
+            assertNotEquals(Optional.of("The group's store was not reached yet."), said.get());
+        }
+    }
+
+    /** As where there is no memory to hand it on: nobody waits for longer than their time. */
+    @Test
+    public void anAnswerThatIsNotHandedOn() throws Exception {
+        Fickle store = new Fickle();
+        try (Validator validator = open(strict(store).wait(Duration.ofSeconds(1))); Holding held = new Holding(store)) {
+            List<Soon> calls = List.of(new Soon(() -> validator.check(token())), new Soon(() -> validator.withdraw(token())));
+            until(() -> haveBeenForgotten(memberOf(validator)));
+            assertEquals(List.of("Unavailable", "Unavailable"), answers(calls));
+        }
+    }
+
+    /** Forgets a request and a withdrawal, once both have come. */
+    private static boolean haveBeenForgotten(Member member) {
+        synchronized (member) {
+            if (member.requests.size() != 1 || member.withdrawals.size() != 1) {
+                return false;
+            }
+            member.requests.clear();
+            member.withdrawals.clear();
+            return true;
         }
     }
 
