@@ -548,7 +548,7 @@ test("a claim that has no request does not go out, and does not come again", asy
   assert.equal(looks, 0);
 });
 
-test("how a request ends that did not come is no rejection that nobody handles", async (t) => {
+test("a request that did not come ends no process", async (t) => {
   const heard = [], hear = (why) => heard.push(why);
   process.on("unhandledRejection", hear);
   t.after(() => process.off("unhandledRejection", hear));
