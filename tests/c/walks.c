@@ -511,7 +511,7 @@ static void readiness_walk(void) {
                 counts[k] = bits >> k & 1;
                 if (reasons[k] == SVID_WITHDRAWALS_UNREAD && mode == SVID_STRICT) counts[k] = 0;
                 if (reasons[k] == SVID_KEEPS_NOTHING && mode != SVID_ONCE) counts[k] = 0;
-                if ((reasons[k] == SVID_STORE_AWAY || reasons[k] == SVID_DEAF) && mode != SVID_STRICT) counts[k] = 0;
+                if ((reasons[k] == SVID_STORE_AWAY || reasons[k] == SVID_DEAF) && mode != SVID_STRICT && mode != SVID_BOUND) counts[k] = 0;
                 if (counts[k]) first = k;
             }
             svid_known known = { !(bits >> 1 & 1), !(bits >> 2 & 1), !(bits >> 3 & 1), !(bits >> 4 & 1), !(bits >> 5 & 1), !(bits >> 6 & 1),
