@@ -357,7 +357,10 @@ func TestEachRequestIsAnsweredAtItsTime(t *testing.T) {
 		}
 		for i, r := range all {
 			at := time.Hour + time.Duration(i+1)*time.Second + time.Minute
-			for b.machine.Due() < at {
+			for n := 0; b.machine.Due() < at; n++ {
+				if n == 100_000 {
+					t.Fatalf("%s: what is due at %v is never done", what, b.machine.Due())
+				}
 				if b.now.Up = b.machine.Due(); r.answered && i%3 > 0 {
 					t.Fatalf("%s: request %d is answered too early: %v", what, i, r.Err)
 				}
