@@ -400,15 +400,18 @@ def test_a_claim_of_who_does_not_know_yet_that_it_is_late():
     store = Fickle()
     with strict(store, wait=0.3) as checks:
         until(lambda: checks.ready)
-        claims = checks._handle._claims
+        member, held = checks._handle, threading.Event()
+        claims = member._claims
         claims._pacing.calls = 64
-        until_due, checks._handle._until_due = checks._handle._until_due, lambda: PATIENCE
+        member._overdue = lambda: held.wait(PATIENCE)
         call = Soon(checks.check, fresh())
         until(lambda: claims._waiting)
-        until(lambda: until_due() == 0)
+        until(lambda: member._until_due() == 0)
         claims._pacing.calls = 0
         with claims._gate:
             claims._gate.notify()
+        until(lambda: not member._open)
+        held.set()
         assert call.answer == "Unavailable"
         assert store.puts == [] and nothing_waits(checks)
 

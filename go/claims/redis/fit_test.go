@@ -135,9 +135,7 @@ func TestAReplicaAlone(t *testing.T) {
 	t.Parallel()
 	primary := start(t)
 	replica := startReplica(t, primary)
-	if err := tryOpen(t, Options{URLs: []string{replica.URL}}, 3*time.Second); err == nil || !strings.Contains(err.Error(), "it is a replica") {
-		t.Error(err)
-	}
+	claimstest.Refuses(t, newStore(t, Options{URLs: []string{replica.URL}}), "it is a replica")
 	opened(t, Options{URLs: []string{replica.URL, primary.URL}})
 }
 
@@ -301,9 +299,7 @@ func TestRights(t *testing.T) {
 		t.Error(err)
 	}
 	wrong := strings.Replace(s.URL, "redis://", "redis://member:wrong@", 1)
-	if err := tryOpen(t, Options{URLs: []string{wrong}}, 3*time.Second); err == nil || !strings.Contains(err.Error(), "WRONGPASS") {
-		t.Errorf("%v", err)
-	}
+	claimstest.Refuses(t, newStore(t, Options{URLs: []string{wrong}}), "WRONGPASS")
 }
 
 // A password may stand in the URL, in a file, or in the environment.

@@ -880,9 +880,7 @@ func TestSentinelsThatDisagree(t *testing.T) {
 		o.URLs = append(o.URLs, sentinel.URL)
 		logtest.Await(t, "the Sentinel", sentinel.Answers)
 	}
-	if err := tryOpen(t, o, time.Second); !errors.Is(err, errDisagree) {
-		t.Error(err)
-	}
+	claimstest.Refuses(t, newStore(t, o), errDisagree.Error())
 	opened(t, Options{URLs: o.URLs[:1]})
 }
 
