@@ -25,14 +25,14 @@ func TestServersOfNATSAreRestarted(t *testing.T) {
 		end  func(*testing.T, *broker.Server)
 		wait string
 	}{
-		"stopped": {func(_ *testing.T, s *broker.Server) { s.Stop() }, "15s"},
+		"stopped": {func(_ *testing.T, s *broker.Server) { s.Stop() }, "30s"},
 		"lame duck": {func(t *testing.T, s *broker.Server) {
 			if out, err := exec.Command("nats-server", "--signal", fmt.Sprint("ldm=", s.Pid())).CombinedOutput(); err != nil {
 				t.Errorf("%v %s", err, out)
 			}
 			s.Await()
-		}, "15s"},
-		"killed": {func(_ *testing.T, s *broker.Server) { s.Kill() }, "15s"},
+		}, "30s"},
+		"killed": {func(_ *testing.T, s *broker.Server) { s.Kill() }, "30s"},
 	} {
 		row := row
 		t.Run(name, func(t *testing.T) {
