@@ -558,7 +558,7 @@ test("a request that did not come ends no process", async (t) => {
   const member = await memberOver({ due: fails, leave: fails });
   await assert.rejects(member.check("a", () => 1n), fault);
   member.fail(new Error("the end"));
-  await new Promise((resolve) => setTimeout(resolve, 5));
+  await new Promise((resolve) => setImmediate(resolve)); // (Node tells of what nobody handles before that)
   assert.deepEqual(heard, []);
 });
 
