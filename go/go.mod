@@ -1,4 +1,4 @@
-module svid.example/go/v2
+module svid.example/go/v3
 
 go 1.19
 

@@ -1,9 +1,8 @@
 /* svid.h: check JWT-SVIDs and share the record of used tokens, from C. Link with libsvid.a (or -lsvid) and the C library.
  *
- * There are two ways to check tokens:
- * - A service keeps a `svid_validator`: open it once, check tokens, renew its bundles, exchange messages with other validators, and
- *   close it. See "A validator that you keep" below.
- * - The other calls on records are stateless. They read all inputs anew each time, so use them for records of up to a few thousand uses.
+ * To check tokens, a service keeps a `svid_validator`: open it once, check tokens, renew its bundles, exchange messages with other
+ * validators, and close it. See "A validator that you keep" below. The stateless calls on records, as svid_join, read all inputs anew each
+ * time, so use them for records of up to a few thousand uses.
  *
  * To keep a record over restarts and crashes, see "A state folder".
  *
@@ -21,8 +20,8 @@
  * status is SVID_TOO_SHORT, and `told->len` says how much the text needs. Unless the status is SVID_OK, `out` stays as it was. Outputs
  * may be uninitialised. If several inputs are at fault, `told` is about the first one in the order of the parameters.
  *
- * Limits: messages, bundles and a table of questions have at most SVID_INPUT_MOST bytes each, and a token at most 65,536. Your own audiences
- * and the questions that you answer have no limit.
+ * Limits: messages and bundles have at most SVID_INPUT_MOST bytes each, and a token at most 65,536. Your own audiences and the questions that
+ * you answer have no limit.
  *
  * Stack, as measured: no call takes more than 124 KiB, hostile tokens and bundles among them. So a thread of musl, which has 128 KiB unless
  * you ask for more, can make every call. Bundles take the most; a check takes up to 66 KiB.
@@ -39,10 +38,10 @@ extern "C" {
 #endif
 
 /* The version of this header; svid_version() is that of the library: 10,000 times the major, 100 times the minor number, and the patch. */
-#define SVID_VERSION_MAJOR 2
+#define SVID_VERSION_MAJOR 3
 #define SVID_VERSION_MINOR 0
 #define SVID_VERSION_PATCH 0
-#define SVID_VERSION 20000
+#define SVID_VERSION 30000
 
 #define SVID_ID_ROOM 2048            /* enough room for any SPIFFE ID */
 #define SVID_SUMMARY_LEN 8205        /* the length of each summary */
@@ -50,7 +49,7 @@ extern "C" {
 #define SVID_INPUT_MOST 67108864     /* the most bytes that an input of messages may have */
 #define SVID_PAYLOAD_MOST 16777215   /* the most bytes that a payload of a state folder's file has */
 #define SVID_FRAME_MORE 39           /* a frame has at most so many bytes more than its payload */
-#define SVID_MOST_CANDIDATES 3       /* how many keys svidd, the Go library and the Python package try for a token: give svid_validator_ask
+#define SVID_MOST_CANDIDATES 3       /* how many keys svidd, the Go library and the Python package try for a token: give svid_validator_ask_token
                                         the same, so that all answer the same (docs/FORMATS.md, "Candidates") */
 #define SVID_SIGNATURE_ROOM 49150    /* enough room for any signature of svid_token_signature, and for any payload of svid_token_payload */
 #define SVID_USUAL_RSA_BITS 4096     /* how many bits they let an RSA key have, unless an option says more */
@@ -74,7 +73,7 @@ enum svid_status {
     SVID_GONE = 7,     /* svid_validator_withdraw: the token has expired, so that there is nothing to withdraw */
     SVID_TOO_FAR = 8,  /* a message's moment is more than `ahead` seconds past `now`; it was not taken */
     SVID_JUMP = 9,     /* `now` is more than `step` seconds past the record's moment; nothing happened */
-    SVID_HAS_LOG = 10, /* svid_validator_check: the validator reads a log, which decides about its tokens; nothing happened */
+    SVID_HAS_LOG = 10, /* svid_validator_check_token: the validator reads a log, which decides about its tokens; nothing happened */
     SVID_NO_LOG = 19,  /* the validator reads no log; nothing happened */
 
     /* why an input is no row of messages; told: input, message, offset */
@@ -264,25 +263,22 @@ typedef struct {
 /* What a call tells beside its status; 0 where there is nothing to tell. `offset` is always where in the input the fault is:
  *   SVID_MAGIC to SVID_TRUNCATED    the number of the byte in the message `message` of the input `input`, counted from 0
  *   SVID_BUNDLES_DOMAIN and _KEYS   the number of the trust domain among all names in rising order of their bytes, counted from 0
- *   SVID_TABLE_LINE                 the number of the line, counted from 1
  *   SVID_USE_EXPIRED                of svid_entries_write: the number of the entry, counted from 0 */
 typedef struct {
     size_t len;      /* the length of the text that was written, or that has no room; of svid_entries_read the number of entries */
-    size_t input;    /* which input of messages is at fault, counted from 1 over the call's inputs: 1 or 2 of svid_join and svid_answer,
-                        4 of svid_check, and 1 of any other call. SVID_TOO_MUCH also: 1 for bundles, 2 for a table of questions */
+    size_t input;    /* which input of messages is at fault, counted from 1 over the call's inputs: 1 or 2 of svid_join and svid_answer, and
+                        1 of any other call. SVID_TOO_MUCH also: 1 for bundles */
     size_t message;  /* which of its messages, counted from 1 */
     size_t offset;
-    size_t more;     /* of svid_validator_ask, svid_validator_ask_token and svid_bundles_ask: 1 if more keys may have signed the token
-                        than it lists; of svid_validator_mark: 1 if the validator accepts claims; of svid_validator_differs: 1 if the
+    size_t more;     /* of svid_validator_ask_token and svid_bundles_ask: 1 if more keys may have signed the token than it lists; of svid_validator_mark: 1 if the validator accepts claims; of svid_validator_differs: 1 if the
                         bucket differs; of svid_status_sentence: the length of the text before any advice */
 } svid_told;
 
-/* What a check is told, beside its inputs. */
+/* What svid_bundles_judge is told, beside its inputs. */
 typedef struct {
-    uint64_t moment;    /* of the check, in seconds; where the record's is greater, the token is judged at that */
-    uint64_t longest;   /* how many seconds past it, or past the record's moment where that is greater, a
-                         * token may expire; UINT64_MAX for any */
-    uint8_t validator_id[16];  /* 16 bytes that name this validator among all that share its record */
+    uint64_t moment;    /* at which the token is judged, in seconds */
+    uint64_t longest;   /* how many seconds past it a token may expire; UINT64_MAX for any */
+    uint8_t validator_id[16];  /* 16 bytes that name the validator in the use */
 } svid_setting;
 
 /* The use that an acceptance adds to the record. */
@@ -312,11 +308,12 @@ typedef struct {
  * All calls answer SVID_CLOSED on a closed validator, and then do nothing.
  *
  * To check a token:
- *   1. svid_validator_ask lists the first keys that may have signed it, each with a question.
- *   2. Your crypto library verifies the signature with each of these keys.
- *   3. svid_validator_check gets the questions of the keys for which the signature was good, and accepts or refuses the token.
- * The question is a SHA-256 digest over the key, the algorithm, the signed bytes and the signature. So an answer can't be taken for that of
- * another token or key, even if you renew the bundles in between: the token is then refused as SVID_BAD_SIGNATURE. */
+ *   1. svid_token_open reads it.
+ *   2. svid_validator_ask_token gives its signature, and lists the first keys that may have made it.
+ *   3. Your crypto library verifies the signature with each of these keys.
+ *   4. svid_validator_check_token gets the key that made the signature, with the bytes and the signature that you verified with it, and
+ *      accepts or refuses the token.
+ * The helper svid_validator_verify makes these calls, and calls your verifier for each key. */
 typedef struct { uint64_t word; void *held; } svid_validator;
 #define SVID_VALIDATOR_CLOSED { 0, NULL }
 
@@ -334,11 +331,6 @@ typedef struct {
 typedef struct {
     uint8_t bytes[32];
 } svid_key;
-
-/* A question of svid_validator_ask. */
-typedef struct {
-    uint8_t bytes[32];
-} svid_question;
 
 /* Opens a closed validator with an empty record. `own` are its own audiences, one a line; empty lines are passed over. `bundles` are the
  * trust bundles as JSON, an object from trust domain names to JWK sets. SVID_IS_OPEN; SVID_OWN_NOT_UTF8; SVID_TOO_MUCH and
@@ -361,60 +353,15 @@ void svid_validator_close(svid_validator *v);
  * svid_validator_renew_by takes none of that under the validator's lock. */
 uint32_t svid_validator_bundles(svid_validator *v, const uint8_t *bundles, size_t bundles_len, svid_told *told);
 
-/* Lists the keys that may have signed the token, the first `most` of them in the order of their bundle, and writes a row for each:
- *     the question          32 bytes
- *     the algorithm's name  its length in 4 bytes, the greatest first, and then the name, as "ES256"
- *     the key               its length in 4 bytes, the greatest first, and then the key as JSON (RFC 7517)
- * Keep parsed keys by that JSON text, not by `kid`, which is not unique. SVID_TOO_LONG to SVID_JTI, SVID_UNKNOWN_DOMAIN and SVID_NO_KEY if the
- * token is refused already. Changes nothing, but wants the lock too; a second validator with the same bundles can answer it without.
- *
- * `told->more` is 1 if more than `most` keys may have signed the token, and else 0. `most` bounds what a stranger's token costs: a token
- * without a `kid` may be signed by any key of its trust domain, and each listed key costs a hash of the token here and a verification later.
- * Pass SVID_MOST_CANDIDATES, or SIZE_MAX for all keys. A call that answers SVID_TOO_SHORT has hashed as many. */
-uint32_t svid_validator_ask(svid_validator *v, const uint8_t *token, size_t token_len, size_t most,
-                            uint8_t *out, size_t out_len, svid_told *told);
-
-/* Checks a token at the time `now`. `yes` are `yes_len` questions of this token whose answer is yes, in any order.
- *
- * The status is the first that holds: SVID_CLOSED; SVID_JUMP; SVID_HAS_LOG if the validator reads a log, since it accepts a token by
- * svid_validator_read alone; SVID_TOO_SHORT if `out_len` is less than SVID_ID_ROOM. Then nothing happened. Else the token is judged.
- *
- * First the call advances the record to `now`; it judges the token at the record's moment, which may be later. If it accepts the token, the
- * status is SVID_OK: the record has gained the use, `used` is that use, and `out` has the SPIFFE ID of the subject. If it refuses the token,
- * the status is the first of SVID_TOO_LONG to SVID_REPLAYED that holds.
- *
- * SVID_NO_MEMORY: the token was not accepted, and you can check it again; it is never answered for a token that is SVID_TOO_LONG or
- * SVID_NOT_THREE_PARTS. Unless the status is SVID_OK, `used` stays as it was.
- *
- * A check hashes the token once for each of its candidate keys until one of them has a question in `yes`, and not at all if `yes_len` is 0. */
-uint32_t svid_validator_check(svid_validator *v, uint64_t now, const svid_question *yes, size_t yes_len,
-                              const uint8_t *token, size_t token_len, uint8_t *out, size_t out_len,
-                              svid_use *used, svid_told *told);
-
-/* Answers what svid_validator_check would answer, but the record gains no use: a later check may still accept the token. `used` is the
- * use that a check would add.
- *
- * It never answers SVID_HAS_LOG. If the validator reads a log, `used` is the claim to put into the log (svid_batch_of), and a token with a claim
- * beside the record is SVID_REPLAYED too. */
-uint32_t svid_validator_judge(svid_validator *v, uint64_t now, const svid_question *yes, size_t yes_len,
-                              const uint8_t *token, size_t token_len, uint8_t *out, size_t out_len,
-                              svid_use *used, svid_told *told);
-
-/* A token that is read once, by svid_token_open, for the two calls that look for its keys and check it. Neither hashes it for a key. It shares
+/* A token that is read once, by svid_token_open, for the calls that look for its keys, judge and check it. None of these hashes it. It shares
  * nothing with a validator, and any validator may be asked about it. The rules of a validator hold for it too: it begins as SVID_TOKEN_CLOSED, only
- * the calls write it, give it to one call at a time, and do not copy it while it is open. Close it once you need it no longer.
- *
- * To check a token:
- *   1. svid_token_open reads it.
- *   2. svid_validator_ask_token gives its signature, and lists the first keys that may have made it.
- *   3. Your crypto library verifies the signature with each of these keys.
- *   4. svid_validator_check_token gets the key that made the signature, with the bytes and the signature that you verified with it, and accepts
- *      or refuses the token. */
+ * the calls write it, give it to one call at a time, and do not copy it while it is open. Close it once you need it no longer. */
 typedef struct { uint64_t word; void *held; } svid_token;
 #define SVID_TOKEN_CLOSED { 0, NULL }
 
 /* Opens a closed handle: reads a token, and keeps what it says. Afterwards the handle does not need `token` any more. SVID_IS_OPEN: the handle
- * stays as it was. SVID_TOO_LONG to SVID_JTI: svid_validator_check would refuse the token so whatever its keys are; the handle stays closed. */
+ * stays as it was. SVID_TOO_LONG to SVID_JTI: the token is refused, whatever its keys are. SVID_NO_MEMORY, but never for a token that is
+ * SVID_TOO_LONG or SVID_NOT_THREE_PARTS. After these the handle stays closed. */
 uint32_t svid_token_open(svid_token *t, const uint8_t *token, size_t token_len, svid_told *told);
 
 /* Closes a handle, and frees all that it holds. Does nothing to a closed one. */
@@ -428,32 +375,42 @@ void svid_token_close(svid_token *t);
  *     the key               its length in 4 bytes, the greatest first, and then the key as JSON (RFC 7517)
  * Keep parsed keys by that JSON text, not by `kid`, which is not unique. `told->len` is the length of all that, also where it has no room in `out`
  * (SVID_TOO_SHORT). SVID_UNKNOWN_DOMAIN and SVID_NO_KEY if the token is refused already. SVID_CLOSED if the validator is closed, or the token.
- * `most` and `told->more` are as for svid_validator_ask. */
+ * Changes nothing, but wants the lock of the validator too; a second validator with the same bundles can answer it without.
+ *
+ * `told->more` is 1 if more than `most` keys may have signed the token, and else 0. `most` bounds what a stranger's token costs: a token
+ * without a `kid` may be signed by any key of its trust domain, and each listed key costs a verification later. Pass SVID_MOST_CANDIDATES, or
+ * SIZE_MAX for all keys. */
 uint32_t svid_validator_ask_token(svid_validator *v, svid_token *t, size_t most, uint8_t *out, size_t out_len, svid_told *told);
 
-/* As svid_validator_check, for a token that was read: so it never answers SVID_TOO_LONG to SVID_JTI. `key`, `input` and `signature` are what your
- * crypto library verified: that key, as svid_validator_ask_token lists it, made that signature over these bytes, which are the first of the
- * token. All three are NULL and 0 if no key did.
+/* Checks a token at the time `now`. `key`, `input` and `signature` are what your crypto library verified: that key, as svid_validator_ask_token
+ * lists it, made that signature over these bytes, which are the first of the token. All three are NULL and 0 if no key did.
+ *
+ * The status is the first that holds: SVID_CLOSED if the validator is closed, or the token; SVID_JUMP; SVID_HAS_LOG if the validator reads a
+ * log, since it accepts a token by svid_validator_read alone; SVID_TOO_SHORT if `out_len` is less than SVID_ID_ROOM. Then nothing happened.
+ * Else the token is judged.
+ *
+ * First the call advances the record to `now`; it judges the token at the record's moment, which may be later. If it accepts the token, the
+ * status is SVID_OK: the record has gained the use, `used` is that use, and `out` has the SPIFFE ID of the subject. If it refuses the token,
+ * the status is the first of SVID_NOT_AUDIENCE to SVID_REPLAYED that holds.
  *
  * The token is refused as SVID_BAD_SIGNATURE, or for what comes before that, if `input` or `signature` is not that of this token, so an answer
  * about another token is worth nothing; and if `key` is empty, or none of the keys that may have signed the token at this moment: the bundles
  * may have been renewed in between. The call compares these bytes, and hashes nothing.
  *
- * SVID_CLOSED if the validator is closed, or the token. The token stays open, and another call may be asked about it. */
+ * SVID_NO_MEMORY: the token was not accepted, and you can check it again. Unless the status is SVID_OK, `used` stays as it was. The token stays
+ * open, and another call may be asked about it. */
 uint32_t svid_validator_check_token(svid_validator *v, uint64_t now, const uint8_t *key, size_t key_len,
                                     const uint8_t *input, size_t input_len, const uint8_t *signature, size_t signature_len,
                                     svid_token *t, uint8_t *out, size_t out_len, svid_use *used, svid_told *told);
 
-/* As svid_validator_judge, for a token that was read, with `key`, `input` and `signature` as for svid_validator_check_token: so it never answers
- * SVID_TOO_LONG to SVID_JTI. SVID_CLOSED if the validator is closed, or the token. */
+/* Answers what svid_validator_check_token would answer, but the record gains no use: a later check may still accept the token. `used` is the
+ * use that a check would add. To judge a token again later, keep its handle open, with the key that made its signature.
+ *
+ * It never answers SVID_HAS_LOG. If the validator reads a log, `used` is the claim to put into the log (svid_batch_of), and a token with a claim
+ * beside the record is SVID_REPLAYED too. */
 uint32_t svid_validator_judge_token(svid_validator *v, uint64_t now, const uint8_t *key, size_t key_len,
                                     const uint8_t *input, size_t input_len, const uint8_t *signature, size_t signature_len,
                                     svid_token *t, uint8_t *out, size_t out_len, svid_use *used, svid_told *told);
-
-/* Judges again a token that this validator has accepted, or judged so: `key` and `exp` are those of `used`. While the bundles stay, the
- * status is what svid_validator_judge would answer for that token and the same `yes`: SVID_OK, or SVID_EXPIRED, SVID_WITHDRAWN or
- * SVID_REPLAYED. It reads no token, so it takes a fraction of the time. It first advances the record to `now`, and adds nothing. SVID_JUMP. */
-uint32_t svid_validator_judge_again(svid_validator *v, uint64_t now, const svid_key *key, uint64_t exp, svid_told *told);
 
 /* Withdraws the token with this key, which expires at `exp`: it is refused as SVID_WITHDRAWN from now on until `exp`, also by the validators that
  * are told of it. If the token expires later than that, it may be accepted then. `used` is what the record gained. SVID_GONE if the token has
@@ -545,7 +502,7 @@ uint32_t svid_validator_bucket(svid_validator *v, uint8_t bucket, uint64_t momen
  * token that have not expired, the first in the log counts. The validators of a group have different IDs.
  *
  * To check a token:
- *   1. svid_validator_judge refuses the token, or tells its claim in `used`.
+ *   1. svid_validator_judge_token refuses the token, or tells its claim in `used`.
  *   2. Put svid_batch_of(used) at the end of the log, as a value or as a part of one.
  *   3. Read the values in their order with svid_validator_read. It tells what becomes of the claim: accept the token if that is
  *      SVID_FATE_ACCEPTED. Accept it once for each claim that you put: an earlier claim with the same bytes may stand in the log too. */
@@ -653,9 +610,9 @@ uint32_t svid_validator_beside(svid_validator *v, uint8_t *out, size_t out_len, 
  *   - Before it answers a put again after it may have lost entries, it replaces `deaf` by svid_claim_deaf. At first `deaf` is 0.
  *
  * To check a token:
- *   1. svid_validator_judge refuses the token, or tells its key and expiry in `used`.
+ *   1. svid_validator_judge_token refuses the token, or tells its key and expiry in `used`.
  *   2. Put the owner of svid_claim_owner under that key.
- *   3. Give the answer to svid_claim_outcome, at the moment of svid_claim_moment. If that is SVID_OK, make svid_validator_check, which adds the use:
+ *   3. Give the answer to svid_claim_outcome, at the moment of svid_claim_moment. If that is SVID_OK, make svid_validator_check_token, which adds the use:
  *      accept the token if that is SVID_OK too. A second answer to the claim then finds the token SVID_REPLAYED.
  *   4. If no answer comes, put the same owner again.
  *
@@ -889,20 +846,26 @@ uint64_t svid_pacing_unanswered(svid_pacing *p);
 
 /* ---- Trust bundles that you keep ----
  *
- * A `svid_bundles` reads trust bundles once, and lists the keys that may have signed a token. It keeps no record, and shares nothing with a
- * validator: so threads list keys, and read new bundles, while the validator's lock is free for checks. The rules for a `svid_validator` hold
- * for it too: it begins as SVID_BUNDLES_CLOSED, only the calls write it, give it to one call at a time, and do not copy it while it is open.
+ * A `svid_bundles` reads trust bundles once. By it you renew the bundles of a validator, or judge a token without a record. It shares nothing
+ * with a validator: so threads use it while the validator's lock is free for checks. The rules for a `svid_validator` hold for it too: it
+ * begins as SVID_BUNDLES_CLOSED, only the calls write it, give it to one call at a time, and do not copy it while it is open.
  *
- * To check a token:
+ * To judge a token without a record:
  *   1. svid_bundles_ask lists the first keys that may have signed it.
  *   2. Your crypto library verifies the signature with each of these keys, until one of them made it.
  *   3. svid_bundles_question gives the question of that key: the token is hashed once.
- *   4. svid_validator_check gets that question, and accepts or refuses the token.
+ *   4. svid_bundles_judge gets that question, and accepts or refuses the token.
  *
  * To renew the bundles of a validator without holding up its checks: open a `svid_bundles`, exchange by svid_validator_renew_by, and close
  * it. Only the exchange needs the validator's lock, and its time does not depend on the bundles. */
 typedef struct { uint64_t word; void *held; } svid_bundles;
 #define SVID_BUNDLES_CLOSED { 0, NULL }
+
+/* A question of svid_bundles_question: a SHA-256 digest over a key, the algorithm, the signed bytes and the signature of one token. So an answer
+ * can't be taken for that of another token or key. */
+typedef struct {
+    uint8_t bytes[32];
+} svid_question;
 
 /* A document of trust bundles: how long its name and its text are, and what the text is. */
 typedef struct {
@@ -937,14 +900,13 @@ uint32_t svid_bundles_open(svid_bundles *b, const uint8_t *bundles, size_t bundl
 /* Closes a handle, and frees all that it holds. Does nothing to a closed one. */
 void svid_bundles_close(svid_bundles *b);
 
-/* Lists the keys that may have signed the token as svid_validator_ask does, but without their questions: it hashes nothing. Each row is
- *     the algorithm's name  its length in 4 bytes, the greatest first, and then the name, as "ES256"
- *     the key               its length in 4 bytes, the greatest first, and then the key as JSON (RFC 7517)
- * The rows are numbered from 0. `most`, `told->more` and what it answers are as for svid_validator_ask. */
+/* Lists the keys that may have signed the token, the first `most` of them in the order of their bundle, in rows as svid_validator_ask_token does,
+ * but without the signature. The rows are numbered from 0. `most` and `told->more` are as there. SVID_TOO_LONG to SVID_JTI, SVID_UNKNOWN_DOMAIN
+ * and SVID_NO_KEY if the token is refused already. */
 uint32_t svid_bundles_ask(svid_bundles *b, const uint8_t *token, size_t token_len, size_t most,
                           uint8_t *out, size_t out_len, svid_told *told);
 
-/* Writes the question of the row with this number to `asked`: it hashes the token once. The question is that of svid_validator_ask.
+/* Writes the question of the row with this number to `asked`: it hashes the token once.
  * SVID_TOO_LONG to SVID_JTI, SVID_UNKNOWN_DOMAIN and SVID_NO_KEY if the token is refused already. SVID_NO_KEY also if there is no such row:
  * `number` is less than the number of keys that may have signed the token. SVID_CLOSED; SVID_NO_MEMORY. Unless the status is SVID_OK, `asked`
  * stays as it was. */
@@ -1246,27 +1208,6 @@ uint32_t svid_summary(const uint8_t *messages, size_t messages_len, uint64_t now
 uint32_t svid_answer(const uint8_t *summary, size_t summary_len, const uint8_t *messages, size_t messages_len,
                      uint64_t now, uint8_t *out, size_t out_len, svid_told *told);
 
-/* A line for each key that may have signed the token. It has the question that your verifier of signatures answers, as 64 hexadecimal
- * digits, and the key's name as JSON, with U+007F to U+009F escaped. `bundles` are trust bundles, as JSON. */
-uint32_t svid_questions(const uint8_t *bundles, size_t bundles_len, const uint8_t *token, size_t token_len,
-                        uint8_t *out, size_t out_len, svid_told *told);
-
-/* Checks a token over the record that the messages make, at its moment or that of the setting, whichever is greater. `own` are the
- * validator's own audiences, one a line; an empty line is passed over. `questions` are those whose answer is yes, a line each. If it
- * accepts the token, `out` has the SPIFFE ID of its subject, for which SVID_ID_ROOM bytes are enough, and `used` is the use that the
- * acceptance adds. Nothing is kept of it: write it as a message by svid_batch_of, and join that to your record. Unless the status is
- * SVID_OK, `used` stays as it was. */
-uint32_t svid_check(const svid_setting *setting, const uint8_t *own, size_t own_len,
-                    const uint8_t *bundles, size_t bundles_len, const uint8_t *questions, size_t questions_len,
-                    const uint8_t *messages, size_t messages_len, const uint8_t *token, size_t token_len,
-                    uint8_t *out, size_t out_len, svid_use *used, svid_told *told);
-
-/* The same, for audiences that may have line feeds: `own` and `lens` as for svid_validator_open_by_lengths. */
-uint32_t svid_check_by_lengths(const svid_setting *setting, const uint8_t *own, size_t own_len, const size_t *lens, size_t lens_len,
-                               const uint8_t *bundles, size_t bundles_len, const uint8_t *questions, size_t questions_len,
-                               const uint8_t *messages, size_t messages_len, const uint8_t *token, size_t token_len,
-                               uint8_t *out, size_t out_len, svid_use *used, svid_told *told);
-
 /* ---- Helpers ---- */
 
 /* The name of a status, as "SVID_REPLAYED"; "SVID_?" for a number that is none. svid_status_name writes the same text. */
@@ -1555,20 +1496,19 @@ static inline const char *svid_strsentence(uint32_t status) {
 typedef int (*svid_verify)(void *context, const uint8_t *alg, size_t alg_len, const uint8_t *jwk, size_t jwk_len,
                            const uint8_t *token, size_t token_len);
 
-/* Asks for the keys of a token, and checks it, in one call, which reads the token once: with `verify` for each of the first
- * SVID_MOST_CANDIDATES keys that may have signed the token, until one of them did; `context` is handed to it. `rows` is room for what
- * svid_validator_ask_token writes: 65,536 bytes do for most bundles and tokens. SVID_TOO_SHORT, and `told->len` is how long it must be, if
- * it is too short; SVID_TOO_SHORT with SVID_ID_ROOM, if `out` is. Then nothing happened. Else as svid_validator_check. Hold the lock for the
- * whole call. */
+/* Reads a token, asks for its keys, and checks it, in one call: with `verify` for each of the first SVID_MOST_CANDIDATES keys that may have
+ * signed the token, until one of them did; `context` is handed to it. `rows` is room for what svid_validator_ask_token writes: 65,536 bytes
+ * do for most bundles and tokens. SVID_TOO_SHORT, and `told->len` is how long it must be, if it is too short; SVID_TOO_SHORT with
+ * SVID_ID_ROOM, if `out` is. Then nothing happened. Else as svid_validator_check_token, or SVID_TOO_LONG to SVID_JTI, if the validator is open
+ * and `now` is no jump: then the record was advanced to `now` too. Hold the lock for the whole call. */
 static inline uint32_t svid_validator_verify(svid_validator *v, uint64_t now, const uint8_t *token, size_t token_len,
                                              svid_verify verify, void *context, uint8_t *rows, size_t rows_len,
                                              uint8_t *out, size_t out_len, svid_use *used, svid_told *told) {
     const uint8_t *field[2], *key = NULL, *signature = NULL;
     size_t at = 4, end, len[2], key_len = 0, signature_len = 0, input_len = 0, n;
     svid_token read = SVID_TOKEN_CLOSED;
-    uint32_t status = svid_token_open(&read, token, token_len, told);
-    /* A token that can't be read is refused all the same by a check, which also advances the record. */
-    if (status >= SVID_TOO_LONG) return svid_validator_check(v, now, NULL, 0, token, token_len, out, out_len, used, told);
+    uint32_t status = svid_token_open(&read, token, token_len, told), ticked;
+    if (status >= SVID_TOO_LONG) return (ticked = svid_validator_tick(v, now, told)) == SVID_OK ? status : ticked;
     if (status == SVID_OK) status = svid_validator_ask_token(v, &read, SVID_MOST_CANDIDATES, rows, rows_len, told);
     if (status != SVID_OK && status < SVID_TOO_LONG) {
         svid_token_close(&read);
@@ -1592,7 +1532,7 @@ static inline uint32_t svid_validator_verify(svid_validator *v, uint64_t now, co
     return status;
 }
 
-/* Writes a use that svid_check or svid_validator_check told as a message: a batch of that one use, of SVID_BATCH_OF_LEN bytes. */
+/* Writes a use that a call told as a message: a batch of that one use, of SVID_BATCH_OF_LEN bytes. */
 static inline void svid_batch_of(const svid_use *used, uint8_t out[SVID_BATCH_OF_LEN]) {
     static const uint8_t head[5] = { 0x4a, 0x53, 0x52, 2, 1 };
     int i;

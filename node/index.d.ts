@@ -13,6 +13,12 @@ declare global {
   interface SymbolConstructor {
     readonly dispose: unique symbol;
   }
+  namespace Express {
+    interface Request {
+      /** What `guard` let the request in by; left out where the path is open. */
+      svid?: Accepted;
+    }
+  }
 }
 
 /** A token in compact form, as it stands after `Authorization: Bearer`. */
@@ -38,18 +44,52 @@ export type BundleSet = string | Uint8Array | { readonly [trustDomain: string]: 
  */
 export type Verify = (alg: string, key: string, signed: Uint8Array, signature: Uint8Array) => boolean | Promise<boolean>;
 
-/** What `Bundles.open` takes. */
-export interface BundlesOptions {
+/** On what terms tokens are judged. */
+export interface Terms {
   /** This service's own names. A token is for it where one of them is in `aud`. */
   audiences: string | Iterable<string>;
-  /** The keys of each trust domain. */
-  bundles: BundleSet;
-  /** How many seconds a token may still live; a token that expires later is refused as `TooLongLived`. By default there is no limit. */
-  longest?: Seconds;
+  /** How many seconds a token may still live, or that there is no limit; a token that expires later is refused as `TooLongLived`. By default 3,600. */
+  longest?: Seconds | "unlimited";
   /** Verifies signatures instead of WebCrypto. Where it throws, the check throws `Unverifiable`. */
   verify?: Verify;
   /** How many bits an RSA key may have: 2,048 to 16,384, by default 4,096. It is not for `verify`. */
   rsaBits?: number;
+}
+
+/** What `Bundles.open` takes. */
+export interface BundlesOptions extends Terms {
+  /** The keys of each trust domain. */
+  bundles: BundleSet;
+}
+
+/** A server that gives a bundle, as SPIFFE federation has it. */
+export interface Endpoint {
+  /** Its address, as "https://HOST/PATH". */
+  url: string;
+  /**
+   * The SPIFFE ID of the server, which must show an X.509-SVID of it (profile https_spiffe). Left out, it must show a certificate for its name
+   * (https_web).
+   */
+  id?: string;
+  /**
+   * The path of a file with who vouches for the server. Without an `id`: certificates as PEM, by default those that Node knows. With one: a bundle of
+   * the ID's trust domain, by default the one that is followed here. Where the server gives its own trust domain's bundle, the file must be there,
+   * and counts until the first bundle has come.
+   */
+  authorities?: string;
+}
+
+/** Where the bundles of a validator come from. They are looked at until it closes. */
+export interface Follow {
+  /** Of each trust domain the path of a file, an address as "https://HOST/PATH", or an endpoint. */
+  sources?: { readonly [trustDomain: string]: string | Endpoint };
+  /** A folder whose file `example.org.json` is the bundle of example.org, and so on. A file that is removed takes its trust domain with it. */
+  folder?: string;
+  /**
+   * Is told what is wrong with a source, once until that changes; and null once it is well again. By default `process.emitWarning`, with the code
+   * "SVID_BUNDLE".
+   */
+  onFault?: (why: Error | null, source: string) => void;
 }
 
 /**
@@ -110,6 +150,19 @@ export interface Store {
    * answers does not count.
    */
   withdraw(key: Uint8Array, expires: bigint, about: Asked): Promise<unknown>;
+  /**
+   * Gives the withdrawals that came after a position, and the position up to which it has read. The first one is ""; one that it does not know
+   * reads all again. Validators in the modes "once", "bound" and "reuse" ask once a second, until the position stays. It may be left out.
+   */
+  withdrawals?(after: string, about: Asked): Promise<Withdrawals>;
+}
+
+/** What a store tells of withdrawals. */
+export interface Withdrawals {
+  /** The key of each, and when its token expires. */
+  readonly these: readonly { readonly key: Uint8Array; readonly expires: Seconds }[];
+  /** The position behind them. */
+  readonly last: string;
 }
 
 /** What `new MemoryStore` takes. */
@@ -130,16 +183,26 @@ export class MemoryStore implements Store {
   put(claims: readonly Claim[]): Promise<Found[]>;
   /** Is that of `Store`. */
   withdraw(key: Uint8Array, expires: Seconds): Promise<void>;
+  /** Is that of `Store`. */
+  withdrawals(after: string): Promise<Withdrawals>;
   /** Loses all entries, as a server does that crashes. */
   lose(): Promise<void>;
 }
 
-/** What `Validator.open` takes. */
-export interface ValidatorOptions extends BundlesOptions {
+/** What `Validator.open` takes: its terms, and either bundles, or where they come from. */
+export type ValidatorOptions = ValidatorTerms & ({ bundles: BundleSet; follow?: undefined } | { follow: Follow; bundles?: undefined });
+
+/** On what terms a validator accepts tokens. */
+export interface ValidatorTerms extends Terms {
   /** How often a token is accepted. By default "once". */
   mode?: Mode;
-  /** The store of the group, for the modes "strict" and "bound". */
+  /**
+   * The store of the group. The modes "strict" and "bound" claim tokens there, and need one; in the modes "once" and "reuse" it has `withdrawals`,
+   * and only these are shared.
+   */
   store?: Store;
+  /** The clock, in seconds since 1970. By default that of the machine. */
+  now?: () => Seconds;
   /**
    * Patterns of the SPIFFE IDs that may call (`Validator.allows`). A good token of another caller throws `NotAllowed`, and is not used up. Left out,
    * all may call. What is no pattern throws RangeError, and so does an empty list.
@@ -182,6 +245,8 @@ export interface Use {
   readonly withdrawn: boolean;
   /** The entry as a message of 82 bytes, for `take` of other validators. */
   readonly message: Uint8Array;
+  /** The same in numbers and texts, for `JSON.stringify`: bytes as hexadecimal digits. */
+  toJSON(): object;
 }
 
 /** A token that was accepted. */
@@ -196,6 +261,12 @@ export interface Accepted {
   readonly expires: bigint;
   /** What the record has gained, or would gain. */
   readonly use: Use;
+  /** The first of the service's own audiences that the token names. Throws `Closed` once the validator is closed, unless it was read before. */
+  readonly audience: string;
+  /** The name of the key that signed the token, `kid`; "" where it has none. Throws as `audience` does. */
+  readonly keyId: string;
+  /** The same in numbers and texts, for `JSON.stringify`: bytes as hexadecimal digits. Throws as `audience` does. */
+  toJSON(): object;
 }
 
 /** What a token says. Nobody has vouched for it: neither signature nor times nor audience were looked at. */
@@ -256,8 +327,8 @@ export class Bundles {
 export class Validator {
   protected constructor(ready: never);
   /**
-   * Opens a validator whose record is empty. With a store it waits until that answers, but no longer than `wait`: `unready` says whether it has.
-   * Throws `BadBundles`, `OutOfMemory`, and TypeError and RangeError for options that can't be.
+   * Opens a validator whose record is empty. With a store, or sources of bundles, it waits until these answer, but no longer than `wait`: `unready`
+   * says whether they have. Throws `BadBundles`, `OutOfMemory`, and TypeError and RangeError for options that can't be.
    */
   static open(options: ValidatorOptions): Promise<Validator>;
   /** Whether tokens are to be sent to this validator: `unready` says null. */
@@ -316,7 +387,7 @@ export class Validator {
   answer(summary: Uint8Array, now?: Seconds): Uint8Array;
   /** What the record holds, as `svid report` prints it. It is for people and for tests. Throws `BadMessages` for one of more than 67,108,864 bytes. */
   report(): string;
-  /** Replaces the bundles. The record stays. Throws `BadBundles`, and then the old ones stay. */
+  /** Replaces the bundles. The record stays. Throws `BadBundles`, and then the old ones stay, and TypeError if it follows sources. */
   renew(bundles: BundleSet): void;
   /** Frees the record and the bundles. Closing twice does nothing. */
   close(): void;
@@ -328,13 +399,15 @@ export class Validator {
 export interface Incoming {
   /** Names and values of all header fields, in turn. */
   rawHeaders: string[];
+  /** The path of the request, and what follows "?". */
+  url?: string | undefined;
 }
 
 /** A response, as Express and node:http have it. */
 export interface Outgoing {
   statusCode: number;
   setHeader(name: string, value: string): unknown;
-  end(): unknown;
+  end(body: string): unknown;
 }
 
 /** What middleware and listeners take beside a validator. */
@@ -346,8 +419,16 @@ export interface GuardOptions<Request extends Incoming = Incoming> {
   allow?: string | readonly string[];
   /** Says who presents the token of a request, as the client's address. A validator in mode "bound" needs it (`CheckOptions.caller`). */
   caller?: (req: Request) => string | Uint8Array;
-  /** Is told why a request was answered with status 503. */
+  /**
+   * Paths that need no token, as those of health checks: "/healthz" is that path alone, and "/static/*" each path below "/static". There `req.svid`
+   * is left out, and a token is not looked at. They are compared with `req.url`. What can be read in two ways is on no list. What is no path throws
+   * RangeError.
+   */
+  openPaths?: string | readonly string[];
+  /** Is told why a request was answered with status 503. By default `console.error`. */
   onError?: (why: unknown, req: Request) => void;
+  /** Is told of each `Refusal`, and of each `NotAllowed`. By default nobody is. */
+  onRefusal?: (why: Refusal | NotAllowed, req: Request) => void;
 }
 
 /**
@@ -355,7 +436,7 @@ export interface GuardOptions<Request extends Incoming = Incoming> {
  * answered, whatever stood there before.
  *
  * Any other request is answered with status 401 and a header WWW-Authenticate, and a good token of who may not call with status 403. Where nothing
- * can be said of the token, as while the store is away, the status is 503.
+ * can be said of the token, as while the store is away, the status is 503, with `Retry-After`. The body is JSON, with a `reason`; no cache keeps it.
  */
 export function guard<Request extends Incoming = Incoming>(
   validator: Validator,

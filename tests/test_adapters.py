@@ -10,8 +10,8 @@ from conftest import TOP
 ADAPTERS = ("go", "python/svid", "node/src", "rust/svid/src", "page/src", "java/src/main")
 # Not ours, or not what a service runs: tests, and what only they use.
 OTHERS = re.compile(
-    r"^go/vendor/|_test\.go$|/tests?/|/tests\.rs$|/(issuer|natstest|agenttest|logtest|sim|vectors|broker|refusing|cluster|svidbench|vendored)/|wrong/"
-    r"|cmd/svidd/(outside|member)\.py$"
+    r"^go/vendor/|_test\.go$|/tests?/|/tests\.rs$|/(issuer|testing|natstest|agenttest|logtest|sim|vectors|broker|refusing|cluster|svidbench|vendored)/|wrong/"
+    r"|cmd/svidd/(outside|member)\.py$|^python/svid/testing\.py$"
 )
 COMMENT = re.compile(r"^\s*(//|/\*|\*|#|\"\"\")")
 BEHIND = re.compile(r"\s(//|#) .*")  # a comment behind code
@@ -53,7 +53,9 @@ RULES = {
 
 
 # What answers requests by a member of the library, and what hands requests to it. Stores are none of these: they keep what they are told.
-SHELLS = re.compile(r"^(go/(internal/server|guard|svidhttp|cmd/svidd|svid)|python/svid|node/src|rust/svid/src|java/src/main)/")
+SHELLS = re.compile(
+    r"^(go/(internal/server|guard|svidhttp|cmd/svidd|svid)|python/svid|node/src|rust/svid/src|java/src/main)/(?!(java/svid/)?[Pp]ostgres)"
+)
 
 # What a shell must not decide, since the member does, and lines that it must not have.
 DECIDED = {

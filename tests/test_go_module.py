@@ -12,17 +12,29 @@ import zipfile
 import pytest
 from conftest import TOP, needs
 
-MODULE = "svid.example/go/v2"
+MODULE = "svid.example/go/v3"
 VENDOR = TOP / "go/vendor"
 README = (TOP / "go/README.md").read_text()
 SERVICE = re.search(r"^## A service\n.*?^```go\n(.*?)^```$", README, re.M | re.S)[1]
-ALL = ("guard", "svid", "svidhttp", "bundles", "journal", "claims", "claims/memory", "claims/claimstest", "carriers")
+ALL = (
+    "guard",
+    "svid",
+    "svidhttp",
+    "bundles",
+    "journal",
+    "claims",
+    "claims/local",
+    "claims/memory",
+    "claims/claimstest",
+    "carriers",
+    "svidtest",
+)
 OTHERS = ("claims/redis", "claims/postgres", "claims/nats", "carriers/jetstream", "workload")
 
 
 def version():
     named = TOP / "VERSION"
-    return "v" + (named.read_text().strip() if named.exists() else "2.0.0")
+    return "v" + (named.read_text().strip() if named.exists() else "3.0.0")
 
 
 def make(folder):
@@ -284,12 +296,12 @@ def test_a_fresh_clone_is_built(room):
 def test_the_version_and_the_path_agree(room, tmp_path):
     """A version of another major number than the module's path has is an error that says what to do."""
     needs("go")
-    (tmp_path / "VERSION").write_text("3.1.4\n")
+    (tmp_path / "VERSION").write_text("4.1.4\n")
     environment = {**os.environ, "GOFLAGS": "", "GOPROXY": "off", "CGO_ENABLED": "0"}
     ran = subprocess.run(
         ["go", "run", "./cmd/module", ".", tmp_path, room / "none"], cwd=TOP / "go", env=environment, capture_output=True, text=True
     )
-    assert ran.returncode != 0 and "the path of the module must end in /v3" in ran.stderr, ran.stderr
+    assert ran.returncode != 0 and "the path of the module must end in /v4" in ran.stderr, ran.stderr
     assert not (room / "none").exists()
 
 

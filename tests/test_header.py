@@ -118,10 +118,12 @@ def test_a_structure_in_python(name):
     assert body and body[1] == ", ".join(due)
 
 
-@pytest.mark.parametrize("name", OF_ALL)
-def test_a_structure_in_rust(name):
-    body = re.search(rf"#\[repr\(C\)\]\n#\[derive\(.*\)\]\npub struct {name.removeprefix('Svid')} \{{(.*?)\n\}}", RUST, re.S)
-    assert body and re.findall(r"pub (\w+): (.*),", body[1]) == [(field, TYPES[kind][2]) for field, kind in STRUCTURES[name]]
+def test_structures_in_rust():
+    """The crate has those that its calls want."""
+    found = re.findall(r"#\[repr\(C\)\]\n#\[derive\([^\n]*\)\]\npub struct (\w+) \{(.*?)\n\}", RUST, re.S)
+    own = {f"Svid{name}": re.findall(r"pub (\w+): (.*),", body) for name, body in found if name != "Handle"}
+    assert {"SvidDeed", "SvidKnown", "SvidUse"} <= own.keys() <= set(OF_ALL)
+    assert own == {name: [(field, TYPES[kind][2]) for field, kind in STRUCTURES[name]] for name in own}
 
 
 def test_each_function_is_in_the_header():
@@ -278,6 +280,9 @@ def test_the_version():
         ("tools/dist", r"^soname=libsvid\.so\.(\d+)$"),
         ("python/svid/_library.py", r'"libsvid\.so\.(\d+)"'),
         ("python/svid/_library.py", r"^_MAJOR = (\d+)$"),
+        ("node/src/library.js", r"^const MAJOR = (\d+);$"),
+        ("rust/svid/src/ffi.rs", r"^pub const MAJOR: u32 = (\d+);$"),
+        ("java/src/main/java/svid/Library.java", r"^    static final int VERSION = (\d+)0000;$"),
     ],
 )
 def test_the_name_of_the_shared_library_has_the_major_number(path, form):

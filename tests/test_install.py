@@ -16,8 +16,8 @@ FILES = {
     "share/fish/vendor_completions.d/svid.fish": (0o644, "completions/svid.fish"),
     "include/svid.h": (0o644, "include/svid.h"),
     "lib/libsvid.a": (0o644, "archive"),
-    "lib/libsvid.so.2.0.0": (0o644, "shared"),
-    "lib/libsvid.so.2": (0o644, "shared"),
+    "lib/libsvid.so.3.0.0": (0o644, "shared"),
+    "lib/libsvid.so.3": (0o644, "shared"),
     "lib/libsvid.so": (0o644, "shared"),
     "lib/pkgconfig/svid.pc": (0o644, None),
 }
@@ -72,7 +72,7 @@ def test_folders_may_be_read_by_all(prefix):
     assert {os.stat(prefix / name).st_mode & 0o7777 for name in below(prefix)[1]} == {0o755}
 
 
-@pytest.mark.parametrize("name, to", {"lib/libsvid.so.2": "libsvid.so.2.0.0", "lib/libsvid.so": "libsvid.so.2"}.items())
+@pytest.mark.parametrize("name, to", {"lib/libsvid.so.3": "libsvid.so.3.0.0", "lib/libsvid.so": "libsvid.so.3"}.items())
 def test_links(prefix, name, to):
     assert os.readlink(prefix / name) == to
 
@@ -97,7 +97,7 @@ def test_the_library_links(prefix, tmp_path, library):
     assert run(tmp_path / "use", "id", "spiffe://example.org/web", LD_LIBRARY_PATH=f"{prefix}/lib").stdout == WEB
 
 
-@pytest.mark.parametrize("option, due", {"--modversion": "2.0.0", "--cflags": "-I{}/include", "--libs": "-L{}/lib -lsvid"}.items())
+@pytest.mark.parametrize("option, due", {"--modversion": "3.0.0", "--cflags": "-I{}/include", "--libs": "-L{}/lib -lsvid"}.items())
 def test_pkg_config(prefix, option, due):
     needs("pkg-config")
     assert run("pkg-config", option, "svid", PKG_CONFIG_PATH=f"{prefix}/lib/pkgconfig").stdout.strip() == due.format(prefix)

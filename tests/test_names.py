@@ -78,10 +78,10 @@ def test_no_name_has_the_word_place(language):
     assert not found, "call it a validator ID, an offset, a position, an index or a folder ID:\n" + "\n".join(found)
 
 
-# What others call so: promises and assertions of JavaScript, rights in SQL, a setting of Envoy, and a call of browsers.
+# What others call so: promises and assertions of JavaScript, an option of Node, rights in SQL, a setting of Envoy, and a call of browsers.
 OTHERS_WORDS = re.compile(
     r"\bPromise\.reject\b|\bassert\.rejects\b|(?<=[ {(])reject(?=[,); ])|\breject\("
-    r"|\bREVOKE (ALL|EXECUTE) ON\b|\bREJECT_REQUEST\b|\brevokeObjectURL\b|\bunhandledRejection\b"
+    r"|\bREVOKE (ALL|EXECUTE) ON\b|\bREJECT_REQUEST\b|\brevokeObjectURL\b|\bunhandledRejection\b|\brejectUnauthorized\b"
 )
 
 

@@ -1,11 +1,15 @@
-"""The sidecar's quick start in README.md, run as it stands there: the sidecar accepts the example's token once, and nothing is left in the checkout."""
+"""The sidecar's first session in README.md, typed as it stands there: a token of one's own is accepted, and refused from another address."""
 
 import importlib.machinery
 import importlib.util
 import json
+import os
+import resource
 import shutil
+import signal
 import subprocess
 import sys
+import time
 
 import pytest
 from conftest import TOP, needs
@@ -30,34 +34,85 @@ def by_itself():
     return words if works else ()
 
 
-def test_the_quick_start_prints_what_it_shows(docs, tmp_path):
-    needs("curl")
+MOST = (
+    60  # seconds of the processor, or of the clock, that the session takes once the packages are there and Go has compiled its own library
+)
+
+
+@pytest.fixture(scope="module")
+def typed(docs):
+    """The two commands of the session, each with what it prints."""
+    found = [docs.commands(it) for it in docs.blocks(README) if "tests/test_quickstart.py runs it" in it.comment]
+    return [command for block in found for command in block]
+
+
+def clone(to):
+    """A fresh clone, of the files as they are now."""
+    listed = subprocess.run(["git", "ls-files", "-z"], cwd=TOP, stdout=subprocess.PIPE, check=True).stdout
+    to.mkdir()
+    subprocess.run(["xargs", "-0", "cp", "--parents", "--target-directory", to], cwd=TOP, input=listed, check=True)
+
+
+def spent():
+    """How many seconds of the processor the ended children took."""
+    return sum(resource.getrusage(resource.RUSAGE_CHILDREN)[:2])
+
+
+def test_a_fresh_clone_accepts_a_token_of_ones_own_and_refuses_it_elsewhere(docs, typed, tmp_path):
+    """Two commands, in two terminals of one machine."""
     needs("go")
-    [block] = [it for it in docs.blocks(README) if "tests/test_quickstart.py runs it" in it.comment]
-    commands = docs.commands(block)
-    # A build of the Go code may take minutes, and may install packages, which needs the network. The one of the session finds all of it done.
-    assert commands[0] == ("go/build", [])
+    [(serve, served), (mint, minted)] = typed
+    # (go/build may install packages, which needs the network. The one of the session finds all of it done, and Go's own library compiled.)
     subprocess.run([TOP / "go/build"], stdin=subprocess.DEVNULL, check=True)
-
-    shell = docs.Shell(tmp_path, within=by_itself(), beside=("out",))
+    clone(tmp_path / "clone")
+    environment = {**os.environ, "TMPDIR": str(tmp_path)}
+    words = ["bash", "-c", f"ip link set lo up 2> /dev/null\n({serve}) > said 2>&1"]
+    began, before = time.monotonic(), spent()
+    terminal = subprocess.Popen([*by_itself(), *words], cwd=tmp_path / "clone", env=environment, start_new_session=True)
+    said = tmp_path / "clone/said"
     try:
-        shell.run("ip link set lo up 2>&1 || true")
-        for command, due in commands:
-            got = shell.run(command).replace("\r\n", "\n")
-            assert docs.fits(due, got), f"$ {command}\n{got}"
-        # (the sidecar ends, and says so)
-        assert shell.run("wait; tail -n 1 out/svidd.log").startswith('{"event":"end"')
-        assert shell.left() == []
+        await_(lambda: said.exists() and served[-1] in said.read_text(), f"{serve!r} to say: {served[-1]}", lambda: said.read_text())
+        beside = ["nsenter", "--target", str(terminal.pid), "--user", "--net", "--preserve-credentials"] if by_itself() else []
+        got = subprocess.run(
+            [*beside, "bash", "-c", mint], cwd=tmp_path / "clone", stdout=subprocess.PIPE, stderr=subprocess.STDOUT, text=True
+        )
+        took = time.monotonic() - began
+        assert docs.fits(minted, got.stdout), f"$ {mint}\n{got.stdout}"
+        assert got.returncode == 0
+        end(terminal, said)
+        assert docs.fits(served, said.read_text().split(served[-1])[0] + served[-1]), said.read_text()
+        assert min(took, spent() - before) <= MOST
     finally:
-        shell.close()
+        if terminal.poll() is None:
+            os.killpg(terminal.pid, signal.SIGKILL)
+            terminal.wait()
 
 
-def test_the_quick_start_says_each_answer(docs):
-    """It shows an acceptance, and then a refusal of the same token."""
-    [block] = [it for it in docs.blocks(README) if "tests/test_quickstart.py runs it" in it.comment]
-    asked = [(command, due[0]) for command, due in docs.commands(block) if "/check" in command]
-    assert [answer for _, answer in asked] == ["HTTP/1.1 200 OK", "HTTP/1.1 401 Unauthorized"]
-    assert asked[0][0] == asked[1][0]
+def await_(is_so, what, seen):
+    """Waits for a condition, and gives up after SVID_TEST_PATIENCE seconds."""
+    until = time.monotonic() + float(os.environ.get("SVID_TEST_PATIENCE", 180))
+    while not is_so():
+        assert time.monotonic() < until, f"waited for {what}\n{seen()}"
+        time.sleep(0.05)
+
+
+def end(terminal, said):
+    """Ends svidd dev as ^C does, and waits for all of the terminal."""
+    os.killpg(terminal.pid, signal.SIGINT)
+    terminal.wait()
+    assert all(line.startswith("svidd dev (for development only): ") for line in said.read_text().splitlines()), said.read_text()
+
+
+def test_the_session_says_each_answer(typed):
+    """It shows acceptances, and then a refusal of the same token from another address."""
+    [(serve, _), (mint, minted)] = typed
+    assert serve.startswith("go/build && ") and "dev" in serve and "--try" in mint
+    assert [line.rsplit(": ")[-1] for line in minted if line.startswith("sent from")] == [
+        "200 accepted",
+        "200 accepted",
+        "401 refused Replayed",
+    ]
+    assert [line.split()[2] for line in minted if line.startswith("sent from")] == ["127.0.0.1:", "127.0.0.1:", "127.0.0.2:"]
 
 
 def test_the_bundle_is_that_of_the_other_examples():

@@ -32,7 +32,10 @@ NAMES = [
     *(f"svidd-{VERSION}-{it}.oci.tar" for it in ARCHITECTURES),
     *(f"svid-{VERSION}-linux-{it}.tar.gz" for it in MACHINES.values()),
     *(f"svid-{VERSION}-py3-none-manylinux_{it}.whl" for it in ("2_5_x86_64", "2_17_aarch64")),
-    *(f"svid-{VERSION}{it}" for it in (".crate", ".tgz", ".html", ".spdx.json", *([".jar"] if JAR else []))),
+    *(
+        f"svid-{VERSION}{it}"
+        for it in (".crate", ".tgz", ".html", ".spdx.json", *([".jar", "-javadoc.jar", "-sources.jar"] if JAR else []))
+    ),
     "SHA256SUMS",
 ]
 
@@ -295,7 +298,11 @@ def test_the_debian_package(room, token, arch):
     for page in "man1/svid.1.gz", "man8/svidd.8.gz":
         assert "SYNOPSIS" in room.run("man", "-P", "cat", "-l", root / "usr/share/man" / page)
     unit = (root / "usr/lib/systemd/system/svidd.service").read_text()
-    assert re.search(r"^ExecReload=.*HUP", unit, re.M) and "\nRestart=always\n" in unit and "/usr/local" not in unit
+    assert (
+        "\nExecReload=/usr/bin/svidd reload --config /etc/svidd/svidd.toml\n" in unit
+        and "\nRestart=always\n" in unit
+        and "/usr/local" not in unit
+    )
     # (every user can read the options, since the user of svidd is made at its start: passwords have a file of root's)
     assert "\nDynamicUser=yes\n" in unit and "\nEnvironmentFile=-/etc/svidd/svidd.env\n" in unit
     assert "2.0.0" in room.run("zcat", root / "usr/share/doc/svid/changelog.gz")
@@ -425,7 +432,7 @@ def test_the_image(room, token, arch, kind):
 
 PYTHON_SERVICE = """
 import sys, svid
-with svid.Validator(audiences="ledger", bundles=open("bundles.json", "rb").read()) as validator:
+with svid.Validator(audiences="ledger", bundles=open("bundles.json", "rb").read(), longest=svid.UNLIMITED) as validator:
     for _ in range(2):
         try:
             print("accepted", validator.check(sys.stdin.readline().strip()).spiffe_id)
@@ -531,7 +538,8 @@ RUST_SERVICE = """
 use svid::{Guard, OpenSsl, Options};
 
 fn main() -> Result<(), Box<dyn std::error::Error>> {
-    let guard = Guard::open(&Options::new(["ledger"]), &std::fs::read("bundles.json")?, OpenSsl::new())?;
+    let options = Options::new(["ledger"]).any_life();
+    let guard = Guard::open(&options, std::fs::read("bundles.json")?, OpenSsl::new())?;
     let token = std::fs::read_to_string("token.txt")?;
     for _ in 0..2 {
         match guard.check(token.trim()) {
@@ -574,7 +582,7 @@ NODE_SERVICE = """
 import { readFile } from "node:fs/promises";
 import { Refusal, Validator } from "svid";
 
-const validator = await Validator.open({ audiences: ["ledger"], bundles: await readFile("bundles.json") });
+const validator = await Validator.open({ audiences: ["ledger"], bundles: await readFile("bundles.json"), longest: "unlimited" });
 const token = (await readFile("token.txt", "utf8")).trim();
 for (let n = 0; n < 2; n++) {
   try {
@@ -606,9 +614,9 @@ import (
     "os"
     "strings"
 
-    "svid.example/go/v2/bundles"
-    "svid.example/go/v2/guard"
-    "svid.example/go/v2/svid"
+    "svid.example/go/v3/bundles"
+    "svid.example/go/v3/guard"
+    "svid.example/go/v3/svid"
 )
 
 func must(err error) {
@@ -643,7 +651,7 @@ import svid.*;
 public class Service {
     public static void main(String[] args) throws Exception {
         String token = Files.readString(Path.of("token.txt")).trim();
-        try (Validator validator = Validator.open(Options.audiences("ledger"), Files.readAllBytes(Path.of("bundles.json")))) {
+        try (Validator validator = Validator.open(Options.audiences("ledger").anyLife(), Files.readAllBytes(Path.of("bundles.json")))) {
             for (int n = 0; n < 2; n++) {
                 try {
                     System.out.println("accepted " + validator.check(token).spiffeId());
@@ -671,7 +679,7 @@ if MODULE:
             "GOTOOLCHAIN": "local",
         }
         room.run("go", "mod", "init", "service", **go)
-        room.run("go", "get", f"svid.example/go/v2@v{VERSION}", **go)
+        room.run("go", "get", f"svid.example/go/v3@v{VERSION}", **go)
         room.run("go", "build", "-o", "service", **go)
         assert room.run("./service") == ACCEPTED
 
@@ -679,7 +687,7 @@ if MODULE:
 if JAR:
 
     def test_the_jar(room):
-        path = f"{room.take(f'svid-{VERSION}.jar')}:/usr/share/java/jna.jar"
+        path = f"{room.take(f'svid-{VERSION}.jar')}:/usr/share/java/jna.jar:/usr/share/java/gson.jar"
         (room.folder / "Service.java").write_text(JAVA_SERVICE)
         room.run("javac", "-cp", path, "Service.java")
         assert room.run("java", "-cp", f"{path}:.", f"-Djava.io.tmpdir={room.folder}/tmp", "Service") == ACCEPTED

@@ -212,7 +212,7 @@ def test_on_another_machine_its_program_is_taken(copy, other):
 def test_on_another_machine_its_files_are_installed(copy, other):
     environment = {**os.environ, "PATH": other, "DESTDIR": f"{copy.room}/root"}
     subprocess.run([copy / "install", "/usr"], cwd="/", env=environment, stdout=subprocess.DEVNULL, check=True)
-    for name, installed in {"svid": "bin/svid", "libsvid.a": "lib/libsvid.a", "libsvid.so": "lib/libsvid.so.2"}.items():
+    for name, installed in {"svid": "bin/svid", "libsvid.a": "lib/libsvid.a", "libsvid.so": "lib/libsvid.so.3"}.items():
         assert (copy.room / "root/usr" / installed).read_bytes() == (copy / "dist/aarch64" / name).read_bytes()
 
 

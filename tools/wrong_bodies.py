@@ -1,13 +1,8 @@
 """Wrong bodies of what nobody proves: for each, the test that it names must fail.
 
-go/wrong/run, page/wrong/run and python/wrong/run say what their language needs, and this does the rest. A wrong body is a
-file NAME.edit of lines:
-
-    file: PATH      a file that it changes, by its path in the language's folder
-    old: TEXT       what stands there once: a line, or a part of one. Several such lines are one text of several lines
-    new: TEXT       what is to stand there instead; further pairs of 'old:' and 'new:' may follow
-    why: TEXT       why that is wrong
-    test: ID        a test that must catch it; further ones may follow
+go/wrong/run, page/wrong/run and python/wrong/run say what their language needs, and this does the rest. The file
+wrong/PATH.edits of a language's folder lists those of its file PATH. tools/edits.py has the form; here each has a line
+'why:', and a line 'test:' for each test that must catch it.
 
 It is caught where a test fails. It is not caught where all its tests pass (it survived), where they don't end within ten
 minutes, or where the program does not compile with it, which says nothing of the test. All named tests must pass without a
@@ -30,6 +25,8 @@ import tempfile
 import time
 import traceback
 from concurrent.futures import ThreadPoolExecutor
+
+from edits import Unreadable, below
 
 TOP = os.path.dirname(os.path.dirname(os.path.realpath(__file__)))
 LONGEST = 600  # seconds for the tests of one wrong body, with all that is compiled for them
@@ -163,40 +160,23 @@ class Language:
 class Wrong:
     """One wrong body: the texts that it changes, and the tests that must catch it."""
 
-    def __init__(self, language, name):
-        self.name, self.pairs, self.why, self.tests = name, [], "", []
+    def __init__(self, language, edit):
+        self.name, self.tests = edit.name, edit.tests
         self.took = 0.0  # seconds until its tests had ended
-        path = before = None
-        for line in text_of(f"{language.bodies}/{name}.edit").splitlines():
-            word, _, rest = line.partition(":")
-            rest = rest.removeprefix(" ")
-            if word == "file":
-                path = rest
-            elif word == "old" and path and before == "old":
-                self.pairs[-1][1].append(rest)
-            elif word == "old" and path:
-                self.pairs.append((path, [rest], []))
-            elif word == "new" and before in ("old", "new"):
-                self.pairs[-1][2].append(rest)
-            elif word == "why":
-                self.why = rest
-            elif word == "test":
-                self.tests.append(rest)
-            else:
-                raise Unfit(f"this line stands at no place: {line}")
-            before = word
-        if not (self.pairs and self.why and self.tests and all(new for _, _, new in self.pairs)):
-            raise Unfit("it has no pair of lines 'old:' and 'new:', or no 'why:', or no 'test:'")
-        self.changed = self._changed(language)
+        if fault := edit.fault():
+            raise Unfit(fault)
+        if not (edit.why and edit.tests):
+            raise Unfit("it has no 'why:', or no 'test:'")
+        self.changed = self._changed(language, edit)
         for test in self.tests:
             if not language.has(test):
                 raise Unfit(f"there is no test {test}")
 
-    def _changed(self, language):
+    def _changed(self, language, edit):
         """The files that it changes, by their path, with their new text."""
         texts = {}
-        for path, old, new in self.pairs:
-            old, new = "\n".join(old), "\n".join(new)
+        for pair in edit.pairs:
+            path, (old, new) = pair.path, pair.texts()
             if not os.path.isfile(f"{language.package}/{path}"):
                 raise Unfit(f"there is no file {path}")
             text = texts.get(path) or text_of(f"{language.package}/{path}")
@@ -270,19 +250,24 @@ def try_all(language, wrongs, alone):
 
 def main(language, words):
     """Tries what the words of the command line name: the exit status."""
-    names = sorted(it.removesuffix(".edit") for it in os.listdir(language.bodies) if it.endswith(".edit"))
+    try:
+        edits = below(language.bodies)
+    except Unreadable as why:
+        print(f"wrong: {why}")
+        return 1
+    names = sorted(edits)
     chosen, only_applies = names, words == ["--applies"]
     if words[:1] == ["--share"] and len(words) == 2 and words[1].isdigit() and int(words[1]):
         chosen = names[int(time.time()) // DAY % int(words[1]) :: int(words[1])]
     elif words and not only_applies:
-        chosen = [os.path.basename(it).removesuffix(".edit") for it in words]
+        chosen = words
     if unknown := set(chosen) - set(names):
         print(f"wrong: there is none of that name: {' '.join(sorted(unknown))}")
         return 2
     wrongs, unfit = {}, {}
     for name in names:
         try:
-            wrongs[name] = Wrong(language, name)
+            wrongs[name] = Wrong(language, edits[name])
         except Unfit as why:
             unfit[name] = why
     rows = [(name, path, text) for name, it in wrongs.items() for path, text in it.changed.items()]

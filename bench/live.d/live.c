@@ -49,15 +49,13 @@ static uint64_t asks[TOKENS], checks[TOKENS];
 
 static size_t number_at(const uint8_t *from) { return (size_t)from[0] << 24 | (size_t)from[1] << 16 | (size_t)from[2] << 8 | from[3]; }
 
-/* Asks for a token, and checks it with the answer yes to the question of each row. With READ_ONCE the token is read once for both, and its
- * first key made its signature: to open it is a part of asking, and to close it one of checking. */
+/* Asks for a token, and checks it, as if its first key made its signature: to read it is a part of asking, and to close it one of checking. */
 static void check(svid_validator *v, const uint8_t *token, size_t len, size_t turn) {
     static uint8_t rows[65536];
     uint8_t id[SVID_ID_ROOM];
     svid_told told;
     svid_use used;
     uint64_t from = clock_ns();
-#ifdef READ_ONCE
     svid_token read = SVID_TOKEN_CLOSED;
     uint32_t status = svid_token_open(&read, token, len, &told);
     if (status == SVID_OK) status = svid_validator_ask_token(v, &read, SVID_MOST_CANDIDATES, rows, sizeof rows, &told);
@@ -68,20 +66,6 @@ static void check(svid_validator *v, const uint8_t *token, size_t len, size_t tu
     from = clock_ns();
     status = svid_validator_check_token(v, NOW, key + 4, number_at(key), token, number_at(rows), rows + 8, number_at(rows + 4), &read, id, sizeof id, &used, &told);
     svid_token_close(&read);
-#else
-    svid_question yes[SVID_MOST_CANDIDATES];
-    size_t count = 0, at = 0;
-    uint32_t status = svid_validator_ask(v, token, len, SVID_MOST_CANDIDATES, rows, sizeof rows, &told);
-    asks[turn] = clock_ns() - from;
-    holds(status == SVID_OK, svid_strstatus(status));
-    while (at < told.len) {
-        memcpy(yes[count++].bytes, rows + at, 32);
-        at += 32;
-        for (int field = 0; field < 2; field++) at += 4 + number_at(rows + at);
-    }
-    from = clock_ns();
-    status = svid_validator_check(v, NOW, yes, count, token, len, id, sizeof id, &used, &told);
-#endif
     checks[turn] = clock_ns() - from;
     holds(status == SVID_OK, svid_strstatus(status));
 }

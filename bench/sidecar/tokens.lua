@@ -17,7 +17,7 @@ function init(args)
   for token in io.lines(args[1]) do
     if n >= first + count then break end
     if n >= first and n % all == id then
-      requests[#requests + 1] = "GET /check HTTP/1.1\r\nHost: svidd\r\nAuthorization: Bearer " .. token .. "\r\n\r\n"
+      requests[#requests + 1] = "GET /check HTTP/1.1\r\nHost: svidd\r\nX-Real-Ip: 127.0.0.1\r\nAuthorization: Bearer " .. token .. "\r\n\r\n"
     end
     n = n + 1
   end

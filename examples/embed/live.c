@@ -31,26 +31,38 @@ static text read_file(const char *name) {
 
 static size_t number(const uint8_t *at) { return (size_t)at[0] << 24 | (size_t)at[1] << 16 | (size_t)at[2] << 8 | at[3]; }
 
-/* Checks a token: the status, and the ID of an accepted one. Signatures are verified without the lock. */
+/* Checks a token: the status, and the ID of an accepted one. It is read, and its signature verified, without the lock. */
 static uint32_t check(service *s, uint64_t now, const uint8_t *token, size_t len, char id[SVID_ID_ROOM + 1]) {
     uint8_t rows[65536];
-    svid_question yes;
+    const uint8_t *key = NULL;
+    size_t key_len = 0, end = 0, signed_len = 0, signature_len = 0;
+    svid_token read = SVID_TOKEN_CLOSED;
     svid_told told;
     svid_use used;
-    size_t count = 0;
-    lock(s);
-    uint32_t status = svid_validator_ask(&s->kept, token, len, SVID_MOST_CANDIDATES, rows, sizeof rows, &told);
-    unlock(s);
-    /* Where no key may have signed the token, the check answers the first refusal that holds, which may be another. */
-    if (status != SVID_OK && status < SVID_TOO_LONG) return status;
-    for (size_t at = 0, end = status == SVID_OK ? told.len : 0; at < end && !count;) {
-        const uint8_t *question = rows + at, *alg = question + 36, *jwk = alg + number(alg - 4) + 4;
-        at = (size_t)(jwk - rows) + number(jwk - 4);
-        if (verify(NULL, alg, number(alg - 4), jwk, number(jwk - 4), token, len)) memcpy(yes.bytes, question, 32), count = 1;
+    uint32_t status = svid_token_open(&read, token, len, &told), ticked;
+    if (status != SVID_OK) {
+        /* A token that can't be read shows the validator the time, too. */
+        lock(s);
+        ticked = svid_validator_tick(&s->kept, now, &told);
+        unlock(s);
+        return ticked == SVID_OK ? status : ticked;
     }
     lock(s);
-    status = svid_validator_check(&s->kept, now, &yes, count, token, len, (uint8_t *)id, SVID_ID_ROOM, &used, &told);
+    status = svid_validator_ask_token(&s->kept, &read, SVID_MOST_CANDIDATES, rows, sizeof rows, &told);
     unlock(s);
+    if (status == SVID_OK) end = told.len, signed_len = number(rows), signature_len = number(rows + 4);
+    for (const uint8_t *alg = rows + 8 + signature_len + 4, *jwk; alg < rows + end && !key; alg = jwk + number(jwk - 4) + 4) {
+        jwk = alg + number(alg - 4) + 4;
+        if (verify(NULL, alg, number(alg - 4), jwk, number(jwk - 4), token, len)) key = jwk, key_len = number(jwk - 4);
+    }
+    /* Where no key may have signed the token, the check answers the first refusal that holds, which may be another. */
+    if (status == SVID_OK || status >= SVID_TOO_LONG) {
+        lock(s);
+        status = svid_validator_check_token(&s->kept, now, key, key_len, token, signed_len, rows + 8, signature_len, &read,
+                                            (uint8_t *)id, SVID_ID_ROOM, &used, &told);
+        unlock(s);
+    }
+    svid_token_close(&read);
     if (status == SVID_OK) id[told.len] = 0;
     return status;
 }

@@ -71,13 +71,15 @@ int main(int n, char **args) {
     for (size_t at = 0; at < tokens_len;) {
         const uint8_t *space = memchr(tokens + at, ' ', tokens_len - at), *end = memchr(tokens + at, '\n', tokens_len - at);
         must(space && end && space < end, "a line of the tokens is none");
-        if (svid_validator_ask(&v, space + 1, (size_t)(end - space - 1), SVID_MOST_CANDIDATES, rows, sizeof rows, &told) == SVID_OK) {
-            for (size_t row = 0; row < told.len; count++) {
-                const uint8_t *alg = rows + row + 36, *jwk = alg + number(alg - 4) + 4;
+        svid_token t = SVID_TOKEN_CLOSED;
+        if (svid_token_open(&t, space + 1, (size_t)(end - space - 1), &told) == SVID_OK &&
+            svid_validator_ask_token(&v, &t, SVID_MOST_CANDIDATES, rows, sizeof rows, &told) == SVID_OK) {
+            for (const uint8_t *alg = rows + 8 + number(rows + 4) + 4, *jwk; alg < rows + told.len; alg = jwk + number(jwk - 4) + 4, count++) {
+                jwk = alg + number(alg - 4) + 4;
                 all += each(alg, jwk, space + 1, (size_t)(end - space - 1));
-                row = (size_t)(jwk - rows) + number(jwk - 4);
             }
         }
+        svid_token_close(&t);
         at = (size_t)(end - tokens) + 1;
     }
     svid_validator_close(&v);

@@ -175,24 +175,10 @@ def key_spki(key, alg):
     return out.raw[: told.len]
 
 
-def check(setting, own, bundles, questions, messages, token):
-    """The ID and the use of a token that is accepted."""
-    out, used, told = c.create_string_buffer(2048), Use(), Told()
-    args = lent([own, bundles, questions, messages, token])
-    status = lib.svid_check(c.byref(setting), *args, out, c.c_size_t(2048), c.byref(used), c.byref(told))
-    if status != OK:
-        raise Refused(f"{status} {told}")
-    return out.raw[: told.len], used
-
-
 def main(what, rest):
     if what == "id":
         return b"domain %s\npath %s\n" % parse(rest[0].encode())
-    if what == "check":
-        setting = Setting(int(rest[0]), 2**64 - 1, (c.c_uint8 * 16)(*[0xAA] * 16))
-        id, used = check(setting, os.fsencode(rest[1]), *[open(it, "rb").read() for it in rest[2:]])
-        return b"accepted %s %d\n%s at %d\n" % (id, used.exp, bytes(used.key).hex().encode(), used.at)
-    return call(what, [open(it, "rb").read() for it in rest[1:]], None if what == "questions" else int(rest[0]))
+    return call(what, [open(it, "rb").read() for it in rest[1:]], int(rest[0]))
 
 
 if __name__ == "__main__":

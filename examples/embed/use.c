@@ -1,6 +1,5 @@
-/* One call of libsvid: use join NOW A B | report NOW A | summary NOW A | answer NOW SUMMARY A |
- * questions 0 BUNDLES TOKEN | check NOW OWN BUNDLES QUESTIONS MESSAGES TOKEN | id TEXT. Files go in, but for OWN, a
- * name; what the call writes goes to standard output, and a fault's number and offset to standard error. */
+/* One call of libsvid: use join NOW A B | report NOW A | summary NOW A | answer NOW SUMMARY A | id TEXT. A, B and SUMMARY are files. What the call
+ * writes goes to standard output, and a fault's number and offset to standard error. */
 #include "svid.h"
 #include <stdio.h>
 #include <stdlib.h>
@@ -40,27 +39,8 @@ static int end_output(void) {
 static uint32_t call(const char *what, uint64_t now, text a, text b, text out, svid_told *told) {
     if (!strcmp(what, "join")) return svid_join(a.bytes, a.len, b.bytes, b.len, now, out.bytes, out.len, told);
     if (!strcmp(what, "answer")) return svid_answer(a.bytes, a.len, b.bytes, b.len, now, out.bytes, out.len, told);
-    if (!strcmp(what, "questions")) return svid_questions(a.bytes, a.len, b.bytes, b.len, out.bytes, out.len, told);
     if (!strcmp(what, "report")) return svid_report(a.bytes, a.len, now, out.bytes, out.len, told);
     return svid_summary(a.bytes, a.len, now, out.bytes, out.len, told);
-}
-
-/* The ID of an accepted token, and the key of its use; the ID of this validator is sixteen bytes AA. */
-static int check(char **args) {
-    svid_setting setting = { strtoull(args[2], NULL, 10), UINT64_MAX, { 0 } };
-    text bundles = read_file(args[4]), questions = read_file(args[5]), messages = read_file(args[6]), token = read_file(args[7]);
-    uint8_t id[2048];
-    svid_use used;
-    svid_told told;
-    memset(setting.validator_id, 0xAA, sizeof setting.validator_id);
-    uint32_t status = svid_check(&setting, (uint8_t *)args[3], strlen(args[3]), bundles.bytes, bundles.len, questions.bytes, questions.len,
-                                 messages.bytes, messages.len, token.bytes, token.len, id, sizeof id, &used, &told);
-    free(bundles.bytes); free(questions.bytes); free(messages.bytes); free(token.bytes);
-    if (status) { fprintf(stderr, "refused: %u input %zu message %zu offset %zu\n", status, told.input, told.message, told.offset); return 1; }
-    printf("accepted %.*s %llu\n", (int)told.len, (char *)id, (unsigned long long)used.exp);
-    for (size_t i = 0; i < sizeof used.key; i++) printf("%02x", used.key[i]);
-    printf(" at %llu\n", (unsigned long long)used.at);
-    return end_output();
 }
 
 int main(int n, char **args) {
@@ -72,7 +52,6 @@ int main(int n, char **args) {
         printf("domain %.*s\npath %.*s\n", (int)id.domain_len, args[2] + 9, (int)id.path_len, args[2] + 9 + id.domain_len);
         return end_output();
     }
-    if (n == 8 && !strcmp(args[1], "check")) return check(args);
     if (n < 4) { fprintf(stderr, "usage: see the first lines of use.c\n"); return 2; }
     text a = read_file(args[3]), b = n > 4 ? read_file(args[4]) : (text){ room(NULL, 1), 0 }, out = { room(NULL, 1), 0 };
     svid_told told;

@@ -48,30 +48,41 @@ class Validator:
                 raise
             return self._text(name, *args, room=refused.args[2])
 
-    def ask(self, token):
-        """The first MOST_CANDIDATES keys that may have signed a token: of each the question, the algorithm's name, and the key as JSON."""
-        text, rows = self._text("ask", *self._lent(token), c.c_size_t(MOST_CANDIDATES)), []
-        while text:
-            row, text = [text[:32]], text[32:]
-            for _ in range(2):
-                end = 4 + struct.unpack(">I", text[:4])[0]
-                row, text = row + [text[4:end]], text[end:]
-            rows.append(row)
-        return rows
+    def ask(self, read):
+        """What a verifier needs of a token that was read: over how many of its bytes the signature is made, the signature, and the first MOST_CANDIDATES
+        keys that may have made it, each with the algorithm's name before it, as JSON."""
+        text = self._text("ask_token", read, c.c_size_t(MOST_CANDIDATES))
+        fields, rest = [], text[4:]
+        while rest:
+            end = 4 + struct.unpack(">I", rest[:4])[0]
+            fields, rest = [*fields, rest[4:end]], rest[end:]
+        return struct.unpack(">I", text[:4])[0], fields[0], list(zip(fields[1::2], fields[2::2]))
 
     def check(self, now, token, verifies):
         """The subject's ID and the use of an accepted token. `verifies` says whether a key, as JSON, made its signature; it is called
         without the lock."""
+        read, told = (c.c_uint64 * 2)(), Told()
+        status = lib.svid_token_open(read, *self._lent(token), c.byref(told))
         try:
-            rows = self.ask(token)
+            if status != 0:
+                self._call("tick", c.c_uint64(now))  # One that can't be read shows the validator the time, too.
+                raise Refused(status, str(told), told.len)
+            return self._check(now, token, read, verifies)
+        finally:
+            lib.svid_token_close(read)
+
+    def _check(self, now, token, read, verifies):
+        try:
+            length, signature, keys = self.ask(read)
         except Refused as refused:
             if refused.args[0] <= 100:
                 raise
             # Where no key may have signed the token, the check answers the first refusal that holds, which may be another.
-            rows = []
-        yes = next(([question] for question, alg, key in rows if verifies(alg, key, token)), [])
+            length, signature, keys = 0, b"", []
+        key = next((key for alg, key in keys if verifies(alg, key, token)), b"")
+        shown = [*self._lent(key), *self._lent(token[:length]), *self._lent(signature)]
         out, used = c.create_string_buffer(2048), Use()
-        size = self._call("check", c.c_uint64(now), b"".join(yes), c.c_size_t(len(yes)), *self._lent(token), out, c.c_size_t(2048), c.byref(used))
+        size = self._call("check_token", c.c_uint64(now), *shown, read, out, c.c_size_t(2048), c.byref(used))
         return out.raw[:size].decode(), used
 
     def take(self, now, messages):

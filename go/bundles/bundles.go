@@ -32,7 +32,7 @@ import (
 	"syscall"
 	"time"
 
-	"svid.example/go/v2/internal/brief"
+	"svid.example/go/v3/internal/brief"
 )
 
 const (
@@ -44,7 +44,7 @@ const (
 	handshakeWait = 10 * time.Second
 	mostHeader    = 1 << 16 // bytes of the header of an answer
 	mostSaid      = 16      // entries of one bundle that are logged each by itself
-	mostJudged    = 64      // entries of one bundle that Options.Unusable is asked about
+	mostJudged    = 64      // keys of one bundle that Options.Unusable is asked about, once one can be used
 )
 
 // Options say what Watch needs beside its sources. Each field may be left out.
@@ -55,8 +55,8 @@ type Options struct {
 	// Check judges a bundle that was read before it takes the place of the last good one. The validator's own reader
 	// belongs here.
 	Check func(domain string, document json.RawMessage) error
-	// Unusable says why a key can't verify any token, or nothing. It is asked about the first keys of a new bundle, for
-	// the log alone.
+	// Unusable says why a key can't verify any token, or nothing. It is asked about the first keys of a new bundle, until one
+	// can, for the log alone.
 	Unusable func(key json.RawMessage) (why string)
 	// Every is the time between two looks at files and folders; 0 is five seconds.
 	Every time.Duration
@@ -154,6 +154,40 @@ func (w *Watcher) Reload() {
 func (w *Watcher) Age(domain string) (age time.Duration, ok bool) {
 	age, ok = w.Ages()[domain]
 	return age, ok
+}
+
+// Fault is what is wrong with a source at the moment: of several, with the first one that a spec names. It is nil where nothing is. It names the
+// trust domain, and no file.
+func (w *Watcher) Fault() error { return w.faultOf(func(Spec) bool { return true }) }
+
+// FileFault is Fault of files and folders alone, as they were read last.
+func (w *Watcher) FileFault() error { return w.faultOf(func(s Spec) bool { return !s.IsRemote() }) }
+
+func (w *Watcher) faultOf(counts func(s Spec) bool) error {
+	w.mu.Lock()
+	defer w.mu.Unlock()
+	for _, s := range w.specs {
+		if !counts(s) {
+			continue
+		}
+		for source, why := range w.faults {
+			isOfFolder := s.isFolder() && filepath.Dir(source) == filepath.Clean(s.Source) && !w.isNamed(source)
+			if source != s.Source && !isOfFolder {
+				continue
+			}
+			of := s.Domain
+			switch {
+			case s.api:
+				of = "the Workload API"
+			case isOfFolder:
+				of = filepath.Base(source)
+			case s.isFolder():
+				of = "the folder"
+			}
+			return fmt.Errorf("%s: %s", of, strings.TrimPrefix(why, "open "+source+": "))
+		}
+	}
+	return nil
 }
 
 // Ages is Age of every trust domain that has a bundle that counts.
@@ -455,28 +489,11 @@ func (w *Watcher) isHeld(domain, source string, text []byte) (wait time.Duration
 // has says whether it is this bundle. A bundle that is nil is none.
 func (b *bundle) has(text []byte) bool { return b != nil && bytes.Equal(b.document, text) }
 
-// errNoKeys: a bundle verifies no token.
-var errNoKeys = errors.New(`no entry of it has the use "jwt-svid", so no token of this trust domain can be accepted`)
-
-// errNoGoodKeys: it has keys, and none can be used.
-var errNoGoodKeys = errors.New("no key of it can be used, so no token of this trust domain can be accepted")
-
 // say logs a new bundle, and the entries of it that are passed over: each once, as long as it is in the bundle, and
 // where there are many, the first ones. (The bundle may be of a trust domain that means no good.)
 func (w *Watcher) say(domain, source string, d document) {
-	keys, over, said := 0, 0, map[[sha256.Size]byte]bool{}
-	none := errNoKeys
-	d.each(func(i int, entry json.RawMessage) {
-		why := passedOver(entry)
-		if why == "" && i < mostJudged && w.options.Unusable != nil {
-			if why = w.options.Unusable(entry); why != "" {
-				none = errNoGoodKeys
-			}
-		}
-		if why == "" {
-			keys++
-			return
-		}
+	over, said := 0, map[[sha256.Size]byte]bool{}
+	keys, none := d.usable(w.options.Unusable, func(i int, entry json.RawMessage, why string) {
 		if over++; over > mostSaid {
 			return
 		}
@@ -487,8 +504,11 @@ func (w *Watcher) say(domain, source string, d document) {
 	})
 	w.said[domain] = said
 	w.log("bundle read", "domain", domain, "source", source, "keys", keys, "passed_over", over)
+	if entry, is := d.private(); is {
+		w.log("bundle has a private key", "domain", domain, "source", source, "entry", entry, "why", errPrivate)
+	}
 	if keys == 0 {
-		w.log("bundle has no key", "domain", domain, "source", source, "why", none)
+		w.log("bundle has no key", "domain", domain, "source", source, "why", fmt.Errorf("no token of this trust domain can be accepted: %w", none))
 	}
 }
 

@@ -20,7 +20,7 @@ import (
 	"testing"
 	"time"
 
-	"svid.example/go/v2/internal/patience"
+	"svid.example/go/v3/internal/patience"
 )
 
 // spire is a bundle as `spire-server bundle show -format spiffe` prints one.
@@ -479,7 +479,7 @@ func TestEntriesThatArePassedOver(t *testing.T) {
 		`{"use":"jwt-svid","kid":1,"kty":"EC"}`:    "its kid is not there, or no text",
 		`{"use":"jwt-svid","kid":"a","kty":"OKP"}`: "its kty is neither RSA nor EC",
 	} {
-		if got := passedOver(json.RawMessage(entry)); got != want {
+		if got, _ := passedOver(json.RawMessage(entry)); got != want {
 			t.Errorf("%s: %q, want %q", entry, got, want)
 		}
 	}
@@ -530,7 +530,7 @@ func TestWhatAnOperatorMustSee(t *testing.T) {
 	write(t, name, `{"keys":[{"kty":"EC","kid":"a"}]}`)
 	w.Reload()
 	o.wantLines(t, 1, "bundle read domain example.org source "+name+" keys 0 passed_over 1")
-	o.wantLines(t, 1, "bundle has no key domain example.org source "+name+` why no entry of it has the use "jwt-svid"`)
+	o.wantLines(t, 1, "bundle has no key domain example.org source "+name+` why no token of this trust domain can be accepted: no entry of it has the use "jwt-svid": it has no use`)
 	if err := os.Remove(name); err != nil {
 		t.Fatal(err)
 	}

@@ -9,7 +9,7 @@ import (
 	"time"
 	"unicode/utf8"
 
-	"svid.example/go/v2/svid"
+	"svid.example/go/v3/svid"
 )
 
 // mostDocument is how many bytes a bundle has at the most. One of SPIRE has 2,000 for each key and certificate.
@@ -65,6 +65,65 @@ func (d document) each(do func(number int, entry json.RawMessage)) {
 	}
 }
 
+// Usable says how many entries of a bundle can verify a token, and if none can, why. unusable says why a key can't, or nothing
+// (Options.Unusable). The error is also that of a document that is no bundle, and svid.ErrNoMemory.
+func Usable(bundle json.RawMessage, unusable func(key json.RawMessage) (why string)) (keys int, err error) {
+	d, err := parse(bundle)
+	if err != nil {
+		return 0, err
+	}
+	return d.usable(unusable, func(int, json.RawMessage, string) {})
+}
+
+// errEmpty: a bundle has no entry.
+var errEmpty = errors.New("its list of keys is empty")
+
+// usable is Usable, and tells over of each entry that verifies nothing. Of the keys beyond mostJudged none is judged, once there is one that can be
+// used: it takes time.
+func (d document) usable(unusable func(json.RawMessage) string, over func(number int, entry json.RawMessage, why string)) (keys int, none error) {
+	none = errEmpty
+	isJudged := false // that none is why a key can't be used
+	d.each(func(number int, entry json.RawMessage) {
+		why, err := passedOver(entry)
+		if err != nil {
+			none, isJudged = err, true // There is no memory to read the entry.
+			return
+		}
+		judges := why == "" && unusable != nil && (number < mostJudged || keys == 0)
+		if judges {
+			why = unusable(entry)
+		}
+		switch {
+		case why == "":
+			keys++
+			return
+		case judges && !isJudged:
+			none, isJudged = fmt.Errorf("no key of it can be used: %s", why), true
+		case none == errEmpty:
+			none = fmt.Errorf(`no entry of it has the use "jwt-svid": %s`, why)
+		}
+		over(number, entry, why)
+	})
+	if keys > 0 {
+		return keys, nil
+	}
+	return 0, none
+}
+
+// errPrivate: an entry has what signs, too (RFC 7518, sections 6.2.2, 6.3.2 and 6.4).
+var errPrivate = errors.New("it has the private part of a key, and whoever reads it can sign tokens of this trust domain: take that part out, and replace the key")
+
+// private is the number of the first entry that has the private part of a key, or a secret key.
+func (d document) private() (number int, is bool) {
+	d.each(func(i int, entry json.RawMessage) {
+		var key map[string]json.RawMessage // (by the fields of a struct, "D" would count, too)
+		if !is && json.Unmarshal(entry, &key) == nil && (key["d"] != nil || key["k"] != nil) {
+			number, is = i, true
+		}
+	})
+	return number, is
+}
+
 // firstEnd is where the first entry of a list ends: at a comma outside of texts and brackets, or at the end. The list is JSON.
 func firstEnd(list []byte) int {
 	depth, isText := 0, false
@@ -108,17 +167,13 @@ func (d document) refresh() time.Duration {
 	return time.Duration(hint) * time.Second
 }
 
-// passedOver says why an entry of keys signs no token, or nothing where it may: docs/FORMATS.md, "Bundles".
-func passedOver(entry json.RawMessage) (why string) {
-	err := svid.CheckEntry(entry)
+// passedOver says why an entry of keys signs no token, or nothing where it may: docs/FORMATS.md, "Bundles". The error is svid.ErrNoMemory.
+func passedOver(entry json.RawMessage) (why string, err error) {
 	var fault svid.EntryFault
-	switch {
-	case err == nil:
-		return ""
-	case errors.As(err, &fault):
-		return fault.String()
+	if err = svid.CheckEntry(entry); errors.As(err, &fault) {
+		return fault.String(), nil
 	}
-	return err.Error()
+	return "", err
 }
 
 // readAll reads a bundle of bearable length.

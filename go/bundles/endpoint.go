@@ -12,8 +12,8 @@ import (
 	"strings"
 	"time"
 
-	"svid.example/go/v2/internal/brief"
-	"svid.example/go/v2/svid"
+	"svid.example/go/v3/internal/brief"
+	"svid.example/go/v3/svid"
 )
 
 // How the server of an address shows that it is the right one (SPIFFE Federation, section 5.2). Profile https_web: by a

@@ -8,8 +8,8 @@ import (
 	"os"
 	"path/filepath"
 
-	"svid.example/go/v2/bundles"
-	"svid.example/go/v2/internal/issuer"
+	"svid.example/go/v3/bundles"
+	"svid.example/go/v3/internal/issuer"
 )
 
 // The bundles of a folder, whose files are called as their trust domains.

@@ -9,8 +9,8 @@ import (
 	"testing"
 	"time"
 
-	"svid.example/go/v2/internal/agenttest"
-	"svid.example/go/v2/internal/patience"
+	"svid.example/go/v3/internal/agenttest"
+	"svid.example/go/v3/internal/patience"
 )
 
 // Only a regular file is read: a pipe would not let go of who opens it.

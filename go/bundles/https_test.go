@@ -227,7 +227,7 @@ func TestWhatIsNoBundle(t *testing.T) {
 		`{"use":"jwt-svid","kid":"a","kty":"oct"}`:          "its kty is neither RSA nor EC",
 		`{"use":"jwt-svid","kid":"a"}`:                      "its kty is neither RSA nor EC",
 	} {
-		if got := passedOver(json.RawMessage(entry)); got != want {
+		if got, _ := passedOver(json.RawMessage(entry)); got != want {
 			t.Errorf("%s: %q, want %q", entry, got, want)
 		}
 	}

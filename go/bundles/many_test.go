@@ -15,8 +15,8 @@ import (
 	"testing"
 	"time"
 
-	"svid.example/go/v2/internal/agenttest"
-	"svid.example/go/v2/internal/patience"
+	"svid.example/go/v3/internal/agenttest"
+	"svid.example/go/v3/internal/patience"
 )
 
 // A lone says whether what it is told of happens one after the other.

@@ -12,8 +12,8 @@ import (
 	"testing"
 	"time"
 
-	"svid.example/go/v2/internal/agenttest"
-	"svid.example/go/v2/internal/patience"
+	"svid.example/go/v3/internal/agenttest"
+	"svid.example/go/v3/internal/patience"
 )
 
 // A clock lets a test see each pause, and end it.
@@ -285,19 +285,80 @@ func TestKeysThatCannotBeUsed(t *testing.T) {
 	}, Spec{Domain: "example.org", Source: name})
 	o.wantLines(t, 1, "key passed over domain example.org source "+name+" entry 0 why its curve is none")
 	o.wantLines(t, 1, "bundle read domain example.org source "+name+" keys 0 passed_over 1")
-	o.wantLines(t, 1, "bundle has no key domain example.org source "+name+" why "+errNoGoodKeys.Error())
+	o.wantLines(t, 1, "bundle has no key domain example.org source "+name+" why no token of this trust domain can be accepted: no key of it can be used: its curve is none")
 	write(t, name, `{"keys":[1,`+key+","+strings.Replace(key, `"a"`, `"good"`, 1)+`]}`)
 	w.Reload()
-	o.wantLines(t, 1, "its curve is none") // it was said
+	o.wantLines(t, 1, "key passed over domain example.org source "+name+" entry 0 why its curve is none") // it was said
 	o.wantLines(t, 1, "bundle read domain example.org source "+name+" keys 1 passed_over 2")
 	o.wantLines(t, 1, "bundle has no key")
 	if asked != 3 {
 		t.Errorf("asked about %d keys of three: 1 is no key", asked)
 	}
-	asked = 0
-	write(t, name, `{"keys":[`+strings.Repeat(key+",", mostJudged+9)+key+`]}`)
-	w.Reload()
-	if asked != mostJudged {
-		t.Errorf("asked about %d keys", asked)
+	good := strings.Replace(key, `"a"`, `"good"`, 1)
+	for _, c := range []struct {
+		keys  string
+		asked int
+		has   string
+	}{
+		{good + "," + strings.Repeat(key+",", mostJudged+9) + key, mostJudged, "keys 12 passed_over 63"}, // Those that nobody was asked about count.
+		{strings.Repeat(key+",", mostJudged+9) + good, mostJudged + 10, "keys 1 passed_over 73"},
+		{strings.Repeat(key+",", mostJudged+9) + key, mostJudged + 10, "keys 0 passed_over 74"},
+	} {
+		asked = 0
+		write(t, name, `{"keys":[`+c.keys+`]}`)
+		w.Reload()
+		if asked != c.asked {
+			t.Errorf("asked about %d keys, not %d", asked, c.asked)
+		}
+		o.wantLines(t, 1, "bundle read domain example.org source "+name+" "+c.has)
+	}
+}
+
+// How many keys of a bundle can be used, and if none can, which cause has it: the list is empty, no entry is for tokens, or no key can be used.
+func TestUsableKeys(t *testing.T) {
+	unusable := func(key json.RawMessage) string {
+		if strings.Contains(string(key), "good") {
+			return ""
+		}
+		return "its curve is none"
+	}
+	const of = `"kid":"a","kty":"EC"}`
+	for _, c := range []struct {
+		bundle string
+		keys   int
+		why    string
+	}{
+		{`{"keys":[]}`, 0, "its list of keys is empty"},
+		{`{"keys":null}`, 0, "its list of keys is empty"},
+		{`{"keys":[{` + of + `]}`, 0, `no entry of it has the use "jwt-svid": it has no use`},
+		{`{"keys":[{"use":"x509-svid",` + of + `]}`, 0, `no entry of it has the use "jwt-svid": `},
+		{`{"keys":[{"use":"x509-svid",` + of + `,{"use":"jwt-svid",` + of + `]}`, 0, "no key of it can be used: its curve is none"},
+		{`{"keys":[1,{"use":"jwt-svid","good":1,` + of + `,{"use":"jwt-svid",` + of + `]}`, 1, ""},
+		{`{}`, 0, `it has no member "keys"`},
+		{``, 0, "it is no JSON object"},
+	} {
+		keys, err := Usable(json.RawMessage(c.bundle), unusable)
+		if keys != c.keys || (err == nil) != (c.why == "") || err != nil && !strings.HasPrefix(err.Error(), c.why) {
+			t.Errorf("%s: %d keys, %v", c.bundle, keys, err)
+		}
+	}
+}
+
+// A private key in a bundle is named, since whoever reads the bundle can sign tokens. Its public part counts as before.
+func TestAPrivateKeyInABundle(t *testing.T) {
+	name := t.TempDir() + "/bundle.json"
+	for entries, want := range map[string]string{
+		`{"use":"jwt-svid","kid":"a","kty":"EC"},{"use":"jwt-svid","kid":"b","kty":"EC","d":"AQ"}`: "entry 1",
+		`{"use":"x509-svid","kty":"RSA","d":"AQ"},{"kty":"oct","k":"AQ"}`:                          "entry 0",
+		`1,{"kty":"oct","k":"AQ"}`:                       "entry 1",
+		`{"use":"jwt-svid","kid":"a","kty":"EC","D":""}`: "",
+	} {
+		write(t, name, `{"keys":[`+entries+`]}`)
+		_, o := watch(t, nil, Spec{Domain: "example.org", Source: name})
+		if want == "" {
+			o.wantLines(t, 0, "bundle has a private key")
+			continue
+		}
+		o.wantLines(t, 1, "bundle has a private key domain example.org source "+name+" "+want+" why it has the private part of a key")
 	}
 }

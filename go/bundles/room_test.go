@@ -8,7 +8,7 @@ import (
 	"testing"
 	"time"
 
-	"svid.example/go/v2/internal/agenttest"
+	"svid.example/go/v3/internal/agenttest"
 )
 
 // bracketed is a bundle with so many brackets, each of which takes the validator a kilobyte of memory.

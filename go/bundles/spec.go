@@ -8,7 +8,7 @@ import (
 	"strings"
 	"time"
 
-	"svid.example/go/v2/svid"
+	"svid.example/go/v3/svid"
 )
 
 // A Spec says where bundles come from: one trust domain's from a file or an https address, or those of many from a folder

@@ -9,7 +9,7 @@ import (
 	"strings"
 	"time"
 
-	"svid.example/go/v2/svid"
+	"svid.example/go/v3/svid"
 )
 
 // Between two attempts to reach a Workload API.

@@ -8,9 +8,9 @@ import (
 	"testing"
 	"time"
 
-	"svid.example/go/v2/internal/agenttest"
-	"svid.example/go/v2/internal/patience"
-	"svid.example/go/v2/workload"
+	"svid.example/go/v3/internal/agenttest"
+	"svid.example/go/v3/internal/patience"
+	"svid.example/go/v3/workload"
 )
 
 // bare is a bundle as the Workload API of SPIRE gives it: no key says its use. used is what the validator is given of it.

@@ -11,7 +11,7 @@ import (
 	"errors"
 	"fmt"
 
-	"svid.example/go/v2/svid"
+	"svid.example/go/v3/svid"
 )
 
 // An Owner says whose a claim is. The library makes it, of a member's life or of a caller, and of the token's expiry.

@@ -4,7 +4,7 @@ import (
 	"context"
 	"testing"
 
-	"svid.example/go/v2/svid"
+	"svid.example/go/v3/svid"
 )
 
 // Other audiences and callers count at once; what can't be meant changes nothing; and what was accepted stays used.

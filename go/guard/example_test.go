@@ -9,10 +9,10 @@ import (
 	"path/filepath"
 	"strings"
 
-	"svid.example/go/v2/bundles"
-	"svid.example/go/v2/guard"
-	"svid.example/go/v2/internal/issuer"
-	"svid.example/go/v2/svid"
+	"svid.example/go/v3/bundles"
+	"svid.example/go/v3/guard"
+	"svid.example/go/v3/internal/issuer"
+	"svid.example/go/v3/svid"
 )
 
 // A service that accepts each token once, over restarts too.

@@ -3,13 +3,11 @@ package guard
 import (
 	"context"
 	"encoding/json"
-	"errors"
-	"strings"
 	"sync"
 	"sync/atomic"
 
-	"svid.example/go/v2/bundles"
-	"svid.example/go/v2/svid"
+	"svid.example/go/v3/bundles"
+	"svid.example/go/v3/internal/server"
 )
 
 // following is what the guard follows: the sources of its bundles.
@@ -97,6 +95,9 @@ func (g *Guard) Admit(audiences, allow []string) error {
 // Reload reads the files of bundles now, and has each address asked now.
 func (g *Guard) Reload() { g.follows.watcher.Load().Reload() }
 
+// FileFault is what is wrong with a file or a folder of bundles, as it was read last: the last good bundle stays. It is nil where nothing is.
+func (g *Guard) FileFault() error { return g.follows.watcher.Load().FileFault() }
+
 // next lets another watcher count, and back the one before it.
 func (f *following) next() int {
 	f.mu.Lock()
@@ -133,11 +134,4 @@ func (g *Guard) take(number int, domains map[string]json.RawMessage) error {
 
 // Unusable says why a key of a bundle verifies no token, or nothing, for bundles.Options.Unusable. So many bits has an RSA key at
 // most.
-func Unusable(rsaBits int) func(key json.RawMessage) string {
-	return func(key json.RawMessage) string {
-		if _, err := (svid.KeyringOptions{RSABits: rsaBits}).ParseKey(key); errors.Is(err, svid.ErrKey) {
-			return strings.TrimPrefix(err.Error(), "svid: ")
-		}
-		return ""
-	}
-}
+func Unusable(rsaBits int) func(key json.RawMessage) string { return server.Unusable(rsaBits) }

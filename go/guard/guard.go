@@ -17,17 +17,19 @@ import (
 	"io"
 	"net"
 	"net/http"
+	"path/filepath"
 	"runtime/debug"
 	"sync"
 	"time"
 
-	"svid.example/go/v2/bundles"
-	"svid.example/go/v2/carriers"
-	"svid.example/go/v2/claims"
-	"svid.example/go/v2/internal/server"
-	"svid.example/go/v2/journal"
-	"svid.example/go/v2/svid"
-	"svid.example/go/v2/svidhttp"
+	"svid.example/go/v3/bundles"
+	"svid.example/go/v3/carriers"
+	"svid.example/go/v3/claims"
+	"svid.example/go/v3/claims/local"
+	"svid.example/go/v3/internal/server"
+	"svid.example/go/v3/journal"
+	"svid.example/go/v3/svid"
+	"svid.example/go/v3/svidhttp"
 )
 
 // A Mode is what an acceptance means for the next time that the token comes.
@@ -87,9 +89,9 @@ type Options struct {
 	Bundles   []bundles.Spec // where the trust bundles come from: bundles.Parse, bundles.Folder, bundles.WorkloadAPI
 	Allow     []string       // patterns of the SPIFFE IDs that may call (svid.Allows); nil allows all, and an empty list is an error
 	Mode      Mode           // "" is Once, or Strict where Store is given
-	Caller    string         // in mode Bound: what names the caller of a request for Protect and Handler, as --caller of svidd has it (docs/SIDECAR-REFERENCE.md); "peer" is the address of the connection to Protect, and "principal" the first URI of the client's certificate there. "" where WithCaller alone says it
+	Caller    string         // in mode Bound, and to report a second caller of a token in mode Reuse: what names the caller of a request for Protect and Handler, as --caller of svidd has it (docs/SIDECAR-REFERENCE.md); "peer" is the address of the connection to Protect, and "principal" the first URI of the client's certificate there. "" where WithCaller alone says it
 	State     string         // the folder that keeps what was accepted over restarts; "" for none
-	Store     claims.Store   // the group's: of package claims/redis, claims/postgres or claims/nats, opened with Terms. In modes Strict and Bound each token is claimed there; in all but Strict withdrawals are read there. Close closes it
+	Store     claims.Store   // the group's: of package claims/redis, claims/postgres or claims/nats, opened with Terms. In modes Strict and Bound each token is claimed there; in all but Strict withdrawals are read there. Close closes it. In mode Bound nil is a store in the folder claims of State, for this guard alone
 	Log       carriers.Log   // of a group in mode Once: Options of package jetstream; nil without one
 	Longest   uint64         // seconds that a token may still live; 0 is 3600
 	Ahead     uint64         // seconds that the clocks of the group may differ; 0 is 30, and Exactly is 0
@@ -141,10 +143,10 @@ func (o Options) usual() (Options, error) {
 		return o, errors.New("guard: Options.State is empty: in mode once the record is kept there, since a token that was accepted before a restart must not be accepted after it")
 	case o.Mode == Strict && o.Store == nil:
 		return o, errors.New("guard: Options.Store is nil: in mode strict each token is claimed in the group's store")
-	case o.Mode == Bound && o.Store == nil:
-		return o, errors.New("guard: Options.Store is nil: in mode bound the group's store has which caller used a token first")
-	case o.Mode != Bound && o.Caller != "":
-		return o, errors.New("guard: Options.Caller is for mode bound: in the others it does not count who presents a token")
+	case o.Mode == Bound && o.Store == nil && o.State == "":
+		return o, errors.New("guard: Options.Store and Options.State are empty: in mode bound the group's store has which caller used a token first, or the state folder of a single guard")
+	case o.Mode != Bound && o.Mode != Reuse && o.Caller != "":
+		return o, errors.New("guard: Options.Caller is for modes bound and reuse: in the others it does not count who presents a token")
 	case o.Mode != Once && o.Log != nil:
 		return o, errors.New("guard: Options.Log is for mode once, whose members tell each other of their uses: a group of another mode shares Options.Store")
 	case o.Mode != Once && o.Mode != Strict && o.Mode != Bound && o.Mode != Reuse:
@@ -243,6 +245,10 @@ func New(o Options) (g *Guard, err error) {
 		}
 		kept, id = g.journal, g.journal.ValidatorID()
 	}
+	if o.Mode == Bound && o.Store == nil {
+		o.Store = local.New(local.Options{Dir: filepath.Join(o.State, "claims"), Terms: Terms(o.Longest, o.Ahead), Now: o.Now})
+		g.options.Store = o.Store
+	}
 	if o.Caller != "" {
 		if g.caller, err = server.ParseCaller(o.Caller); err != nil {
 			return g, err
@@ -259,6 +265,7 @@ func New(o Options) (g *Guard, err error) {
 	if err := g.Follow(o.Bundles); err != nil {
 		return g, err
 	}
+	g.engine.Missing = func() error { return g.follows.watcher.Load().Fault() }
 	g.engine.Metrics.BundleAges = func() map[string]time.Duration { return g.follows.watcher.Load().Ages() }
 	return g, nil
 }
@@ -514,7 +521,20 @@ func (g *Guard) Watched() http.Handler { return g.engine.Watched() }
 
 // Admin answers on svidd's admin socket. Nothing of it may be reachable by who may not withdraw tokens. reload is called on
 // POST /reload.
-func (g *Guard) Admin(reload func()) http.Handler { return g.engine.Admin(reload) }
+func (g *Guard) Admin(reload func()) http.Handler {
+	return g.AdminWith(func(context.Context) (Reloaded, error) { reload(); return Reloaded{Changed: []string{}}, nil })
+}
+
+// A Reloaded says which options a reload changed, and which of those count only after a restart.
+type Reloaded = server.Reloaded
+
+// AdminWith is Admin where POST /reload says what became of it. reload returns once all was read, or ctx has ended; its error is what the answer says.
+func (g *Guard) AdminWith(reload func(ctx context.Context) (Reloaded, error)) http.Handler {
+	return g.engine.Admin(reload)
+}
+
+// NoteReload lets the metrics say how a reload ended, which who runs the guard made.
+func (g *Guard) NoteReload(err error) { g.engine.Metrics.Reloaded(err) }
 
 // CheckBundle is the validator's own judgment of one bundle, for bundles.Options.Check.
 func CheckBundle(domain string, document json.RawMessage) error {

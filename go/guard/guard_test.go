@@ -18,14 +18,14 @@ import (
 	"testing"
 	"time"
 
-	"svid.example/go/v2/bundles"
-	"svid.example/go/v2/carriers"
-	"svid.example/go/v2/claims"
-	"svid.example/go/v2/claims/memory"
-	"svid.example/go/v2/internal/issuer"
-	"svid.example/go/v2/internal/patience"
-	"svid.example/go/v2/internal/server"
-	"svid.example/go/v2/svid"
+	"svid.example/go/v3/bundles"
+	"svid.example/go/v3/carriers"
+	"svid.example/go/v3/claims"
+	"svid.example/go/v3/claims/memory"
+	"svid.example/go/v3/internal/issuer"
+	"svid.example/go/v3/internal/patience"
+	"svid.example/go/v3/internal/server"
+	"svid.example/go/v3/svid"
 )
 
 var example = func() *issuer.Issuer {
@@ -149,7 +149,7 @@ func TestOptionsThatCanNotBeMeant(t *testing.T) {
 		"Options.State is empty":     func(o *Options) { o.State = "" },
 		"Options.Store is nil":       func(o *Options) { o.Mode = Strict },
 		"Options.Log is for":         func(o *Options) { o.Mode, o.Log = Reuse, slowLog{} },
-		"used a token first":         func(o *Options) { o.Mode, o.Caller = Bound, "peer" },
+		"used a token first":         func(o *Options) { o.Mode, o.Caller, o.State = Bound, "peer", "" },
 		"Options.Caller is for mode": func(o *Options) { o.Caller = "peer" },
 		"names no header":            func(o *Options) { o.Mode, o.Caller, o.Store = Bound, "header", new(memory.Store) },
 		`Options.Mode "twice"`:       func(o *Options) { o.Mode = "twice" },

@@ -4,7 +4,7 @@ import (
 	"errors"
 	"os"
 
-	"svid.example/go/v2/svid"
+	"svid.example/go/v3/svid"
 )
 
 // A Report is what a state folder holds.

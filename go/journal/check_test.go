@@ -10,7 +10,7 @@ import (
 	"strings"
 	"testing"
 
-	"svid.example/go/v2/svid"
+	"svid.example/go/v3/svid"
 )
 
 // frame is a frame of a file, as docs/FORMATS.md has it. A snapshot has the number 0. (Format 1 filled its frames up to a multiple of

@@ -7,8 +7,8 @@ import (
 	"os"
 	"path/filepath"
 
-	"svid.example/go/v2/journal"
-	"svid.example/go/v2/svid"
+	"svid.example/go/v3/journal"
+	"svid.example/go/v3/svid"
 )
 
 // A use is on the disk once AppendUses returns, and a later process finds it there.

@@ -14,8 +14,8 @@ import (
 	"syscall"
 	"time"
 
-	"svid.example/go/v2/internal/regular"
-	"svid.example/go/v2/svid"
+	"svid.example/go/v3/internal/regular"
+	"svid.example/go/v3/svid"
 )
 
 // The names of the folder's files.

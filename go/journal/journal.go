@@ -37,7 +37,7 @@ import (
 	"time"
 	"unsafe"
 
-	"svid.example/go/v2/svid"
+	"svid.example/go/v3/svid"
 )
 
 // ErrClosed is what a call returns after Close.

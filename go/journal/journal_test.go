@@ -19,9 +19,9 @@ import (
 	"testing"
 	"time"
 
-	"svid.example/go/v2/internal/patience"
-	"svid.example/go/v2/internal/regular"
-	"svid.example/go/v2/svid"
+	"svid.example/go/v3/internal/patience"
+	"svid.example/go/v3/internal/regular"
+	"svid.example/go/v3/svid"
 )
 
 // batch is a batch of one use, whose key begins with n. It has 82 bytes, and its frame 120.

@@ -11,8 +11,8 @@ import (
 	"testing"
 	"time"
 
-	"svid.example/go/v2/internal/patience"
-	"svid.example/go/v2/svid"
+	"svid.example/go/v3/internal/patience"
+	"svid.example/go/v3/svid"
 )
 
 // useOf is the use of batch(n).

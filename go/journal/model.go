@@ -12,7 +12,7 @@ import (
 	"sync"
 	"syscall"
 
-	"svid.example/go/v2/svid"
+	"svid.example/go/v3/svid"
 )
 
 // A Model is a disk of which a simulation says when a call fails, and when the power is lost. svidd has none: it is for tests.

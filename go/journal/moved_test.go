@@ -9,7 +9,7 @@ import (
 	"strings"
 	"testing"
 
-	"svid.example/go/v2/svid"
+	"svid.example/go/v3/svid"
 )
 
 // moves are what may happen to a state folder that is open: another process could open its path then, or nobody would find what is

@@ -12,7 +12,7 @@ import (
 	"strings"
 	"testing"
 
-	"svid.example/go/v2/svid"
+	"svid.example/go/v3/svid"
 )
 
 // oldFolders are those of testdata, and how many batches each has, from 0 on.

@@ -7,7 +7,7 @@ import (
 	"io"
 	"os"
 
-	"svid.example/go/v2/svid"
+	"svid.example/go/v3/svid"
 )
 
 // A File is what a snapshot or a journal holds.

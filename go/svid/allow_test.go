@@ -6,7 +6,7 @@ import (
 	"strings"
 	"testing"
 
-	"svid.example/go/v2/svid"
+	"svid.example/go/v3/svid"
 )
 
 func TestAllows(t *testing.T) {

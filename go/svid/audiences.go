@@ -73,5 +73,5 @@ func (v *Validator) readOnFrom(before *Validator) error {
 
 // keep keeps a copy of the text of the bundles that the validator has.
 func (v *Validator) keep(bundles []byte) {
-	v.text, v.large = append([]byte(nil), bundles...), len(bundles) > largeBundles
+	v.text = append([]byte(nil), bundles...)
 }

@@ -5,7 +5,7 @@ import (
 	"fmt"
 	"testing"
 
-	"svid.example/go/v2/svid"
+	"svid.example/go/v3/svid"
 )
 
 // rowsOfValues are values one after the other, of which some are bad, empty, large, or of many uses.

@@ -6,7 +6,7 @@ import (
 	"log"
 	"time"
 
-	"svid.example/go/v2/svid"
+	"svid.example/go/v3/svid"
 )
 
 // A service checks a token: the keyring verifies the signature, and the

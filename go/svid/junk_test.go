@@ -17,8 +17,8 @@ import (
 	"time"
 	"unsafe"
 
-	"svid.example/go/v2/internal/issuer"
-	"svid.example/go/v2/svid"
+	"svid.example/go/v3/internal/issuer"
+	"svid.example/go/v3/svid"
 )
 
 // mebibyte is how much svidd reads of a bundle.

@@ -3,15 +3,15 @@ package svid
 /*
 #include "svid.h"
 
-static uint32_t ask(svid_validator *v, _GoString_ token, uint8_t *out, size_t out_len, svid_told *told) {
-    return svid_validator_ask(v, (const uint8_t *)_GoStringPtr(token), _GoStringLen(token), SVID_MOST_CANDIDATES, out, out_len, told);
-}
 // The handles come as the addresses of their first fields: so Go does not look for its pointers in them.
 static uint32_t ask_token(uint64_t *v, uint64_t *t, uint8_t *out, size_t out_len, svid_told *told) {
     return svid_validator_ask_token((svid_validator *)v, (svid_token *)t, SVID_MOST_CANDIDATES, out, out_len, told);
 }
-static uint32_t question(svid_bundles *b, _GoString_ token, size_t number, svid_question *asked, svid_told *told) {
-    return svid_bundles_question(b, (const uint8_t *)_GoStringPtr(token), _GoStringLen(token), number, asked, told);
+static uint32_t exchange(uint64_t *v, uint64_t *b, svid_told *told) {
+    return svid_validator_renew_by((svid_validator *)v, (svid_bundles *)b, told);
+}
+static uint32_t question(uint64_t *b, _GoString_ token, size_t number, svid_question *asked, svid_told *told) {
+    return svid_bundles_question((svid_bundles *)b, (const uint8_t *)_GoStringPtr(token), _GoStringLen(token), number, asked, told);
 }
 static uint32_t judge_alone(svid_bundles *b, const svid_setting *setting, const uint8_t *own, size_t own_len, const size_t *lens, size_t lens_len,
                             const svid_question *yes, size_t yes_len, _GoString_ token, uint8_t *out, size_t out_len, svid_use *used, svid_told *told) {
@@ -68,7 +68,6 @@ type asker struct {
 	handle C.svid_validator // It has the trust bundles, and its record stays empty.
 	lent   C.svid_bundles   // It has none, but between two calls of exchange.
 	told   C.svid_told
-	asked  C.svid_question
 	rows   []byte
 }
 
@@ -191,6 +190,9 @@ const MaxCandidates = C.SVID_MOST_CANDIDATES
 func (k *Keyring) Candidates(token string) ([]Candidate, error) {
 	k.mu.RLock()
 	defer k.mu.RUnlock()
+	if k.closed { // (A token that is refused by itself asks no handle.)
+		return nil, ErrClosed
+	}
 	a := <-k.askers
 	defer func() { k.askers <- a }()
 	return a.candidates(token, k.keys)
@@ -235,15 +237,21 @@ func (k *Keyring) question(token string, number int, keys *keyCache) (asked Ques
 
 // candidates returns the candidates with their questions.
 func (a *asker) candidates(token string, keys *keyCache) (all []Candidate, err error) {
-	rows, err := a.list(func() C.uint32_t { return C.ask(&a.handle, token, start(a.rows), C.size_t(len(a.rows)), &a.told) })
+	t := NewToken(token)
+	defer t.Close()
+	if err := t.read(&a.told); err != nil {
+		return nil, err
+	}
+	makers, err := a.makers(nil, new(signing), &t, keys)
 	if err != nil {
 		return nil, err
 	}
-	for len(rows) > 0 {
-		var c Candidate
-		rows = rows[copy(c.Question[:], rows):]
-		c.Algorithm, c.Key, rows = keys.row(rows)
-		all = append(all, c)
+	for number, m := range makers {
+		asked, err := a.question(token, number)
+		if err != nil {
+			return nil, err
+		}
+		all = append(all, Candidate{asked, m.algorithm, m.key})
 	}
 	return all, nil
 }
@@ -256,9 +264,7 @@ type maker struct {
 
 // makers appends the keys that may have signed a token to room, and gives s its signature, and what that is made over.
 func (a *asker) makers(room []maker, s *signing, t *Token, keys *keyCache) ([]maker, error) {
-	rows, err := a.list(func() C.uint32_t {
-		return C.ask_token(&a.handle.word, &t.handle.word, start(a.rows), C.size_t(len(a.rows)), &a.told)
-	})
+	rows, err := askToken(&a.handle, t, &a.rows, &a.told)
 	if err != nil {
 		return nil, err
 	}
@@ -273,30 +279,91 @@ func (a *asker) makers(room []maker, s *signing, t *Token, keys *keyCache) ([]ma
 	return room, nil
 }
 
-// list returns what a call of the library writes to rows, which are made longer where they are too short. It is good until the next list.
-func (a *asker) list(call func() C.uint32_t) ([]byte, error) {
-	status := call()
-	for status == C.SVID_TOO_SHORT {
-		a.rows = make([]byte, a.told.len)
-		status = call()
+// askToken returns what the library says of a token that was read and its keys, in room, which is made longer where it is too short. It is good
+// until the next call with this room.
+func askToken(v *C.svid_validator, t *Token, room *[]byte, told *C.svid_told) ([]byte, error) {
+	for {
+		status := C.ask_token(&v.word, &t.handle.word, start(*room), C.size_t(len(*room)), told)
+		if status == C.SVID_TOO_SHORT {
+			*room = make([]byte, told.len)
+			continue
+		}
+		if err := failure(status, told); err != nil {
+			return nil, err
+		}
+		return (*room)[:told.len], nil
 	}
-	if err := failure(status, &a.told); err != nil {
-		return nil, err
-	}
-	return a.rows[:a.told.len], nil
 }
 
 // question returns the question of the candidate with this number.
 func (a *asker) question(token string, number int) (Question, error) {
-	if err := a.exchange(); err != nil {
-		return Question{}, err
+	return questionOf(&a.handle, &a.lent, token, number, &a.told)
+}
+
+// questionOf returns the question of the candidate with this number, by the bundles of a validator, which it lends to a handle that has none.
+func questionOf(v *C.svid_validator, lent *C.svid_bundles, token string, number int, told *C.svid_told) (asked Question, err error) {
+	if err := exchange(v, lent, told); err != nil {
+		return asked, err
 	}
-	defer func() { _ = a.exchange() }()
-	status := C.question(&a.lent, token, C.size_t(number), &a.asked, &a.told)
-	if err := failure(status, &a.told); err != nil {
-		return Question{}, err
+	defer func() { _ = exchange(v, lent, told) }()
+	status := C.question(&lent.word, token, C.size_t(number), (*C.svid_question)(unsafe.Pointer(&asked)), told)
+	return asked, failure(status, told)
+}
+
+// findBy lets the token have the key whose question is among yes, if that is one of those that are tried for it.
+func (v *Validator) findBy(t *Token, yes []Question) error {
+	if len(yes) == 0 {
+		return nil
 	}
-	return *(*Question)(unsafe.Pointer(&a.asked)), nil
+	if err := t.Read(); err != nil {
+		return unlessRefused(err)
+	}
+	v.mu.Lock()
+	defer v.mu.Unlock()
+	rows, err := askToken(&v.handle, t, &v.rows, &v.told)
+	if err != nil {
+		return unlessRefused(err)
+	}
+	if v.lent.word == 0 {
+		status := C.svid_bundles_open(&v.lent, start(noBundles), C.size_t(len(noBundles)), &v.told)
+		if err := failure(status, &v.told); err != nil {
+			return err
+		}
+	}
+	s := signing{text: t.text[:binary.BigEndian.Uint32(rows)]}
+	s.signature, rows = field(rows[4:])
+	for number := 0; len(rows) > 0; number++ {
+		var key []byte
+		_, rows = field(rows) // (the algorithm)
+		key, rows = field(rows)
+		asked, err := questionOf(&v.handle, &v.lent, t.text, number, &v.told)
+		if err != nil {
+			return err
+		}
+		if isAmong(asked, yes) {
+			t.found = s.found(&Key{text: string(key)})
+			return nil
+		}
+	}
+	return nil
+}
+
+// unlessRefused is the error, and nil for a refusal: a check says which refusal is the first.
+func unlessRefused(err error) error {
+	var refusal Refusal
+	if errors.As(err, &refusal) {
+		return nil
+	}
+	return err
+}
+
+func isAmong(asked Question, yes []Question) bool {
+	for _, one := range yes {
+		if one == asked {
+			return true
+		}
+	}
+	return false
 }
 
 // field cuts a text with its length before it from the rows.
@@ -389,9 +456,9 @@ func (k *Keyring) tried(r *trial, t *Token) (made, error) {
 	return made{makers[number].key, number, keys}, nil
 }
 
-// exchange lends the bundles to lent, or takes them back. It reads nothing, and takes no memory.
-func (a *asker) exchange() error {
-	return failure(C.svid_validator_renew_by(&a.handle, &a.lent, &a.told), &a.told)
+// exchange lends the bundles of a validator to lent, or takes them back. It reads nothing, and takes no memory.
+func exchange(v *C.svid_validator, lent *C.svid_bundles, told *C.svid_told) error {
+	return failure(C.exchange(&v.word, &lent.word, told), told)
 }
 
 // A Judgment is what Keyring.Judge goes by.
@@ -421,16 +488,24 @@ func (k *Keyring) Judge(by Judgment, now uint64, token string, yes []Question) (
 	defer k.mu.RUnlock()
 	a := <-k.askers
 	defer func() { k.askers <- a }()
-	if err := a.exchange(); err != nil {
+	if err := exchange(&a.handle, &a.lent, &a.told); err != nil {
 		return Accepted{}, err
 	}
-	defer func() { _ = a.exchange() }() // (both handles are open)
+	defer func() { _ = exchange(&a.handle, &a.lent, &a.told) }() // (both handles are open)
 	status := C.judge_alone(&a.lent, &setting, start(own), C.size_t(len(own)), first(lens), C.size_t(len(lens)),
 		questions(yes), C.size_t(len(yes)), token, start(id), C.size_t(len(id)), &used, &a.told)
 	if err := failure(status, &a.told); err != nil {
 		return Accepted{}, err
 	}
 	return Accepted{ID: string(id[:a.told.len]), Use: useOf(&used, false)}, nil
+}
+
+// questions is the address of the first question, and nil where there is none.
+func questions(yes []Question) *C.svid_question {
+	if len(yes) == 0 {
+		return nil
+	}
+	return (*C.svid_question)(unsafe.Pointer(&yes[0]))
 }
 
 // findMaker is the index of the first key that made the signature, or -1. ErrNoMemory: no key is known to have

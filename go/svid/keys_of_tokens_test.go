@@ -6,7 +6,7 @@ import (
 	"strings"
 	"testing"
 
-	"svid.example/go/v2/internal/issuer"
+	"svid.example/go/v3/internal/issuer"
 )
 
 func newIssuer(t testing.TB, domain string) *issuer.Issuer {

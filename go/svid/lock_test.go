@@ -9,8 +9,8 @@ import (
 	"testing"
 	"time"
 
-	"svid.example/go/v2/internal/issuer"
-	"svid.example/go/v2/internal/patience"
+	"svid.example/go/v3/internal/issuer"
+	"svid.example/go/v3/internal/patience"
 )
 
 // The race detector does not see what the C library writes. So these tests hold a lock, or all handles, and want each call to
@@ -130,7 +130,6 @@ func TestEachCallOfAValidatorHoldsItsLock(t *testing.T) {
 		"Accept":       func() { _, _ = v.Accept(k, now, token) },
 		"Answer":       func() { _, _ = v.Answer(now, summary) },
 		"Check":        func() { _, _ = v.Check(now, token, yes) },
-		"CheckClaimed": func() { _, _ = v.CheckClaimed(now, token, yes, batchOf(judged.Use)) },
 		"CheckToken":   func() { _, _ = v.CheckToken(now, &read[0]) },
 		"Close":        v.Close,
 		"Come":         func() { _, _ = v.Come(1) },
@@ -139,7 +138,6 @@ func TestEachCallOfAValidatorHoldsItsLock(t *testing.T) {
 		"Found":        func() { _, _, _ = v.Found(now, 1, 0, [32]byte{}, Found{}, &read[2]) },
 		"GoOn":         func() { _ = v.GoOn() },
 		"Judge":        func() { _, _ = v.Judge(now, token, yes) },
-		"JudgeAgain":   func() { _ = v.JudgeAgain(now, judged) },
 		"JudgeRequest": func() { _, _, _ = v.JudgeRequest(now, 1, 0, &read[3]) },
 		"JudgeToken":   func() { _, _ = v.JudgeToken(now, &read[1]) },
 		"Judges":       func() { _ = v.Judges() },
@@ -167,7 +165,6 @@ func TestEachCallOfAValidatorHoldsItsLock(t *testing.T) {
 		"WalkAnswer":   func() { _, _ = v.WalkAnswer(summary, 1000) },
 		"WalkSummary":  func() { _, _ = v.WalkSummary(0) },
 		"Withdraw":     func() { _, _ = v.Withdraw(now, judged.Use.Key, now+300) },
-		"WithdrawOnce": func() { _, _ = v.WithdrawOnce(now, judged.Use.Key, now+300) },
 		"Wrote":        func() { _, _ = v.Wrote(1, 0, true) },
 
 		"WithdrawalCome":    func() { _, _, _ = v.WithdrawalCome(1) },

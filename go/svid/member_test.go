@@ -5,7 +5,7 @@ import (
 	"fmt"
 	"testing"
 
-	"svid.example/go/v2/svid"
+	"svid.example/go/v3/svid"
 )
 
 const lasts = longest + 2*10
@@ -244,9 +244,6 @@ func TestATokenIsAcceptedByItsClaim(t *testing.T) {
 	readAll(t, v, moment, 2, batchOf(far), 9)
 	if _, err := v.Judge(moment, other, more); err != svid.Replayed {
 		t.Errorf("a claim beside the record: %v", err)
-	}
-	if err := v.JudgeAgain(moment, claimed); err != svid.Replayed {
-		t.Errorf("a claim beside the record, by the use: %v", err)
 	}
 }
 

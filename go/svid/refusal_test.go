@@ -4,7 +4,7 @@ import (
 	"strings"
 	"testing"
 
-	"svid.example/go/v2/svid"
+	"svid.example/go/v3/svid"
 )
 
 // Each refusal has a sentence of its own, for people.

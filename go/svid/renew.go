@@ -9,10 +9,6 @@ static void trim(void) { malloc_trim(0); }
 #else
 static void trim(void) {}
 #endif
-
-static uint32_t first(svid_validator *v, _GoString_ token, uint8_t *out, size_t out_len, svid_told *told) {
-    return svid_validator_ask(v, (const uint8_t *)_GoStringPtr(token), _GoStringLen(token), SVID_MOST_CANDIDATES, out, out_len, told);
-}
 */
 import "C"
 
@@ -126,46 +122,6 @@ func (v *Validator) renew(b *C.svid_bundles, text []byte) error {
 	v.bundles++
 	v.keep(text)
 	return nil
-}
-
-// largeBundles is how many bytes bundles have that may have more than a hundred keys.
-const largeBundles = 4096
-
-// answered is yes, or nothing if none of these questions is of a key that is tried for the token (MaxCandidates). That is
-// so if the bundles were replaced since: the check would hash the token for each of its candidates, to find none. The caller
-// holds the lock. The error is ErrNoMemory: without it a good token would be refused.
-func (v *Validator) answered(token string, yes []Question) ([]Question, error) {
-	if len(yes) == 0 || !v.large {
-		return yes, nil
-	}
-	status := v.listFirst(token)
-	for status == C.SVID_TOO_SHORT {
-		v.rows = make([]byte, v.told.len)
-		status = v.listFirst(token)
-	}
-	if status == C.SVID_NO_MEMORY {
-		return nil, ErrNoMemory
-	}
-	if status != C.SVID_OK {
-		return nil, nil
-	}
-	for rows := v.rows[:v.told.len]; len(rows) > 0; {
-		var asked Question
-		rows = rows[copy(asked[:], rows):]
-		_, rows = field(rows)
-		_, rows = field(rows)
-		for _, one := range yes {
-			if one == asked {
-				return yes, nil
-			}
-		}
-	}
-	return nil, nil
-}
-
-// listFirst lists the keys that are tried for the token.
-func (v *Validator) listFirst(token string) C.uint32_t {
-	return C.first(&v.handle, token, start(v.rows), C.size_t(len(v.rows)), &v.told)
 }
 
 // mostAskedBytes is how many bytes of bundles the handles of a keyring read together, if they are more than one. A handle

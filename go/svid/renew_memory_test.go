@@ -6,8 +6,8 @@ import (
 	"fmt"
 	"testing"
 
-	"svid.example/go/v2/internal/issuer"
-	"svid.example/go/v2/internal/scarce"
+	"svid.example/go/v3/internal/issuer"
+	"svid.example/go/v3/internal/scarce"
 )
 
 // Where the library has no memory for new bundles, the validator and the keyring keep the old ones, and checks judge by these.

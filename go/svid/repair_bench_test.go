@@ -5,7 +5,7 @@ import (
 	"testing"
 	"time"
 
-	"svid.example/go/v2/svid"
+	"svid.example/go/v3/svid"
 )
 
 // BenchmarkWalk walks over a record of a million uses: for a summary, and for an answer to a summary that agrees in all buckets but one. It also

@@ -8,7 +8,7 @@ import (
 	"strings"
 	"testing"
 
-	"svid.example/go/v2/svid"
+	"svid.example/go/v3/svid"
 )
 
 // fill gives a validator n uses that expire from 1 second on.

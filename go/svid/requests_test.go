@@ -6,7 +6,7 @@ import (
 	"testing"
 	"time"
 
-	"svid.example/go/v2/svid"
+	"svid.example/go/v3/svid"
 )
 
 // all is what a member knows that judges tokens.

@@ -16,9 +16,9 @@ import (
 	_ "crypto/sha256" // SHA-256 of the algorithms, for Go's own verifiers
 	_ "crypto/sha512" // SHA-384 and SHA-512
 	"crypto/x509"
+	"encoding/json"
 	"errors"
 	"fmt"
-	"strings"
 )
 
 const (
@@ -154,7 +154,7 @@ func parseKey(jwk []byte, rsaBits int) *Key {
 		}
 	}
 	if der == nil {
-		k.fault = keyError(worst, rsaBits)
+		k.fault = keyError(worst, jwk, rsaBits)
 		return k
 	}
 	var err error
@@ -178,13 +178,34 @@ var keyFaults = map[C.uint32_t]string{
 // lists:end
 
 // keyError is ErrKey with the reason.
-func keyError(said C.uint32_t, rsaBits int) error {
-	// (what the C library has as its parameter most_bits is a number here)
+func keyError(said C.uint32_t, jwk []byte, rsaBits int) error {
 	says, ok := keyFaults[said]
-	if !ok {
+	switch {
+	case said == C.SVID_KEY_BITS:
+		says = bitsFault(jwk, rsaBits)
+	case !ok:
 		says = wordsOf(said).says
 	}
-	return fmt.Errorf("%w: %s", ErrKey, strings.Replace(says, "most_bits", fmt.Sprint(rsaBits), 1))
+	return fmt.Errorf("%w: %s", ErrKey, says)
+}
+
+// bitsFault says which bound the n of an RSA key does not keep, of the three that there are.
+func bitsFault(jwk []byte, rsaBits int) string {
+	room := make([]byte, C.SVID_SPKI_ROOM)
+	var told C.svid_told
+	for i := range algorithms {
+		switch C.key_spki(start(jwk), C.size_t(len(jwk)), algorithms[i].name, mostRSABits, start(room), &told) {
+		case C.SVID_OK:
+			return fmt.Sprintf("the key's n has more than the %d bits that were chosen (RSABits, or --rsa-bits)", rsaBits)
+		case C.SVID_NO_MEMORY:
+			return wordsOf(C.SVID_KEY_BITS).says
+		}
+	}
+	var key struct{ N string }
+	if err := json.Unmarshal(jwk, &key); err == nil && len(key.N) > mostRSABits/8 { // (a character is 6 bits, so a short one has fewer)
+		return fmt.Sprintf("the key's n has more than %d bits, the most that a key may have", mostRSABits)
+	}
+	return fmt.Sprintf("the key's n has fewer than %d bits", leastRSABits)
 }
 
 // JSON returns the key's JWK.

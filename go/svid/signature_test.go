@@ -14,8 +14,8 @@ import (
 	"strings"
 	"testing"
 
-	"svid.example/go/v2/internal/issuer"
-	"svid.example/go/v2/svid"
+	"svid.example/go/v3/internal/issuer"
+	"svid.example/go/v3/svid"
 )
 
 // exampleKey is example's key for the algorithm.

@@ -16,8 +16,8 @@ import (
 	"sync/atomic"
 	"testing"
 
-	"svid.example/go/v2/internal/issuer"
-	"svid.example/go/v2/svid"
+	"svid.example/go/v3/internal/issuer"
+	"svid.example/go/v3/svid"
 )
 
 const (
@@ -310,135 +310,6 @@ func TestJudgeAddsNothing(t *testing.T) {
 	}
 	if _, err := v.Judge(moment, token, yes); err != svid.Replayed {
 		t.Error(err)
-	}
-}
-
-// A token that was accepted is judged again as it would be judged by itself, whatever the record has heard of it.
-func TestJudgeAgainAnswersWhatJudgeDoes(t *testing.T) {
-	const life = 100
-	token := func() string {
-		c := claims("a")
-		c["exp"] = moment + life
-		return example.Token("ES256", c)
-	}()
-	for name, hear := range map[string]func(*testing.T, *svid.Validator, []svid.Question, svid.Use){
-		"nothing": func(*testing.T, *svid.Validator, []svid.Question, svid.Use) {},
-		"its use": func(t *testing.T, v *svid.Validator, yes []svid.Question, use svid.Use) {
-			if _, err := v.Check(moment, token, yes); err != nil {
-				t.Fatal(err)
-			}
-		},
-		"another's use": func(t *testing.T, v *svid.Validator, yes []svid.Question, use svid.Use) {
-			use.ValidatorID[3]++
-			if err := v.Take(moment, batchOf(use)); err != nil {
-				t.Fatal(err)
-			}
-		},
-		"its withdrawal": func(t *testing.T, v *svid.Validator, yes []svid.Question, use svid.Use) {
-			if _, err := v.Withdraw(moment, use.Key, use.Expires); err != nil {
-				t.Fatal(err)
-			}
-		},
-		"use and withdrawal": func(t *testing.T, v *svid.Validator, yes []svid.Question, use svid.Use) {
-			if _, err := v.Check(moment, token, yes); err != nil {
-				t.Fatal(err)
-			}
-			if _, err := v.Withdraw(moment, use.Key, use.Expires); err != nil {
-				t.Fatal(err)
-			}
-		},
-	} {
-		t.Run(name, func(t *testing.T) {
-			v, k := open(t, 1), keyring(t, example.Bundles())
-			yes := verified(t, k, token)
-			accepted, err := v.Judge(moment, token, yes)
-			if err != nil {
-				t.Fatal(err)
-			}
-			hear(t, v, yes, accepted.Use)
-			for _, now := range []uint64{moment, moment + life - 1, moment + life} {
-				again := v.JudgeAgain(now, accepted)
-				if _, err := v.Judge(now, token, yes); again != err {
-					t.Errorf("at %d: again %v, by itself %v", now-moment, again, err)
-				}
-			}
-		})
-	}
-}
-
-// With other bundles the use alone does not tell the verdict, so it isn't asked.
-func TestJudgeAgainWithOtherBundles(t *testing.T) {
-	v, k := open(t, 1), keyring(t, example.Bundles())
-	token := example.Token("ES256", claims("a"))
-	yes := verified(t, k, token)
-	accepted, err := v.Judge(moment, token, yes)
-	if err != nil {
-		t.Fatal(err)
-	}
-	if err := v.SetBundles([]byte("[]")); err == nil {
-		t.Fatal("an array as bundles")
-	}
-	if err := v.JudgeAgain(moment, accepted); err != nil {
-		t.Errorf("bundles that were refused: %v", err)
-	}
-	if err := v.SetBundles(example.Bundles()); err != nil {
-		t.Fatal(err)
-	}
-	if err := v.JudgeAgain(moment, accepted); err != svid.ErrRenewed {
-		t.Errorf("new bundles: %v", err)
-	}
-	if accepted, err = v.Judge(moment, token, yes); err != nil {
-		t.Fatal(err)
-	}
-	if err := v.JudgeAgain(moment, accepted); err != nil {
-		t.Errorf("judged with the new bundles: %v", err)
-	}
-	if err := v.JudgeAgain(moment, svid.Accepted{ID: accepted.ID, Use: accepted.Use}); err != svid.ErrRenewed {
-		t.Errorf("an acceptance that no validator made: %v", err)
-	}
-	other := open(t, 1)
-	if err := other.SetBundles(example.Bundles()); err != nil {
-		t.Fatal(err)
-	}
-	if err := other.JudgeAgain(moment, accepted); err != svid.ErrRenewed {
-		t.Errorf("an acceptance of another validator: %v", err)
-	}
-	if err := v.JudgeAgain(moment+86401, accepted); err != svid.ErrJump {
-		t.Errorf("too far ahead: %v", err)
-	}
-	v.Close()
-	if err := v.JudgeAgain(moment, accepted); err != svid.ErrClosed {
-		t.Errorf("closed: %v", err)
-	}
-}
-
-// A claimed use is the one that the record gains, whenever the check comes.
-func TestCheckClaimedAddsTheClaimedUse(t *testing.T) {
-	v, k := open(t, 1), keyring(t, example.Bundles())
-	token := example.Token("ES256", claims("a"))
-	yes := verified(t, k, token)
-	judged, err := v.Judge(moment, token, yes)
-	if err != nil {
-		t.Fatal(err)
-	}
-	batch := batchOf(judged.Use)
-	if accepted, err := v.CheckClaimed(moment+5, token, yes, batch); err != nil || accepted.ID != judged.ID {
-		t.Fatalf("%+v, %v", accepted, err)
-	}
-	if _, err := v.CheckClaimed(moment+5, token, yes, batch); err != svid.Replayed {
-		t.Errorf("again: %v", err)
-	}
-	// A claim that can't be taken accepts nothing.
-	other := example.Token("ES256", claims("b"))
-	for _, bad := range [][]byte{[]byte("garbage"), batch[:81]} {
-		var fault *svid.MessageError
-		if _, err := v.CheckClaimed(moment+5, other, verified(t, k, other), bad); !errors.As(err, &fault) {
-			t.Errorf("a claim of %d bytes: %v", len(bad), err)
-		}
-	}
-	saved := save(t, v)
-	if !bytes.Contains(saved, batch[17:]) || len(saved) != len(batch) {
-		t.Errorf("the record is %x, the claim %x", saved, batch)
 	}
 }
 

@@ -5,7 +5,7 @@ import (
 	"math/rand"
 	"testing"
 
-	"svid.example/go/v2/svid"
+	"svid.example/go/v3/svid"
 )
 
 // BenchmarkTake takes uses as they come from a bucket: one a message, and several messages in a call.

@@ -119,28 +119,25 @@ func (t *Token) complete() error {
 	return nil
 }
 
-// isRefused says whether the token is refused by itself. Else it is read, or the error is ErrNoMemory.
-func (t *Token) isRefused() (bool, error) {
-	if t.isRead {
-		return false, nil
-	}
+// prepare reads the token, and takes what the key of VerifiedBy signed from it. One that can't be read shows the validator the time, too.
+func (v *Validator) prepare(now uint64, t *Token) error {
+	err := t.Read()
 	var refusal Refusal
-	err := t.read(new(C.svid_told))
 	if errors.As(err, &refusal) {
-		return true, nil
+		if err := v.Tick(now); err != nil {
+			return err
+		}
 	}
-	return false, err
+	if err != nil {
+		return err
+	}
+	return t.complete()
 }
 
 // CheckToken is Check of a token by the key that Keyring.VerifyToken has found. It
 // does not read the token again, and hashes it for no key.
 func (v *Validator) CheckToken(now uint64, t *Token) (Accepted, error) {
-	if refused, err := t.isRefused(); refused { // (The record advances all the same.)
-		return v.Check(now, t.text, nil)
-	} else if err != nil {
-		return Accepted{}, err
-	}
-	if err := t.complete(); err != nil {
+	if err := v.prepare(now, t); err != nil {
 		return Accepted{}, err
 	}
 	v.mu.Lock()
@@ -153,12 +150,7 @@ func (v *Validator) CheckToken(now uint64, t *Token) (Accepted, error) {
 // JudgeToken is Judge of a token by the key that Keyring.VerifyToken has found. It
 // does not read the token again, and hashes it for no key.
 func (v *Validator) JudgeToken(now uint64, t *Token) (Accepted, error) {
-	if refused, err := t.isRefused(); refused {
-		return v.Judge(now, t.text, nil)
-	} else if err != nil {
-		return Accepted{}, err
-	}
-	if err := t.complete(); err != nil {
+	if err := v.prepare(now, t); err != nil {
 		return Accepted{}, err
 	}
 	v.mu.Lock()

@@ -5,8 +5,8 @@ package svid_test
 import (
 	"testing"
 
-	"svid.example/go/v2/internal/scarce"
-	"svid.example/go/v2/svid"
+	"svid.example/go/v3/internal/scarce"
+	"svid.example/go/v3/svid"
 )
 
 // Tokens that were read leave no memory behind, whatever became of them.

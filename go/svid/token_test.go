@@ -5,8 +5,8 @@ import (
 	"strings"
 	"testing"
 
-	"svid.example/go/v2/internal/issuer"
-	"svid.example/go/v2/svid"
+	"svid.example/go/v3/internal/issuer"
+	"svid.example/go/v3/svid"
 )
 
 // A token that is read once is answered as one that each call reads, before and after it is closed.

@@ -2,18 +2,6 @@ package svid
 
 /*
 #include "svid.h"
-
-// The token goes to C as the Go string that it is, without a copy.
-static uint32_t check(svid_validator *v, uint64_t now, const svid_question *yes, size_t yes_len, _GoString_ token,
-                      uint8_t *out, size_t out_len, svid_use *used, svid_told *told) {
-    return svid_validator_check(v, now, yes, yes_len, (const uint8_t *)_GoStringPtr(token), _GoStringLen(token),
-                                out, out_len, used, told);
-}
-static uint32_t judge(svid_validator *v, uint64_t now, const svid_question *yes, size_t yes_len, _GoString_ token,
-                      uint8_t *out, size_t out_len, svid_use *used, svid_told *told) {
-    return svid_validator_judge(v, now, yes, yes_len, (const uint8_t *)_GoStringPtr(token), _GoStringLen(token),
-                                out, out_len, used, told);
-}
 */
 import "C"
 
@@ -58,8 +46,7 @@ type Accepted struct {
 	ID  string // the SPIFFE ID of its subject
 	Use Use    // what the record gained by it, or would gain
 
-	by      *Validator // whose verdict it is
-	bundles uint64     // which of its bundles it was judged by
+	bundles uint64 // which of the bundles of its validator it was judged by
 }
 
 // A Validator judges tokens, and keeps the record of those that were used or
@@ -87,14 +74,14 @@ type Validator struct {
 	due        C.svid_deadline
 	withdrawal C.svid_withdrawal
 
-	terms   C.svid_terms // of its whole life
-	bundles uint64       // how often there were other bundles or audiences, the first included; guarded by mu
-	text    []byte       // of the bundles; guarded by mu
-	large   bool         // they may have more keys than may be tried under the lock; guarded by mu
-	rows    []byte       // room for their candidates; guarded by mu
-	log     Log          // its Ready and Lasts, of the log that the validator reads; guarded by mu
-	answers bool         // it has a member; guarded by mu
-	allow   []string     // patterns of who may call that; nil allows all; guarded by mu
+	terms   C.svid_terms   // of its whole life
+	bundles uint64         // how often there were other bundles or audiences, the first included; guarded by mu
+	text    []byte         // of the bundles; guarded by mu
+	rows    []byte         // room for their candidates; guarded by mu
+	lent    C.svid_bundles // open once Check or Judge was given a question; it has none, but during a call; guarded by mu
+	log     Log            // its Ready and Lasts, of the log that the validator reads; guarded by mu
+	answers bool           // it has a member; guarded by mu
+	allow   []string       // patterns of who may call that; nil allows all; guarded by mu
 }
 
 // Open returns a validator with an empty record. To go on with a saved record,
@@ -150,6 +137,7 @@ func (v *Validator) Close() {
 	v.mu.Lock()
 	defer v.mu.Unlock()
 	C.svid_validator_close(&v.handle)
+	C.svid_bundles_close(&v.lent)
 }
 
 // Check judges the token, and if it accepts it, adds the use to the record, so
@@ -160,15 +148,17 @@ func (v *Validator) Close() {
 // The error is a Refusal if the token is refused, and else ErrJump,
 // ErrNoMemory or ErrClosed.
 func (v *Validator) Check(now uint64, token string, yes []Question) (Accepted, error) {
-	v.mu.Lock()
-	defer v.mu.Unlock()
-	yes, err := v.answered(token, yes)
-	if err != nil {
+	return v.answered(now, token, yes, v.CheckToken)
+}
+
+// answered lets a call have the token, with the key whose question is among yes.
+func (v *Validator) answered(now uint64, token string, yes []Question, call func(uint64, *Token) (Accepted, error)) (Accepted, error) {
+	t := NewToken(token)
+	defer t.Close()
+	if err := v.findBy(&t, yes); err != nil {
 		return Accepted{}, err
 	}
-	status := C.check(&v.handle, C.uint64_t(now), questions(yes), C.size_t(len(yes)), token,
-		start(v.id[:]), C.size_t(len(v.id)), &v.used, &v.told)
-	return v.accepted(status)
+	return call(now, &t)
 }
 
 // Accept verifies the token's signature by the keyring, which has the same bundles,
@@ -196,55 +186,7 @@ func (v *Validator) Accept(k *Keyring, now uint64, token string) (Accepted, erro
 // Judge answers what Check would answer, and adds nothing to the record: a later
 // Check may still accept the token.
 func (v *Validator) Judge(now uint64, token string, yes []Question) (Accepted, error) {
-	v.mu.Lock()
-	defer v.mu.Unlock()
-	return v.judge(now, token, yes)
-}
-
-func (v *Validator) judge(now uint64, token string, yes []Question) (Accepted, error) {
-	yes, err := v.answered(token, yes)
-	if err != nil {
-		return Accepted{}, err
-	}
-	status := C.judge(&v.handle, C.uint64_t(now), questions(yes), C.size_t(len(yes)), token,
-		start(v.id[:]), C.size_t(len(v.id)), &v.used, &v.told)
-	return v.accepted(status)
-}
-
-// JudgeAgain answers what Judge would answer for a token that this validator has
-// accepted, by Check or Judge, with the same questions: nil, or Expired, Withdrawn
-// or Replayed. It goes by the use alone, so it takes a fraction of the time. The
-// record advances to now first, and nothing is added to it.
-//
-// ErrRenewed: the trust bundles or the audiences were replaced since, or another
-// validator accepted the token. Judge the token. ErrJump, ErrClosed.
-func (v *Validator) JudgeAgain(now uint64, accepted Accepted) error {
-	v.mu.Lock()
-	defer v.mu.Unlock()
-	*(*TokenKey)(unsafe.Pointer(&v.key)) = accepted.Use.Key
-	status := C.svid_validator_judge_again(&v.handle, C.uint64_t(now), &v.key, C.uint64_t(accepted.Use.Expires), &v.told)
-	if status != C.SVID_CLOSED && status != C.SVID_JUMP && (accepted.by != v || accepted.bundles != v.bundles) {
-		return ErrRenewed
-	}
-	return failure(status, &v.told)
-}
-
-// CheckClaimed is the Check of a token whose use was made public before, by a
-// batch of one use: it judges the token, and if it accepts it, adds exactly
-// that use. (Check would add a use with the time of its own call, so that the
-// record and the claim would tell of two uses.) The batch must come from the
-// use of Judge for this token.
-func (v *Validator) CheckClaimed(now uint64, token string, yes []Question, batch []byte) (Accepted, error) {
-	v.mu.Lock()
-	defer v.mu.Unlock()
-	accepted, err := v.judge(now, token, yes)
-	if err != nil {
-		return Accepted{}, err
-	}
-	if err := v.take(now, batch); err != nil {
-		return Accepted{}, err
-	}
-	return accepted, nil
+	return v.answered(now, token, yes, v.JudgeToken)
 }
 
 // accepted reads what a check or a judgment left. The caller holds the lock.
@@ -252,18 +194,10 @@ func (v *Validator) accepted(status C.uint32_t) (Accepted, error) {
 	if err := failure(status, &v.told); err != nil {
 		return Accepted{}, err
 	}
-	return Accepted{ID: string(v.id[:v.told.len]), Use: v.use(false), by: v, bundles: v.bundles}, nil
+	return Accepted{ID: string(v.id[:v.told.len]), Use: v.use(false), bundles: v.bundles}, nil
 }
 
 func (v *Validator) use(withdrawn bool) Use { return useOf(&v.used, withdrawn) }
-
-// questions is the address of the first question, and nil where there is none.
-func questions(yes []Question) *C.svid_question {
-	if len(yes) == 0 {
-		return nil
-	}
-	return (*C.svid_question)(unsafe.Pointer(&yes[0]))
-}
 
 // Withdraw withdraws the token of this key, which expires at exp, and returns the
 // use that the record gained. The token is refused as Withdrawn from now on,
@@ -277,24 +211,6 @@ func (v *Validator) Withdraw(now uint64, key TokenKey, exp uint64) (Use, error) 
 		return Use{}, err
 	}
 	return v.use(true), nil
-}
-
-// WithdrawOnce does so unless the record has a withdrawal of the token: then nothing is added, and the error is Withdrawn. So a
-// withdrawal that is heard many times, as from a store, stands in the record once.
-func (v *Validator) WithdrawOnce(now uint64, key TokenKey, exp uint64) (Use, error) {
-	if err := v.judgeUse(now, key, exp); err == Withdrawn || err == ErrJump || err == ErrClosed {
-		return Use{}, err
-	}
-	return v.Withdraw(now, key, exp)
-}
-
-// judgeUse is nil, Expired, Withdrawn or Replayed, by the use alone.
-func (v *Validator) judgeUse(now uint64, key TokenKey, exp uint64) error {
-	v.mu.Lock()
-	defer v.mu.Unlock()
-	*(*TokenKey)(unsafe.Pointer(&v.key)) = key
-	status := C.svid_validator_judge_again(&v.handle, C.uint64_t(now), &v.key, C.uint64_t(exp), &v.told)
-	return failure(status, &v.told)
 }
 
 // Tick advances the record to now, and drops what has expired by then.

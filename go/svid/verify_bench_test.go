@@ -6,8 +6,8 @@ import (
 	"strings"
 	"testing"
 
-	"svid.example/go/v2/internal/issuer"
-	"svid.example/go/v2/svid"
+	"svid.example/go/v3/internal/issuer"
+	"svid.example/go/v3/svid"
 )
 
 // BenchmarkSignatures measures a signature of each algorithm: microseconds of a processor for a short token that a key made.

@@ -8,8 +8,8 @@ import (
 	"fmt"
 	"testing"
 
-	"svid.example/go/v2/internal/issuer"
-	"svid.example/go/v2/internal/refusing"
+	"svid.example/go/v3/internal/issuer"
+	"svid.example/go/v3/internal/refusing"
 )
 
 // Where OpenSSL is refused memory, no key is taken for one that can't be used, no good signature for a bad one, and no bad

@@ -12,8 +12,8 @@ import (
 	"testing"
 	"time"
 
-	"svid.example/go/v2/internal/issuer"
-	"svid.example/go/v2/internal/patience"
+	"svid.example/go/v3/internal/issuer"
+	"svid.example/go/v3/internal/patience"
 )
 
 // keptSeats is how many seats a key keeps.

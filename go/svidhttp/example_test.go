@@ -8,9 +8,9 @@ import (
 	"net/http/httptest"
 	"strings"
 
-	"svid.example/go/v2/internal/issuer"
-	"svid.example/go/v2/svid"
-	"svid.example/go/v2/svidhttp"
+	"svid.example/go/v3/internal/issuer"
+	"svid.example/go/v3/svid"
+	"svid.example/go/v3/svidhttp"
 )
 
 // A validator and its keyring in front of a handler. The record is in memory: package guard has one that lasts.

@@ -11,8 +11,8 @@ import (
 	"errors"
 	"net/http"
 
-	"svid.example/go/v2/internal/jsontext"
-	"svid.example/go/v2/svid"
+	"svid.example/go/v3/internal/jsontext"
+	"svid.example/go/v3/svid"
 )
 
 // ErrNotAllowed: the token is good, and its subject may not call. It is not used up.

@@ -8,7 +8,7 @@ import (
 	"net/http/httptest"
 	"testing"
 
-	"svid.example/go/v2/svid"
+	"svid.example/go/v3/svid"
 )
 
 // What a request gets for each error, and that nothing of the error itself is in it.

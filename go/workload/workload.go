@@ -20,8 +20,8 @@ import (
 	"time"
 
 	"golang.org/x/net/http2"
-	"svid.example/go/v2/internal/brief"
-	"svid.example/go/v2/internal/protowire"
+	"svid.example/go/v3/internal/brief"
+	"svid.example/go/v3/internal/protowire"
 )
 
 const (

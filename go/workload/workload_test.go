@@ -16,8 +16,8 @@ import (
 	"golang.org/x/net/http2"
 	"golang.org/x/net/http2/h2c"
 
-	"svid.example/go/v2/internal/agenttest"
-	"svid.example/go/v2/internal/patience"
+	"svid.example/go/v3/internal/agenttest"
+	"svid.example/go/v3/internal/patience"
 )
 
 // client is that of an address.

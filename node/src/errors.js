@@ -92,99 +92,40 @@ for (const [name, kind] of Object.entries({
   Object.defineProperty(kind.prototype, "name", { value: name, configurable: true, writable: true });
 }
 
-// Each refusal, by its number in the library.
+/** The names of all refusals, in the order in which the library looks for them. (They are known before there is a library to ask.) */
 // lists:begin refusals (written by tools/lists from lists/refusals.toml)
-const SENTENCES = new Map([
-  [101, ["TooLong", "The token has more than 65,536 bytes."]],
-  [102, ["NotThreeParts", "The token has not exactly two periods."]],
-  [103, ["HeaderSpelling", "The header is not base64url."]],
-  [104, ["HeaderNotObject", "The header is no JSON object."]],
-  [105, ["Crit", "The header has a member `crit`."]],
-  [106, ["Alg", "`alg` is none of the nine algorithms RS256 to RS512, ES256 to ES512 and PS256 to PS512."]],
-  [107, ["Typ", "`typ` is there, and is neither \"JWT\" nor \"JOSE\"."]],
-  [108, ["Kid", "`kid` is there, and is no string."]],
-  [109, ["PayloadSpelling", "The payload is not base64url."]],
-  [110, ["PayloadNotObject", "The payload is no JSON object."]],
-  [111, ["SignatureSpelling", "The signature is empty, or not base64url."]],
-  [112, ["Sub", "`sub` is no SPIFFE ID."]],
-  [113, ["Aud", "`aud` is neither a string nor a list of one or more strings."]],
-  [114, ["Exp", "`exp` is no whole number from 0 to 2^64-1, written with digits alone."]],
-  [115, ["Nbf", "`nbf` is there, and is no whole number from 0 to 2^64-1."]],
-  [116, ["Jti", "`jti` is there, and is no string."]],
-  [117, ["NotAudience", "No value of `aud` is one of the validator's audiences."]],
-  [118, ["Expired", "The token has expired: `exp` is not greater than the record's moment."]],
-  [119, ["NotYet", "The token is not valid yet: `nbf` is greater than the record's moment."]],
-  [120, ["TooLongLived", "The token expires more than `longest` seconds past the record's moment."]],
-  [121, ["UnknownDomain", "The bundles have no trust domain of this name."]],
-  [122, ["NoKey", "The trust domain has no key that fits `alg` and `kid`."]],
-  [123, ["BadSignature", "No key among the first 3 that fit made the signature."]],
-  [124, ["Withdrawn", "The token was withdrawn."]],
-  [125, ["Replayed", "The token was accepted before, here or by a validator whose messages were taken."]],
+export const REFUSALS = Object.freeze([
+  "TooLong", "NotThreeParts", "HeaderSpelling", "HeaderNotObject", "Crit", "Alg", "Typ", "Kid", "PayloadSpelling", "PayloadNotObject",
+  "SignatureSpelling", "Sub", "Aud", "Exp", "Nbf", "Jti", "NotAudience", "Expired", "NotYet", "TooLongLived", "UnknownDomain", "NoKey",
+  "BadSignature", "Withdrawn", "Replayed",
 ]);
 // lists:end
 
-/** The names of all refusals, in the order in which the library looks for them. */
-export const REFUSALS = Object.freeze([...SENTENCES.values()].map(([name]) => name));
-
-// Why bytes are no messages, by the status.
-// lists:begin messages (written by tools/lists from lists/statuses.toml)
-const MESSAGE_FAULTS = new Map([
-  [3, ["TooMuch", "bundles, a table or messages have more than 67,108,864 bytes: give less at once"]],
-  [4, ["NotSummary", "the first input is messages, but not one summary: give the summary of another validator"]],
-  [11, ["Magic", "the first four bytes are those of no version, and due is 4A 53 52, which is JSR, and then 02 or 01"]],
-  [12, ["Kind", "the fifth byte is that of no kind of message of the version, and due is 01 for a batch, or 02 for a summary, which only version 2 has"]],
-  [13, ["Count", "a batch tells of too many uses, and due is a number of at most 65,536 uses, or of 4,096 in version 1"]],
-  [14, ["UseKind", "the last byte of a use is neither 0 nor 1, and due is a use whose last byte is 00 or 01"]],
-  [15, ["UseExpired", "a use expires at its batch's moment or before it, and due is a use that expires after the batch's moment"]],
-  [16, ["UseFuture", "a use was made after its batch's moment, and due is a use that was made at the batch's moment or before it"]],
-  [17, ["UseOrder", "a use is not greater than the one before it, and due is a use that is greater than the one before it"]],
-  [18, ["Truncated", "the bytes end before the message does, and due is the rest of the message"]],
+// What is due where messages are at fault, by the status.
+// lists:begin due (written by tools/lists from lists/statuses.toml)
+const DUE = new Map([
+  [11, "4A 53 52, which is JSR, and then 02 or 01"],
+  [12, "01 for a batch, or 02 for a summary, which only version 2 has"],
+  [13, "a number of at most 65,536 uses, or of 4,096 in version 1"],
+  [14, "a use whose last byte is 00 or 01"],
+  [15, "a use that expires after the batch's moment"],
+  [16, "a use that was made at the batch's moment or before it"],
+  [17, "a use that is greater than the one before it"],
+  [18, "the rest of the message"],
 ]);
 // lists:end
 
-// What is wrong and what to do, by the status.
-// lists:begin words (written by tools/lists from lists/statuses.toml)
-const WORDS = new Map([
-  [1, ["The text is longer than the room.", ""]],
-  [2, ["There was no memory.", "Make the call again."]],
-  [3, ["Bundles, a table or messages have more than 67,108,864 bytes.", "Give less at once."]],
-  [4, ["The first input is messages, but not one summary.", "Give the summary of another validator."]],
-  [5, ["The validator, the bundles or the token is closed.", "Make a new one."]],
-  [6, ["The handle is open already.", ""]],
-  [7, ["The token has expired, so that there is nothing to withdraw.", ""]],
-  [8, ["A message's moment is more than ahead seconds past now.", "Set the clocks of both validators right."]],
-  [9, ["now is more than step seconds past the record's moment.", "Set the clock right, or let a new validator take the record."]],
-  [10, ["The validator reads a log, which decides about its tokens.", "Put the use of a judgment into the log, and read it."]],
-  [19, ["The validator reads no log.", "Let it read one."]],
-  [21, ["The ID has more than 2,048 bytes.", "Write an ID as spiffe://DOMAIN/PATH."]],
-  [22, ["The ID does not begin with spiffe://.", "Write an ID as spiffe://DOMAIN/PATH."]],
-  [23, ["The trust domain name of the ID is empty.", "Write an ID as spiffe://DOMAIN/PATH."]],
-  [24, ["The ID has a byte that may not stand in a trust domain name.", "Write an ID as spiffe://DOMAIN/PATH."]],
-  [25, ["The ID has a trust domain name of more than 255 bytes.", "Write an ID as spiffe://DOMAIN/PATH."]],
-  [26, ["The ID has an empty segment.", "Write an ID as spiffe://DOMAIN/PATH."]],
-  [27, ["The ID has a segment that is one or two periods.", "Write an ID as spiffe://DOMAIN/PATH."]],
-  [28, ["The ID has a byte that may not stand in a path segment.", "Write an ID as spiffe://DOMAIN/PATH."]],
-  [31, ["The bundles are no JSON object.", "Write one object that has a JWK Set under the name of each trust domain."]],
-  [32, ["A name of the bundles is no trust domain name.", "Correct that name, or take it out."]],
-  [33, ["A name of the bundles has no list of keys.", "Write a JWK Set under that name, or take it out."]],
-  [34, ["A line of the table is neither empty nor a question.", ""]],
-  [35, ["An audience of the validator's own is not UTF-8.", ""]],
-  [36, ["The lengths of the audiences do not add up to the length of own.", ""]],
-  [37, ["The document is the bundle of one trust domain, without its name.", "Name it."]],
-  [38, ["An earlier document has a bundle of this trust domain.", "Leave one of them out."]],
-  [39, ["The lengths of the documents do not add up to the length of bytes.", ""]],
-  [92, ["The ID in the pattern has more than 2,048 bytes.", "Write spiffe://DOMAIN/PATH for one ID, spiffe://DOMAIN/PATH/* for all below it, or spiffe://DOMAIN for all of a trust domain."]],
-  [93, ["The pattern does not begin with spiffe://.", "Write spiffe://DOMAIN/PATH for one ID, spiffe://DOMAIN/PATH/* for all below it, or spiffe://DOMAIN for all of a trust domain."]],
-  [94, ["The trust domain name of the pattern is empty.", "Write spiffe://DOMAIN/PATH for one ID, spiffe://DOMAIN/PATH/* for all below it, or spiffe://DOMAIN for all of a trust domain."]],
-  [95, ["The pattern has a byte that may not stand in a trust domain name.", "Write spiffe://DOMAIN/PATH for one ID, spiffe://DOMAIN/PATH/* for all below it, or spiffe://DOMAIN for all of a trust domain."]],
-  [96, ["The pattern has a trust domain name of more than 255 bytes.", "Write spiffe://DOMAIN/PATH for one ID, spiffe://DOMAIN/PATH/* for all below it, or spiffe://DOMAIN for all of a trust domain."]],
-  [97, ["The pattern has an empty segment.", "Write spiffe://DOMAIN/PATH for one ID, spiffe://DOMAIN/PATH/* for all below it, or spiffe://DOMAIN for all of a trust domain."]],
-  [98, ["The pattern has a segment that is one or two periods.", "Write spiffe://DOMAIN/PATH for one ID, spiffe://DOMAIN/PATH/* for all below it, or spiffe://DOMAIN for all of a trust domain."]],
-  [99, ["The pattern has a byte that may not stand in a path segment.", "Write spiffe://DOMAIN/PATH for one ID, spiffe://DOMAIN/PATH/* for all below it, or spiffe://DOMAIN for all of a trust domain."]],
-]);
-// lists:end
+// What the library says of each status: its name, what is wrong, and what to do.
+let words;
+const UNKNOWN = { name: "", says: "The library could not be started.", advice: "" };
 
-// Statuses that say nothing of the token: of a claim, of a request, and of a validator that is to get no tokens.
+/** Keeps what the library says of each status, by its number: `{ name, says, advice }`. */
+export function learn(asking) {
+  words ??= asking();
+}
+
+// Statuses of a token; and those that say nothing of it: of a claim, of a request, and of a validator that is to get no tokens.
+const FIRST_REFUSAL = 101, LAST_REFUSAL = FIRST_REFUSAL + REFUSALS.length - 1;
 const CLAIM_FAR = 58, CLAIM_DEAF = 59, LATE = 201, LEFT = 203, ENDED = 211, DEAF = 222;
 
 /** Whether a status says that there is no answer now. */
@@ -194,15 +135,24 @@ export function isUnavailable(status) {
 
 /** What a status says: what is wrong, where that is, and what to do. */
 export function wordsOf(status, where = "") {
-  const [says, advice] = WORDS.get(status);
+  const { says, advice } = words?.get(status) ?? UNKNOWN;
   return [says, where, advice].filter(Boolean).join(" ");
 }
+
+// The same as the rest of a sentence.
+function clauseOf(status) {
+  const { says, advice } = words.get(status);
+  return [says, advice].filter(Boolean).map((it) => it[0].toLowerCase() + it.slice(1).replace(/\.$/, "")).join(": ");
+}
+
+// The name of a status, as docs/FORMATS.md has it: "NoKey".
+const reasonOf = (status) => words.get(status).name.replace(/^SVID_/, "").replace(/([A-Z])([A-Z]*)_?/g, (_, first, rest) => first + rest.toLowerCase());
 
 // Those that have an error of their own.
 const NO_MEMORY = 2, CLOSED = 5, GONE = 7, TOO_FAR = 8, JUMP = 9, NOT_ALLOWED = 91;
 const FAULTS = new Map([[NO_MEMORY, OutOfMemory], [CLOSED, Closed], [GONE, Gone], [TOO_FAR, TooFar], [JUMP, Jump], [NOT_ALLOWED, NotAllowed]]);
 // Those of bundles that can't be read, and of these the ones that are about one of several trust domains.
-const TOO_MUCH = 3, BUNDLES_NOT_OBJECT = 31, BUNDLES_DOMAIN = 32, BUNDLES_KEYS = 33, BUNDLES_TWICE = 38;
+const TOO_MUCH = 3, NOT_SUMMARY = 4, BUNDLES_NOT_OBJECT = 31, BUNDLES_DOMAIN = 32, BUNDLES_KEYS = 33, BUNDLES_TWICE = 38;
 const BUNDLE_FAULTS = new Set([TOO_MUCH, BUNDLES_NOT_OBJECT, BUNDLES_DOMAIN, BUNDLES_KEYS]);
 const RANKED = new Set([BUNDLES_DOMAIN, BUNDLES_KEYS]);
 // Those of a bundle that can't be joined to others.
@@ -210,12 +160,10 @@ const DOCUMENT_FAULTS = new Set([BUNDLES_NOT_OBJECT, BUNDLES_DOMAIN, BUNDLES_KEY
 
 /** The error for a status that is not OK. `told` is what the call told beside it. */
 export function ofStatus(status, told) {
-  if (SENTENCES.has(status)) return new Refusal(...SENTENCES.get(status));
+  if (status >= FIRST_REFUSAL && status <= LAST_REFUSAL) return new Refusal(reasonOf(status), wordsOf(status));
   if (FAULTS.has(status)) return new (FAULTS.get(status))();
-  if (MESSAGE_FAULTS.has(status)) {
-    const [reason, says] = MESSAGE_FAULTS.get(status);
-    return new BadMessages(reason, told.message, told.offset, says);
-  }
+  if (DUE.has(status)) return new BadMessages(reasonOf(status), told.message, told.offset, `${clauseOf(status)}, and due is ${DUE.get(status)}`);
+  if (status === TOO_MUCH || status === NOT_SUMMARY) return new BadMessages(reasonOf(status), told.message, told.offset, clauseOf(status));
   return new SvidError(`the library answered ${status}, which include/svid.h explains`);
 }
 

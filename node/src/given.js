@@ -1,9 +1,10 @@
 // What callers give: times, audiences, bundles, validator IDs, modes and callers, as the library takes them. And what a store answers.
 
 import { BadBundles } from "./errors.js";
-import { ANY, MODES, TOKEN_ROOM, utf8 } from "./library.js";
+import { ANY, MODES, TOKEN_ROOM, textOf, utf8 } from "./library.js";
 
 const YEAR_5138 = 100_000_000_000n;
+const HOUR = 3600;
 const VALIDATOR_ID = 16, KEY = 32, OWNER = 32;
 const LEAST_WAIT = 0.001; // (the library counts milliseconds)
 const ANYBODY = "spiffe://example.org";
@@ -15,9 +16,29 @@ export function seconds(now = Date.now() / 1000) {
   return whole;
 }
 
+/** The clock of a service: a function that gives the time in seconds. */
+export function clockOf(given = () => Date.now() / 1000) {
+  if (typeof given !== "function") throw new TypeError("now is a function that gives the time in seconds since 1970");
+  return () => seconds(given());
+}
+
+/** Calls a hook of the service. It keeps no request from its answer, and what it throws, at once or later, ends no process. */
+export function tell(hook, ...given) {
+  try {
+    Promise.resolve(hook(...given)).catch(() => {});
+  } catch {
+    // (who is told in vain has no say)
+  }
+}
+
 /** A number of seconds without a limit, or the limit that stands for none. */
 export function limit(name, given) {
   return given === undefined || given === null ? ANY : wholeOf(name, given);
+}
+
+/** For how many seconds a token may live: an hour, unless the caller says another number, or in a word that there is no limit. */
+export function longestOf(given = HOUR) {
+  return given === "unlimited" ? ANY : wholeOf("longest", given);
 }
 
 /** When a token expires. (It has no default: a withdrawal without an end would stay in each record.) */
@@ -40,7 +61,7 @@ export function audiences(given) {
   if (!names.length || names.some((it) => typeof it !== "string" || !it)) {
     throw new TypeError("audiences is a name of this service, or an array of such, and none is empty");
   }
-  return names;
+  return names.map((it) => textOf(utf8(it))); // (as tokens name them)
 }
 
 /** The 16 bytes that name a validator: by default random ones. */
@@ -56,16 +77,23 @@ export async function random() {
 /** WebCrypto, which is not global in each Node 18. */
 export const webCrypto = async () => globalThis.crypto ?? (await import("node:crypto")).webcrypto;
 
-/** The mode of a validator, and the store that it claims tokens in, if it does. */
+/** The mode of a validator, and its store, if it has one. In the modes once and reuse, a store tells withdrawals alone. */
 export function modeOf({ mode = "once", store }) {
   if (!Object.hasOwn(MODES, mode)) throw new RangeError(`mode is one of ${Object.keys(MODES).join(", ")}, and not ${String(mode)}`);
-  if ((store !== undefined) !== (mode === "strict" || mode === "bound")) {
-    throw new TypeError("give a store in the modes strict and bound, and in no other one");
-  }
+  const isOfGroup = mode === "strict" || mode === "bound";
+  if (store === undefined && isOfGroup) throw new TypeError("give a store in the modes strict and bound");
   if (store !== undefined && (typeof store?.put !== "function" || typeof store.withdraw !== "function")) {
     throw new TypeError("a store has the methods put and withdraw");
   }
+  if (store !== undefined && !isOfGroup && typeof store.withdrawals !== "function") {
+    throw new TypeError("in the modes once and reuse give a store with the method withdrawals, or none");
+  }
   return { mode, store };
+}
+
+/** The 32 bytes and the expiry of each withdrawal that a store tells, and up to where it has told. Throws TypeError for what is no answer. */
+export function withdrawalsOf({ these, last }) {
+  return { these: Array.from(these, ({ key, expires }) => ({ key: keyOf(key), expires: expiryOf(expires) })), last: nameOf("last", last) };
 }
 
 /** For how many seconds a call waits. */

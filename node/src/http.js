@@ -1,12 +1,10 @@
 // Middleware for Express, and for servers of node:http: lets in requests with a good token.
 
 import { NotAllowed, Refusal } from "./errors.js";
-import { patternsOf, readPatterns } from "./given.js";
+import { patternsOf, readPatterns, tell } from "./given.js";
+import { pathsOf } from "./paths.js";
 
 const HEADER = "authorization";
-const NOT_ALLOWED = 'Bearer error="insufficient_scope", error_description="NotAllowed"';
-const NO_TOKEN = 'Bearer realm="svid"';
-const NOT_BEARER = 'Bearer error="invalid_request", error_description="NotBearer"';
 
 /**
  * Middleware for Express and its like: checks the bearer token of each request, and goes on if it is good. `req.svid` is then what the check
@@ -15,9 +13,9 @@ const NOT_BEARER = 'Bearer error="invalid_request", error_description="NotBearer
 export function guard(validator, options) {
   const terms = termsOf(validator, options);
   return async function svid(req, res, next) {
-    const accepted = await admitted(terms, req, res);
+    const isLetIn = await admitted(terms, req, res);
     // (outside of any try: what the service throws is its own)
-    if (accepted) next();
+    if (isLetIn) next();
   };
 }
 
@@ -30,19 +28,22 @@ export function protect(validator, handler, options) {
 }
 
 // On what terms requests are let in.
-function termsOf(validator, { onError = () => {}, allow, caller } = {}) {
+function termsOf(validator, { onError = console.error, onRefusal, allow, caller, openPaths } = {}) {
   if (typeof validator?.check !== "function" || typeof validator?.bearer !== "function") throw new TypeError("a Validator is wanted");
-  if (caller !== undefined && typeof caller !== "function") throw new TypeError("caller is a function of a request");
+  for (const [name, it] of Object.entries({ onError, onRefusal, caller })) {
+    if (it !== undefined && typeof it !== "function") throw new TypeError(`${name} is a function`);
+  }
   const patterns = readPatterns(patternsOf("allow", allow), (...it) => validator.allows(...it));
-  return { validator, onError, caller, patterns };
+  return { validator, onError, onRefusal, caller, patterns, isOpen: pathsOf(openPaths) };
 }
 
 // Whether a request is let in. Else it is answered here.
-async function admitted({ validator, onError, caller, patterns }, req, res) {
+async function admitted({ validator, onError, onRefusal, caller, patterns, isOpen }, req, res) {
   try {
     delete req.svid;
-    const { token, several, spelling } = validator.bearer(valuesOf(req));
-    if (token === undefined) return answer(res, 401, several || spelling ? NOT_BEARER : NO_TOKEN);
+    if (isOpen(req.url)) return true;
+    const values = valuesOf(req), { token, several, spelling } = validator.bearer(values);
+    if (token === undefined) return refuse(res, values.length ? "NotBearer" : "NoToken", several || spelling ? "invalid_request" : undefined);
     if (patterns && !patterns.some((it) => validator.allows(it, validator.says(token).spiffeId))) {
       await validator.judge(token);
       throw new NotAllowed();
@@ -50,15 +51,13 @@ async function admitted({ validator, onError, caller, patterns }, req, res) {
     req.svid = await validator.check(token, caller && { caller: caller(req) });
     return true;
   } catch (why) {
-    if (why instanceof NotAllowed) return answer(res, 403, NOT_ALLOWED);
-    if (why instanceof Refusal) return answer(res, 401, `Bearer error="invalid_token", error_description="${why.name}"`);
-    try {
-      // (who is told must not keep the request from its answer, nor end the process, at once or later)
-      Promise.resolve(onError(why, req)).catch(() => {});
-    } catch {
-      // (nor by what it throws)
+    const isNotAllowed = why instanceof NotAllowed;
+    if (!isNotAllowed && !(why instanceof Refusal)) {
+      tell(onError, why, req);
+      return answer(res, 503, { "Retry-After": "1" }, { reason: "NotJudged", result: "unavailable" });
     }
-    return answer(res, 503);
+    if (onRefusal) tell(onRefusal, why, req);
+    return refuse(res, why.name, isNotAllowed ? "insufficient_scope" : "invalid_token", isNotAllowed ? 403 : 401);
   }
 }
 
@@ -69,12 +68,19 @@ function valuesOf({ rawHeaders }) {
   return values;
 }
 
-// Answers a request that is not let in, unless another one has answered it while the check waited.
-function answer(res, status, challenge) {
+// Answers a request with a challenge (RFC 6750, section 3). One without an error is for a client that tried no bearer token.
+function refuse(res, reason, error, status = 401) {
+  const challenge = error ? `Bearer error="${error}", error_description="${reason}"` : 'Bearer realm="svid"';
+  return answer(res, status, { "WWW-Authenticate": challenge }, { reason, result: "refused" });
+}
+
+// Answers a request that is not let in as svidd does, unless another one has answered it while the check waited.
+function answer(res, status, fields, said) {
   if (res.headersSent) return false;
+  const body = `${JSON.stringify(said)}\n`;
   res.statusCode = status;
-  if (challenge) res.setHeader("WWW-Authenticate", challenge);
-  res.setHeader("Content-Length", "0");
-  res.end();
+  const all = { ...fields, "Cache-Control": "no-store", "Content-Type": "application/json", "Content-Length": String(body.length) };
+  for (const [name, it] of Object.entries(all)) res.setHeader(name, it);
+  res.end(body);
   return false;
 }

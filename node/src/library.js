@@ -3,17 +3,19 @@
 // Pointers, lengths and times are BigInts, as they have 64 bits; a status is a number. A handle has an instance of the module for
 // itself, so that one that stops, or that has no memory left, takes no other with it.
 
-import { isUnavailable, ofBundles, ofDocuments, ofStatus, wordsOf, Closed, OutOfMemory, Stopped, Unavailable } from "./errors.js";
+import { isUnavailable, learn, ofBundles, ofDocuments, ofStatus, wordsOf, Closed, OutOfMemory, Stopped, Unavailable } from "./errors.js";
+import { Accepted, Use } from "./records.js";
 
-/** What a call answers that did what it is for. */
-export const OK = 0;
+/** What a call answers that did what it is for, and a member that has no bundle. */
+export const OK = 0, NO_BUNDLE = 212;
 const TOO_SHORT = 1, NO_MEMORY = 2, CLOSED = 5, JUMP = 9, BEARER_SEVERAL = 82, BEARER_SPELLING = 84, NOT_ALLOWED = 91;
 const FIRST_REFUSAL = 101, TOO_LONG = 101;
 const SPKI_ROOM = 2100;
+const STATUSES = 256, MOST_TEXTS = 8192;
 /** How many bytes the message of a use has: the least that `parts` is given. */
 export const BATCH = 82;
 const MOST_CANDIDATES = 3n;
-const MAJOR = 2;
+const MAJOR = 3;
 /** No limit, of seconds. */
 export const ANY = 2n ** 64n - 1n;
 /** How many bits an RSA key may have: unless an option says more, at the least, and at the most. */
@@ -49,7 +51,7 @@ const NEEDS = [
   "svid_member_come", "svid_member_judge", "svid_member_send", "svid_member_found", "svid_member_leave", "svid_member_overdue",
   "svid_member_due", "svid_member_rules", "svid_withdrawal_come", "svid_withdrawal_told", "svid_withdrawal_overdue", "svid_pacing_may_send",
   "svid_pacing_due", "svid_pacing_sent", "svid_pacing_answered", "svid_pacing_unanswered", "svid_claim_owner", "svid_claim_owner_of_caller",
-  "svid_claim_until", "svid_claim_deaf", "svid_entries_write", "svid_strsentence",
+  "svid_claim_until", "svid_claim_deaf", "svid_entries_write", "svid_status_name", "svid_status_sentence",
 ];
 
 const encoder = new TextEncoder();
@@ -113,13 +115,26 @@ export class Library {
     }
     const version = instance.exports.svid_version();
     if (Math.floor(version / 10_000) !== MAJOR) throw new Error(`svid.wasm has version ${version}, and this package needs ${MAJOR}xxxx`);
-    return new Library(instance.exports);
+    const library = new Library(instance.exports);
+    learn(() => library.#saysOfAll());
+    return library;
   }
 
   constructor(calls) {
     this.#calls = calls;
     this.#room = this.#lend(ROOM);
     this.#handle = this.#closed();
+  }
+
+  // What it says of each status, by its number. (An error may be made when no instance is there any more.)
+  #saysOfAll() {
+    const all = new Map();
+    for (let status = 0; status < STATUSES; status++) {
+      const name = textOf(this.#text(() => this.#written("svid_status_name", status)));
+      const sentence = textOf(this.#text(() => this.#written("svid_status_sentence", status))), { more } = this.#told();
+      all.set(status, { name, says: sentence.slice(0, more), advice: sentence.slice(more + 1) });
+    }
+    return all;
   }
 
   // A handle that is closed.
@@ -161,6 +176,12 @@ export class Library {
       const status = this.#call("svid_bundles_open", this.#handle, ...lend(bundles));
       if (status !== OK) throw ofBundles(status, this.#told());
     });
+  }
+
+  /** Reads the bundle of a trust domain, to see whether it is one. Throws BadBundles. */
+  readBundle(domain, text) {
+    this.openBundles([[domain, text]]);
+    this.#run("svid_bundles_close", this.#handle);
   }
 
   // The one text of bundles. Those of several trust domains, each a name and a text, are joined to it. Throws BadBundles.
@@ -227,22 +248,31 @@ export class Library {
       const lent = [this.#at(QUESTION), yes ? 1n : 0n, this.#at(TOKEN), length, this.#at(OUT), BigInt(OUT_ROOM), this.#at(USED)];
       const status = this.#call("svid_bundles_judge", this.#handle, setting, ...audiences, ...lent);
       if (status !== OK) throw this.fault(status);
-      return this.#accepted();
+      return this.#accepted(token, own);
     });
   }
 
   // What an acceptance is: its ID stands in OUT, and its use in USED.
-  #accepted() {
-    return acceptedOf(this.#subject(), this.#used(this.#at(USED)));
+  #accepted(token, own) {
+    return this.acceptedOf(token, own, this.#subject(), this.#used(this.#at(USED)));
+  }
+
+  /** What an acceptance is, for callers. */
+  acceptedOf(token, own, subject, use) {
+    return new Accepted({ ...subject, expires: use.expires, use }, own, () => this.says(token));
   }
 
   // The ID in OUT, and its parts.
   #subject() {
-    const out = this.#at(OUT), small = this.#at(SMALL), length = this.#length();
-    const spiffeId = textOf(this.#seen(out, length));
-    this.#run("svid_id_parse", out, BigInt(length), small);
-    const domain = Number(this.#word(small + 8n)), begins = spiffeId.length - Number(this.#word(small + 16n));
-    return { spiffeId, trustDomain: spiffeId.slice(begins - domain, begins), path: spiffeId.slice(begins) };
+    const out = this.#at(OUT), length = this.#length(), spiffeId = textOf(this.#seen(out, length));
+    this.#run("svid_id_parse", out, BigInt(length), this.#at(SMALL));
+    return { spiffeId, ...this.#parts(spiffeId) };
+  }
+
+  // The parts of the ID that was parsed last.
+  #parts(spiffeId) {
+    const small = this.#at(SMALL), domain = Number(this.#word(small + 8n)), begins = spiffeId.length - Number(this.#word(small + 16n));
+    return { trustDomain: spiffeId.slice(begins - domain, begins), path: spiffeId.slice(begins) };
   }
 
   // A use with its message.
@@ -254,7 +284,7 @@ export class Library {
       const status = this.#call("svid_entries_write", entry, 1n, small, BigInt(BATCH));
       if (status !== OK) throw this.fault(status);
     } else this.#run("svid_batch_of", at, small);
-    return { ...this.#use(at), withdrawn, message: this.#seen(small, BATCH) };
+    return new Use({ ...this.#use(at), withdrawn, message: this.#seen(small, BATCH) });
   }
 
   #use(at) {
@@ -293,10 +323,10 @@ export class Library {
   }
 
   /** Says what a check would, and adds nothing. `shown` has the key, and what it signed, or is null where no key did. Throws Refusal. */
-  judge(now, token, shown) {
+  judge(now, token, own, shown) {
     const status = this.#call("svid_validator_judge_token", this.#handle, now, ...this.#shown(shown), token.at, ...this.#outputs());
     if (status !== OK) throw this.fault(status);
-    return this.#accepted();
+    return this.#accepted(token.bytes, own);
   }
 
   // A key, and what it signed, as calls take them.
@@ -330,10 +360,10 @@ export class Library {
   }
 
   /** Tells a member what it is to know. */
-  know({ isOpened, isJumped, isAway, isDeaf }) {
+  know({ isBundled, isOpened, isHeard, isJumped, isAway, isDeaf }) {
     this.#open();
-    const [opened, jumped, away, deaf] = [isOpened, isJumped, isAway, isDeaf].map(BigInt);
-    this.#setWords(this.#at(SMALL), [1n, 1n, opened, 1n, 1n, 1n, 0n, jumped, 0n, away, deaf, 0n]);
+    const [bundled, opened, heard, jumped, away, deaf] = [isBundled, isOpened, isHeard, isJumped, isAway, isDeaf].map(BigInt);
+    this.#setWords(this.#at(SMALL), [bundled, 1n, opened, heard, 1n, 1n, 0n, jumped, 0n, away, deaf, 0n]);
     this.#make("svid_member_know", this.#at(SMALL));
   }
 
@@ -475,27 +505,25 @@ export class Library {
 
   /** What a token says: nobody has vouched for it. */
   says(token) {
-    const length = this.#lendToken(token);
-    for (let texts = 8, size = OUT_ROOM; ; ) {
-      const said = this.#within(({ room }) => {
-        const lens = room(WORD * texts), out = room(size);
-        const status = this.#call("svid_token_says", this.#at(TOKEN), length, this.#at(SMALL), lens, BigInt(texts), out, BigInt(size));
-        if (status === TOO_SHORT) {
-          texts = Number(this.#word(this.#at(SMALL) + 40n));
-          size = this.#length();
-          return null;
-        }
-        if (status !== OK) throw this.fault(status);
-        const [expires, count] = this.#words(this.#at(SMALL) + 32n, 2);
-        let at = out;
-        const [alg, spiffeId, trustDomain, keyId, ...audiences] = this.#words(lens, Number(count)).map((it) => {
-          at += it;
-          return textOf(this.#seen(at - it, it));
-        });
-        return { alg, spiffeId, trustDomain, keyId, audiences, key: this.#seen(this.#at(SMALL), DIGEST), expires };
-      });
-      if (said) return said;
-    }
+    const length = this.#lendToken(token), lens = this.#at(KEY), out = this.#at(OUT);
+    const said = this.#saidIn(length, lens, MOST_TEXTS, out, OUT_ROOM);
+    if (said) return said;
+    const texts = Number(this.#word(this.#at(SMALL) + 40n)), size = this.#length();
+    return this.#within(({ room }) => this.#saidIn(length, room(WORD * texts), texts, room(size), size));
+  }
+
+  // The same, with room for so many texts, and so many bytes: null where that is too little.
+  #saidIn(length, lens, texts, out, size) {
+    const status = this.#call("svid_token_says", this.#at(TOKEN), length, this.#at(SMALL), lens, BigInt(texts), out, BigInt(size));
+    if (status === TOO_SHORT) return null;
+    if (status !== OK) throw this.fault(status);
+    const [expires, count] = this.#words(this.#at(SMALL) + 32n, 2);
+    let at = out;
+    const [alg, spiffeId, trustDomain, keyId, ...audiences] = this.#words(lens, Number(count)).map((it) => {
+      at += it;
+      return textOf(this.#seen(at - it, it));
+    });
+    return { alg, spiffeId, trustDomain, keyId, audiences, key: this.#seen(this.#at(SMALL), DIGEST), expires };
   }
 
   /** A key as SubjectPublicKeyInfo; null where the algorithm can't use it. */
@@ -516,6 +544,15 @@ export class Library {
       if (status !== OK) return { several: status === BEARER_SEVERAL, spelling: status === BEARER_SPELLING };
       const [at, length] = this.#words(this.#at(SMALL), 2).map(Number);
       return { token: value.slice(at, at + length) };
+    });
+  }
+
+  /** The trust domain and the path of a SPIFFE ID. Throws RangeError for what is none. */
+  partsOf(spiffeId) {
+    return this.#within(({ lend }) => {
+      const status = this.#run("svid_id_parse", ...lend(utf8(spiffeId)), this.#at(SMALL));
+      if (status === OK) return this.#parts(spiffeId);
+      throw new RangeError(`${JSON.stringify(spiffeId)} is no SPIFFE ID (byte ${this.#word(this.#at(SMALL))}): ${wordsOf(status)}`);
     });
   }
 
@@ -640,19 +677,13 @@ export class Library {
 
   /** The error for a status that is not OK. `cause` is what the store threw last. */
   fault(status, cause) {
-    return isUnavailable(status) ? new Unavailable(this.sentence(status), cause) : ofStatus(status, this.#told());
-  }
-
-  /** What a status says in words: what is wrong, and what to do. */
-  sentence(status) {
-    const at = Number(this.#run("svid_strsentence", status));
-    return textOf(this.#bytes.subarray(at, this.#bytes.indexOf(0, at)));
+    return isUnavailable(status) ? new Unavailable(wordsOf(status), cause) : ofStatus(status, this.#told());
   }
 
   // What a call told beside its status.
   #told() {
-    const [length, input, message, offset] = this.#words(this.#at(TOLD_AT), TOLD / WORD).map(Number);
-    return { length, input, message, offset };
+    const [length, input, message, offset, more] = this.#words(this.#at(TOLD_AT), TOLD / WORD).map(Number);
+    return { length, input, message, offset, more };
   }
 
   // The length that a call told.
@@ -743,9 +774,6 @@ export class Library {
     words.forEach((it, n) => this.#view.setBigUint64(Number(at) + n * WORD, it, true));
   }
 }
-
-/** What an acceptance is, for callers. */
-export const acceptedOf = (subject, use) => ({ ...subject, expires: use.expires, use });
 
 const viewOf = (bytes) => new DataView(bytes.buffer, bytes.byteOffset, bytes.length);
 

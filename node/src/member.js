@@ -4,10 +4,11 @@
 // and what the library says is to be done.
 
 import { Claims, up } from "./claims.js";
-import { Closed, Jump, NotAllowed, Refusal, SvidError, Unavailable, isUnavailable } from "./errors.js";
-import { ANSWER, ANY, AT_DISK, AT_LOG, AT_STORE, CLAIM, JUDGE, NONE, NOTHING, OK, acceptedOf } from "./library.js";
+import { Closed, Gone, Jump, NotAllowed, Refusal, SvidError, Unavailable, isUnavailable, wordsOf } from "./errors.js";
+import { Hearing } from "./hearing.js";
+import { ANSWER, ANY, AT_DISK, AT_LOG, AT_STORE, CLAIM, JUDGE, NONE, NOTHING, NO_BUNDLE, OK } from "./library.js";
 
-const NO_SIGNATURE = "BadSignature";
+const NO_SIGNATURE = "BadSignature", NO_DOMAIN = "UnknownDomain";
 const NOBODY = new Uint8Array(32);
 const LONGEST_TIMER = 2 ** 31 - 1;
 const MAY_LACK_IT = "the token is withdrawn here, but the group's store may not have that: withdraw it again";
@@ -26,14 +27,19 @@ export class Member {
   #life;
   #wait;
   #isBound;
+  #own;
+  #clock;
+  #sources;
+  #isBundled;
   #claims;
+  #hearing;
   #editions = 0; // how often the bundles were replaced
   #open = new Map(); // the requests that have no answer yet, by their numbers
   #withdrawals = new Map(); // those that are on their way to the store
   #timer;
 
-  /** `terms` has `mode`, `wait` (in seconds), `callers`, `store`, `own`, `longest`, `ahead` and `life`. */
-  constructor(library, verifier, { mode, wait, callers, store, own, longest, ahead, life }) {
+  /** `terms` has `mode`, `wait` (in seconds), `callers`, `store`, `own`, `longest`, `ahead`, `life`, `clock`, and `sources` of bundles, if there are any. */
+  constructor(library, verifier, { mode, wait, callers, store, own, longest, ahead, life, clock, sources }) {
     this.#library = library;
     this.#verifier = verifier;
     this.#callers = callers;
@@ -41,21 +47,31 @@ export class Member {
     this.#life = life;
     this.#wait = wait;
     this.#isBound = mode === "bound";
+    this.#own = own;
+    this.#clock = clock;
+    this.#sources = sources;
+    this.#isBundled = sources === undefined;
     const within = least(BigInt(Math.floor(Math.min(wait * 1000, 2 ** 63))), ANY), lasts = least(longest + 2n * ahead, ANY);
     library.openMember({ mode, hasStore: store !== undefined, wait: within, ahead, lasts, life });
     if (callers) library.rules(own, callers);
     if (store) this.#claims = new Claims(library.pacing(), store, this);
+    // (in mode strict the claim of a token tells that it was withdrawn)
+    if (typeof store?.withdrawals === "function" && mode !== "strict") this.#hearing = new Hearing(store, this);
   }
 
-  /** Tokens are judged from now on, or once the store is there. Waits for that, but no longer than a request does. */
+  /** Tokens are judged from now on, or once there are bundles, and the store is there. Waits for these, but no longer than a request does. */
   async begin() {
     this.#know();
-    await this.#claims?.begin(this.#wait);
+    await Promise.all([
+      this.#sources?.begin((bundles) => this.renew(bundles), this.#wait), this.#claims?.begin(this.#wait), this.#hearing?.begin(this.#wait),
+    ]);
   }
 
   /** Frees all. Whoever waits for an answer gets Closed. */
   close() {
+    this.#sources?.close();
     this.#claims?.close();
+    this.#hearing?.close();
     this.#library.close();
     this.fail(new Closed());
     clearTimeout(this.#timer);
@@ -79,11 +95,11 @@ export class Member {
     const request = { token: this.#library.read(clock(), text), edition: -1 };
     try {
       while (request.edition !== this.#editions) await this.#find(request);
-      const accepted = this.#library.judge(clock(), request.token, request.shown);
+      const accepted = this.#library.judge(clock(), request.token, this.#own, request.shown);
       if (this.#callers && !this.#callers.some((it) => this.#library.allows(it, accepted.spiffeId))) throw new NotAllowed();
       return accepted;
     } catch (why) {
-      throw why instanceof Refusal && why.name === NO_SIGNATURE && request.unverifiable ? request.unverifiable : why;
+      throw why instanceof Refusal ? this.#refusal(why, request) : why;
     } finally {
       this.#library.closeToken(request.token);
     }
@@ -103,10 +119,14 @@ export class Member {
     return use;
   }
 
-  /** Bundles were replaced. */
-  renewed() {
+  /** Replaces the bundles. Throws BadBundles, and then the old ones stay. */
+  renew(bundles) {
+    this.#library.renew(bundles);
     this.#editions += 1;
     this.#verifier.forget();
+    if (!this.#sources) return;
+    this.#isBundled = bundles.length > 0;
+    this.#know();
   }
 
   /** The first reason why no tokens are to be sent here, as a sentence, or null. */
@@ -120,7 +140,18 @@ export class Member {
     }
     const status = this.#library.ready();
     if (status !== OK && !isUnavailable(status)) throw this.#library.fault(status);
-    return status === OK ? null : this.#library.sentence(status);
+    return status === OK ? null : wordsOf(status);
+  }
+
+  /** The store has told withdrawals. Throws where they can't be taken now. */
+  heard(these) {
+    for (const { key, expires } of these) {
+      try {
+        this.#library.withdraw(this.#clock(), key, expires);
+      } catch (why) {
+        if (!(why instanceof Gone)) throw why; // (a token that has expired is refused as that)
+      }
+    }
   }
 
   // -- For the claims
@@ -161,11 +192,25 @@ export class Member {
   // -- The way of a request
 
   #come(request) {
-    const deed = this.#library.come(up());
+    const deed = this.#coming();
     request.number = deed.number;
     this.#open.set(deed.number, request);
     this.#watch();
     this.#hand(deed);
+  }
+
+  // What is to be done for a request that comes. Throws Unavailable, also with why the store does not answer.
+  #coming() {
+    try {
+      return this.#library.come(up());
+    } catch (why) {
+      throw why instanceof Unavailable ? new Unavailable(why.message, this.#cause) : why;
+    }
+  }
+
+  // What the store threw, as long as it does not answer.
+  get #cause() {
+    return this.#claims?.why ?? this.#hearing?.why;
   }
 
   // Lets the library judge the token of a request, with what the store has found, if it has.
@@ -210,9 +255,15 @@ export class Member {
   }
 
   #answer(request, { status, use }) {
-    if (status === OK) return request.resolve(acceptedOf(request.subject, use));
-    const why = this.#library.fault(status, this.#claims?.why);
-    request.reject(why.name === NO_SIGNATURE && request.unverifiable ? request.unverifiable : why);
+    if (status === OK) return request.resolve(this.#library.acceptedOf(request.token.bytes, this.#own, request.subject, use));
+    request.reject(this.#refusal(this.#library.fault(status, this.#cause), request));
+  }
+
+  // What a refusal is to say: where no key could be asked, or where no bundle has come yet, it is not the token's fault.
+  #refusal(why, { token, unverifiable }) {
+    if (why.name === NO_SIGNATURE && unverifiable) return unverifiable;
+    if (why.name === NO_DOMAIN && this.#sources?.awaits(this.#library.says(token.bytes).trustDomain)) return this.#library.fault(NO_BUNDLE);
+    return why;
   }
 
   // Nobody waits for the answer any more.
@@ -285,8 +336,9 @@ export class Member {
   }
 
   #know(now = 0n, isJumped = false) {
-    const claims = this.#claims;
-    const isAway = claims?.isAway(this.#wait) ?? false, isDeaf = claims !== undefined && claims.deaf >= now + this.#longest;
-    this.#library.know({ isOpened: claims?.isThere ?? true, isJumped, isAway, isDeaf });
+    const claims = this.#claims, hearing = this.#hearing;
+    const isAway = [claims, hearing].map((it) => it?.isAway(this.#wait)).includes(true), isDeaf = claims !== undefined && claims.deaf >= now + this.#longest;
+    const isOpened = claims?.isThere ?? true, isHeard = hearing?.isThere ?? true;
+    this.#library.know({ isBundled: this.#isBundled, isOpened, isHeard, isJumped, isAway, isDeaf });
   }
 }

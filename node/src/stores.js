@@ -12,6 +12,8 @@ export class MemoryStore {
   #lasts;
   #library;
   #entries = new Map();
+  #withdrawals = []; // those that are not over, in the order in which they came
+  #over = 0; // how many came before these
   #deaf = 0n;
 
   /** Makes an empty store. */
@@ -31,7 +33,16 @@ export class MemoryStore {
   async withdraw(key, expires) {
     const library = await this.#started(), earlier = this.#entries.get(nameOf(key))?.until ?? 0n;
     const until = library.claimUntil(expiryOf(expires), this.#margin);
-    this.#entries.set(nameOf(key), { owner: new Uint8Array(WITHDRAWN), until: until > earlier ? until : earlier });
+    const entry = { owner: new Uint8Array(WITHDRAWN), until: until > earlier ? until : earlier };
+    this.#entries.set(nameOf(key), entry);
+    for (const time = this.#now(); this.#withdrawals.length && this.#withdrawals[0].until <= time; this.#over++) this.#withdrawals.shift();
+    this.#withdrawals.push({ key: key.slice(), expires: expiryOf(expires), until: entry.until });
+  }
+
+  /** The withdrawals that came after a position, and the position up to which these are. The first one is "". */
+  async withdrawals(after) {
+    const from = Math.max(Number(after) - this.#over, 0);
+    return { these: this.#withdrawals.slice(from).map(({ key, expires }) => ({ key, expires })), last: String(this.#over + this.#withdrawals.length) };
   }
 
   /** Loses all entries, as a server does that crashes. */

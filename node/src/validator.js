@@ -2,7 +2,7 @@
 
 import { Refusal } from "./errors.js";
 import {
-  aboutCheck, audiences, bundlesOf, bytesOf, callerOf, expiryOf, keyOf, limit, modeOf, nameOf, patternsOf, random, readPatterns, seconds, tokenOf,
+  aboutCheck, audiences, bundlesOf, bytesOf, callerOf, clockOf, expiryOf, keyOf, limit, longestOf, modeOf, nameOf, patternsOf, random, readPatterns, seconds, tokenOf,
   validatorId, waitOf,
 } from "./given.js";
 import { BATCH, LEAST_RSA_BITS, Library, MOST_RSA_BITS, USUAL_RSA_BITS, joined } from "./library.js";
@@ -26,6 +26,11 @@ function verifierOf(options) {
   return (library) => new Verifier(library, bits, verify);
 }
 
+/** The sources of bundles that a caller names. (Their module is for Node alone.) */
+async function sourcesOf(follow) {
+  return (await import("./follow.js")).Sources.open({ ...follow });
+}
+
 /** Calls `open` with a library, and closes that where it throws. */
 async function opened(open) {
   const library = await Library.start();
@@ -42,21 +47,27 @@ export class Validator {
   #library;
   #member;
   #isBound;
+  #clock;
+  #follows;
 
   /** Opens a validator whose record is empty. */
   static async open(options) {
     // (left out in silence, it would let each process accept the token)
     if (options.log !== undefined) throw new TypeError(NO_LOG);
-    const own = audiences(options.audiences), bundles = bundlesOf(options.bundles), { mode, store } = modeOf(options), wait = waitOf(options.wait);
-    const longest = limit("longest", options.longest), ahead = limit("ahead", options.ahead ?? 10), step = limit("step", options.step);
+    const own = audiences(options.audiences), { mode, store } = modeOf(options), wait = waitOf(options.wait), clock = clockOf(options.now);
+    if (options.follow !== undefined && options.bundles !== undefined) throw new TypeError("give bundles, or follow sources of them");
+    const bundles = options.follow === undefined ? bundlesOf(options.bundles) : [];
+    const longest = longestOf(options.longest), ahead = limit("ahead", options.ahead ?? 10), step = limit("step", options.step);
     const callers = patternsOf("callers", options.callers), verifier = verifierOf(options);
+    const following = options.follow && sourcesOf(options.follow);
     // (all options are read by here: whoever gave them may change them while this waits)
-    const terms = { longest, ahead, step, validatorId: await validatorId(options.validatorId) }, life = await random();
+    const terms = { longest, ahead, step, validatorId: await validatorId(options.validatorId) }, life = await random(), sources = await following;
     const ready = await opened((library) => {
       readPatterns(callers, (...it) => library.allows(...it));
       if (callers && own.some((it) => it.includes("\n"))) throw new RangeError("with callers, no audience has a line feed");
       library.openValidator(terms, own, bundles);
-      return { library, mode, member: new Member(library, verifier(library), { mode, wait, callers, store, own, longest, ahead, life }) };
+      const given = { mode, wait, callers, store, own, longest, ahead, life, clock, sources };
+      return { library, mode, clock, follows: sources !== undefined, member: new Member(library, verifier(library), given) };
     });
     const validator = new this(ready);
     await ready.member.begin();
@@ -69,6 +80,8 @@ export class Validator {
     this.#library = ready.library;
     this.#member = ready.member;
     this.#isBound = ready.mode === "bound";
+    this.#clock = ready.clock;
+    this.#follows = ready.follows;
   }
 
   /** Frees the record and the bundles. Closing twice does nothing. */
@@ -83,7 +96,7 @@ export class Validator {
 
   /** The first reason why no tokens are to be sent to this validator, as a sentence, or null. */
   unready(now) {
-    return this.#member.unready(seconds(now));
+    return this.#member.unready(this.#time(now));
   }
 
   /** Accepts a token, as the mode says. */
@@ -91,14 +104,14 @@ export class Validator {
     const { now, caller } = aboutCheck(about), text = tokenOf(token);
     if (now !== undefined) seconds(now);
     if ((caller !== undefined) !== this.#isBound) throw new TypeError("give a caller in the mode bound, and in no other one");
-    return this.#member.check(text, () => seconds(now), this.#isBound ? await callerOf(caller) : undefined);
+    return this.#member.check(text, () => this.#time(now), this.#isBound ? await callerOf(caller) : undefined);
   }
 
   /** Answers what `check` would, and uses nothing up. */
   async judge(token, now) {
     const text = tokenOf(token);
     if (now !== undefined) seconds(now);
-    return this.#member.judge(text, () => seconds(now));
+    return this.#member.judge(text, () => this.#time(now));
   }
 
   /** Withdraws a token until it expires. */
@@ -109,7 +122,7 @@ export class Validator {
 
   /** Withdraws the token with this key, which expires then. */
   async withdrawKey(key, expires, now) {
-    return this.#member.withdraw(seconds(now), keyOf(key), expiryOf(expires));
+    return this.#member.withdraw(this.#time(now), keyOf(key), expiryOf(expires));
   }
 
   /** What a token says. Nobody has vouched for it. */
@@ -129,12 +142,12 @@ export class Validator {
 
   /** Advances the record, and drops what has expired. */
   tick(now) {
-    this.#library.tick(seconds(now));
+    this.#library.tick(this.#time(now));
   }
 
   /** Takes messages of other validators, or a record that was saved. */
   take(messages, now) {
-    this.#library.take(seconds(now), bytesOf("messages", messages));
+    this.#library.take(this.#time(now), bytesOf("messages", messages));
   }
 
   /** The record as messages, in pieces. */
@@ -160,7 +173,7 @@ export class Validator {
 
   /** Answers the summary of another validator. */
   answer(summary, now) {
-    return this.#library.answer(seconds(now), bytesOf("summary", summary));
+    return this.#library.answer(this.#time(now), bytesOf("summary", summary));
   }
 
   /** What the record holds, as `svid report` prints it. */
@@ -170,8 +183,13 @@ export class Validator {
 
   /** Replaces the bundles. The record stays. */
   renew(bundles) {
-    this.#library.renew(bundlesOf(bundles));
-    this.#member.renewed();
+    if (this.#follows) throw new TypeError("this validator follows sources of bundles, which would replace these");
+    this.#member.renew(bundlesOf(bundles));
+  }
+
+  // The time of a call.
+  #time(now) {
+    return now === undefined ? this.#clock() : seconds(now);
   }
 }
 
@@ -183,7 +201,7 @@ export class Bundles {
 
   /** Reads bundles. */
   static async open(options) {
-    const own = audiences(options.audiences), longest = limit("longest", options.longest), bundles = bundlesOf(options.bundles);
+    const own = audiences(options.audiences), longest = longestOf(options.longest), bundles = bundlesOf(options.bundles);
     const verifier = verifierOf(options);
     return opened((library) => {
       library.openBundles(bundles);

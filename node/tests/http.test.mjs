@@ -10,6 +10,7 @@ const { MemoryStore, Validator, guard, protect } = await imported();
 // (Debian's packages stand where only `require` looks)
 const express = createRequire("/usr/share/nodejs/")("express");
 
+const PATHS = ["/healthz", "/static/*"];
 const one = issuer(), terms = { audiences: "ledger", bundles: one.bundles, wait: 600 };
 
 const hello = (req, res) => res.end(`hello ${req.svid.spiffeId}`);
@@ -27,7 +28,7 @@ const app = (validator, options) => {
 const SERVERS = { Express: app, "node:http": (validator, options) => protect(validator, hello, options) };
 
 // What a server answers to requests with these headers, each a list of values of Authorization.
-async function answers(listener, requests) {
+async function answers(listener, requests, { path = "/", method = "GET", seen = shortly } = {}) {
   const server = createServer(listener);
   await new Promise((resolve) => server.listen(0, "127.0.0.1", resolve));
   const said = [];
@@ -35,11 +36,11 @@ async function answers(listener, requests) {
     for (const values of requests) {
       said.push(await new Promise((resolve, reject) => {
         const headers = values.length ? { authorization: values.length === 1 ? values[0] : values } : {};
-        const sent = request({ port: server.address().port, host: "127.0.0.1", agent: false, headers }, (res) => {
+        const sent = request({ port: server.address().port, host: "127.0.0.1", agent: false, headers, path, method }, (res) => {
           let text = "";
           res.setEncoding("utf8");
           res.on("data", (it) => (text += it));
-          res.on("end", () => resolve([res.statusCode, res.headers["www-authenticate"] ?? text]));
+          res.on("end", () => resolve(seen(res, text)));
         });
         sent.on("error", reject);
         sent.end();
@@ -51,7 +52,67 @@ async function answers(listener, requests) {
   return said;
 }
 
+// The status of an answer, and its challenge or its body.
+const shortly = (res, text) => [res.statusCode, res.headers["www-authenticate"] ?? text];
+const UNAVAILABLE = [503, '{"reason":"NotJudged","result":"unavailable"}\n'];
+
 for (const [name, listener] of Object.entries(SERVERS)) {
+  test(`${name}: what is not let in is answered as svidd does`, async () => {
+    const validator = await Validator.open(terms), reuse = await Validator.open({ ...terms, callers: "spiffe://example.org/other" }), good = token(one);
+    const closed = await Validator.open(terms);
+    closed.close();
+    const seen = ({ statusCode, headers }, body) => [
+      statusCode, headers["www-authenticate"], headers["retry-after"], headers["cache-control"], headers["content-type"], headers["content-length"], body.trim(),
+    ];
+    const due = (status, challenge, reason, result = "refused") => {
+      const body = `{"reason":"${reason}","result":"${result}"}`;
+      return [status, challenge, status === 503 ? "1" : undefined, "no-store", "application/json", String(body.length + 1), body];
+    };
+    const said = async (by, values, options) => (await answers(listener(by, { onError: () => {} }), [values], { seen, ...options }))[0];
+    const invalid = (why) => `Bearer error="invalid_token", error_description="${why}"`, none = 'Bearer realm="svid"';
+    assert.deepEqual(await said(validator, []), due(401, none, "NoToken"));
+    assert.deepEqual(await said(validator, ["Basic YTpi"]), due(401, none, "NotBearer"));
+    assert.deepEqual(await said(validator, ["Bearer a b"]), due(401, 'Bearer error="invalid_request", error_description="NotBearer"', "NotBearer"));
+    assert.deepEqual(await said(validator, [`Bearer ${token(one, { exp: now() - 1 })}`]), due(401, invalid("Expired"), "Expired"));
+    assert.deepEqual(await said(reuse, [`Bearer ${good}`]), due(403, 'Bearer error="insufficient_scope", error_description="NotAllowed"', "NotAllowed"));
+    assert.deepEqual(await said(closed, [`Bearer ${good}`]), due(503, undefined, "NotJudged", "unavailable"));
+    const [status, , , cached] = await said(validator, [`Bearer ${good}`]);
+    assert.deepEqual([status, cached], [200, undefined]);
+    for (const it of [validator, reuse]) it.close();
+  });
+
+  test(`${name}: a path that is open needs no token, and no other one is open`, async () => {
+    const validator = await Validator.open(terms), who = (req, res) => res.end(req.svid === undefined ? "nobody" : req.svid.spiffeId);
+    const opened = name === "Express" ? express().use((req, _res, next) => ((req.svid = "forged"), next()), guard(validator, { openPaths: PATHS }), who)
+      : protect(validator, who, { openPaths: PATHS });
+    const said = async (path, values = [], method) => (await answers(opened, [values], { path, method }))[0];
+    for (const path of ["/healthz", "/healthz?a=/b", "/static/a", "/static/a/b.css", "/static/a/"]) assert.deepEqual(await said(path), [200, "nobody"], path);
+    const shut = ["/", "/healthz/", "/healthz/a", "/Healthz", "/%68ealthz", "/static", "/static/", "/static/../a", "/static/%2e%2e/a", "/static//a", "/static/./a",
+      "/static/a;b", "/static/a%00", "//healthz", "/x/healthz", "/staticky/a"];
+    for (const path of shut) assert.deepEqual(await said(path), [401, 'Bearer realm="svid"'], path);
+    assert.deepEqual(await said("/healthz", [], "POST"), [200, "nobody"]);
+    // (a token is not looked at there, and is not used up)
+    const text = token(one);
+    assert.deepEqual(await said("/healthz", [`Bearer ${text}`]), [200, "nobody"]);
+    assert.deepEqual(await said("/", [`Bearer ${text}`]), [200, "spiffe://example.org/billing/api"]);
+    for (const it of ["healthz", "/a/../b", "/a//b", "/*/b", "/a*", "/%41", "/a?b", "", 7]) assert.throws(() => listener(validator, { openPaths: [it] }), RangeError, it);
+    validator.close();
+  });
+
+  test(`${name}: a hook is told of refusals, and what it throws changes no answer`, async () => {
+    const told = [], validator = await Validator.open({ ...terms, callers: "spiffe://example.org/billing/*" });
+    const onRefusal = (why, req) => {
+      told.push([why.name, typeof req.url]);
+      throw new Error("no logger");
+    };
+    const guarded = listener(validator, { onRefusal }), other = token(one, { sub: "spiffe://example.org/other" });
+    const said = (await answers(guarded, [[`Bearer ${other}`], ["Bearer a"], [], [`Bearer ${token(one)}`]])).map(([status]) => status);
+    assert.deepEqual(said, [403, 401, 401, 200]);
+    assert.deepEqual(told, [["NotAllowed", "string"], ["NotThreeParts", "string"]]);
+    for (const it of ["onRefusal", "onError", "caller"]) assert.throws(() => listener(validator, { [it]: 7 }), { name: "TypeError", message: `${it} is a function` });
+    validator.close();
+  });
+
   test(`${name}: a good token is let in once, and all else is answered with a challenge`, async () => {
     const validator = await Validator.open(terms), good = token(one), another = token(one);
     const said = await answers(listener(validator), [
@@ -89,9 +150,9 @@ for (const [name, listener] of Object.entries(SERVERS)) {
       throw new Error("no logger");
     };
     const validator = await Validator.open({ ...terms, verify: () => Promise.reject(new Error("no such key")) });
-    assert.deepEqual(await answers(listener(validator, { onError }), [[`Bearer ${token(one)}`]]), [[503, ""]]);
+    assert.deepEqual(await answers(listener(validator, { onError }), [[`Bearer ${token(one)}`]]), [UNAVAILABLE]);
     validator.close();
-    assert.deepEqual(await answers(listener(validator, { onError }), [[`Bearer ${token(one)}`]]), [[503, ""]]);
+    assert.deepEqual(await answers(listener(validator, { onError }), [[`Bearer ${token(one)}`]]), [UNAVAILABLE]);
     assert.deepEqual(told, [["Unverifiable", "string"], ["Closed", "string"]]);
   });
 
@@ -101,7 +162,7 @@ for (const [name, listener] of Object.entries(SERVERS)) {
     assert.deepEqual(await answers(listener(closed, { onError }), [[`Bearer ${good}`]]), [[403, 'Bearer error="insufficient_scope", error_description="NotAllowed"']]);
     const store = new MemoryStore(), validator = await Validator.open({ ...terms, mode: "strict", store, wait: 0.2 });
     store.put = () => Promise.reject(new Error("the store is away"));
-    assert.deepEqual(await answers(listener(validator, { onError }), [[`Bearer ${good}`]]), [[503, ""]]);
+    assert.deepEqual(await answers(listener(validator, { onError }), [[`Bearer ${good}`]]), [UNAVAILABLE]);
     assert.deepEqual(told, [["Unavailable", "the store is away"]]);
     for (const it of [closed, validator]) it.close();
   });
@@ -110,12 +171,12 @@ for (const [name, listener] of Object.entries(SERVERS)) {
     const validator = await Validator.open({ ...terms, mode: "bound", store: new MemoryStore() }), good = token(one), told = [];
     const of = (who) => listener(validator, { caller: (req) => who ?? req.socket.remoteAddress, onError: (why) => told.push(why.name) });
     const hello = [200, "hello spiffe://example.org/billing/api"], thief = [401, 'Bearer error="invalid_token", error_description="Replayed"'];
-    for (const [who, due] of [[undefined, hello], ["10.0.0.7", thief], [undefined, hello], ["127.0.0.1", hello], [7, [503, ""]]]) {
+    for (const [who, due] of [[undefined, hello], ["10.0.0.7", thief], [undefined, hello], ["127.0.0.1", hello], [7, UNAVAILABLE]]) {
       assert.deepEqual(await answers(of(who), [[`Bearer ${good}`]]), [due]);
     }
-    assert.deepEqual(await answers(listener(validator), [[`Bearer ${good}`]]), [[503, ""]]);
+    assert.deepEqual(await answers(listener(validator), [[`Bearer ${good}`]]), [UNAVAILABLE]);
     assert.deepEqual(told, ["TypeError"]);
-    assert.throws(() => listener(validator, { caller: "10.0.0.7" }), { name: "TypeError", message: /caller is a function/ });
+    assert.throws(() => listener(validator, { caller: "10.0.0.7" }), { name: "TypeError", message: "caller is a function" });
     validator.close();
   });
 

@@ -66,7 +66,7 @@ test("in mode reuse a token may come again, until it is withdrawn", async () => 
 });
 
 test("a store is given in the modes that claim tokens, and in no other one", async () => {
-  const store = new MemoryStore();
+  const { put, withdraw } = new MemoryStore(), store = { put, withdraw };
   const wrong = [{ mode: "strict" }, { mode: "bound" }, { store }, { mode: "once", store }, { mode: "reuse", store }, { mode: "strict", store: {} }];
   for (const it of wrong) await assert.rejects(Validator.open({ ...terms, ...it }), TypeError);
   for (const mode of ["twice", "", "toString", null, 1]) {
@@ -653,12 +653,112 @@ test("a store that goes away, and comes back", async () => {
   const store = new Fickle(), validator = await strict(store, { wait: 0.1 });
   assert.equal(validator.ready, true);
   store.before = away;
-  assert.equal(await said(validator.check(token(one))), "Unavailable");
-  await until(() => !validator.ready);
+  // (on a busy machine the time of a check may be over before its claim goes out)
+  await until(async () => {
+    assert.equal(await said(validator.check(token(one))), "Unavailable");
+    return !validator.ready;
+  });
   assert.equal(validator.unready(), sentences("STORE_AWAY"));
   store.before = () => {};
   await until(() => validator.ready); // (each look asks the store)
   validator.close();
+});
+
+test("a store's withdrawals are heard in each mode but strict", async () => {
+  for (const mode of ["once", "reuse", "bound"]) {
+    const store = new MemoryStore(), terms_ = { ...terms, mode, store }, about = mode === "bound" ? { caller: "10.0.0.7" } : {};
+    const before = token(one), later = token(one);
+    const validators = [await Validator.open(terms_)];
+    await validators[0].withdraw(before);
+    validators.push(await Validator.open(terms_));
+    for (const it of validators) assert.equal(await said(it.check(before, about)), "Withdrawn", mode);
+    await validators[1].withdraw(later);
+    // (a judgment asks the store nothing)
+    await until(async () => (await said(validators[0].judge(later))) === "Withdrawn");
+    for (const it of validators) it.close();
+  }
+});
+
+test("withdrawals are read page by page, and until they are no token is judged", async () => {
+  const texts = times(3, () => token(one)), store = new MemoryStore(), asked = [], hold = gate();
+  const reader = await Validator.open({ ...terms, mode: "reuse" });
+  const keys = texts.map((it) => reader.says(it).key), expires = now() + 3000;
+  store.withdrawals = async (after, { signal }) => {
+    asked.push(after);
+    assert.equal(signal.aborted, false);
+    if (after === "2") await hold.passed;
+    const at = Number(after);
+    return { these: keys.slice(at, at + 1).map((key) => ({ key, expires })), last: String(Math.min(at + 1, 3)) };
+  };
+  const validator = await Validator.open({ ...terms, mode: "once", store, wait: 0.1 });
+  assert.equal(validator.unready(), sentences("WITHDRAWALS_UNREAD"));
+  const why = await validator.check(texts[0]).catch((it) => it);
+  assert.deepEqual([why.name, why.message], ["Unavailable", sentences("WITHDRAWALS_UNREAD")]);
+  hold.open();
+  await until(() => validator.ready);
+  assert.deepEqual(asked.slice(0, 4), ["", "1", "2", "3"]);
+  for (const it of texts) assert.equal(await said(validator.judge(it)), "Withdrawn");
+  await until(() => asked.length > 4);
+  assert.equal(asked[4], "3");
+  for (const it of [validator, reader]) it.close();
+});
+
+test("withdrawals that fail, or are none, are read again, and tell that the store is away", async () => {
+  const store = new MemoryStore(), text = token(one), read = store.withdrawals.bind(store);
+  const wrong = [undefined, {}, { these: [], last: 7 }, { these: [{ key: new Uint8Array(31), expires: 1 }], last: "1" }, { these: [{ key: new Uint8Array(32), expires: -1 }], last: "1" }];
+  store.withdrawals = away;
+  const validator = await bound(store, { wait: 0.1 });
+  assert.equal(validator.ready, false);
+  assert.equal((await validator.check(text, { caller: "10.0.0.7" }).catch((it) => it)).cause.message, "the store is away");
+  store.withdrawals = async (after) => (wrong.length ? wrong.shift() : read(after));
+  await until(() => validator.ready);
+  assert.equal(wrong.length, 0);
+  store.withdrawals = away;
+  await until(() => validator.unready() === sentences("STORE_AWAY"));
+  store.withdrawals = read;
+  await until(() => validator.ready);
+  validator.close();
+});
+
+test("a withdrawal of a token that is over holds up no other one", async () => {
+  const store = new MemoryStore(), text = token(one), reader = await Validator.open({ ...terms, mode: "reuse" });
+  const these = [{ key: new Uint8Array(32), expires: 1 }, { key: reader.says(text).key, expires: now() + 3000 }];
+  store.withdrawals = async () => ({ these, last: "" });
+  const validator = await Validator.open({ ...terms, store });
+  assert.equal(await said(validator.check(text)), "Withdrawn");
+  for (const it of [validator, reader]) it.close();
+});
+
+test("a store in memory tells what was withdrawn, and forgets what is over", async () => {
+  let time = 1000;
+  const store = new MemoryStore({ now: () => time, margin: 5 }), key = (n) => new Uint8Array(32).fill(n);
+  await store.withdraw(key(1), 1010);
+  await store.withdraw(key(2), 2000);
+  assert.deepEqual(await store.withdrawals(""), { these: [{ key: key(1), expires: 1010n }, { key: key(2), expires: 2000n }], last: "2" });
+  assert.deepEqual(await store.withdrawals("2"), { these: [], last: "2" });
+  time = 1016;
+  await store.withdraw(key(3), 3000);
+  assert.deepEqual(await store.withdrawals(""), { these: [{ key: key(2), expires: 2000n }, { key: key(3), expires: 3000n }], last: "3" });
+  assert.deepEqual(await store.withdrawals("2"), { these: [{ key: key(3), expires: 3000n }], last: "3" });
+  assert.deepEqual((await store.withdrawals("of another store")).these.length, 2);
+});
+
+test("withdrawals that are read keep neither the process, nor a validator that was dropped", async () => {
+  const stdout = await programSays(`let asked = 0;
+    const store = { put: async () => [], withdraw: async () => {}, withdrawals: async (last) => (asked++, { these: [], last }) };
+    let started = 0, freed = 0;
+    const watch = new FinalizationRegistry(() => (freed += 1)), instantiate = WebAssembly.instantiate;
+    WebAssembly.instantiate = async (...given) => {
+      const instance = await instantiate(...given);
+      watch.register(instance.exports.memory, (started += 1));
+      return instance;
+    };
+    const open = async () => void (await Validator.open({ ...terms, mode: "once", store }));
+    for (let n = 0; n < 3; n++) await open();
+    await collectUntil(() => freed === started);
+    console.log(asked >= 3, started - freed);
+    globalThis.kept = await Validator.open({ ...terms, mode: "once", store });`);
+  assert.equal(stdout, "true 0\n");
 });
 
 test("a clock that jumps", async () => {

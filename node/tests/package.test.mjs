@@ -2,7 +2,7 @@
 
 import assert from "node:assert/strict";
 import { execFile } from "node:child_process";
-import { copyFile, mkdir, mkdtemp, readFile, rm, writeFile } from "node:fs/promises";
+import { copyFile, mkdir, mkdtemp, readFile, readdir, rm, writeFile } from "node:fs/promises";
 import { tmpdir } from "node:os";
 import { join } from "node:path";
 import { after, before, test } from "node:test";
@@ -33,30 +33,39 @@ test("the archive is the same each time, and works by itself where it is unpacke
   const quiet = ["--offline", "--silent", "--no-audit", "--no-fund", "--no-update-notifier", "--cache", join(room, "cache")];
   await run("npm", ["install", ...quiet, archives[0]], { cwd: elsewhere });
   const files = (await run("tar", ["-tzf", archives[0]])).stdout.trim().split("\n").map((it) => it.replace("package/", "")).sort();
-  const src = ["claims", "errors", "given", "http", "library", "member", "signatures", "stores", "validator"].map((it) => `src/${it}.js`);
-  assert.deepEqual(files, ["README.md", "index.d.ts", "index.js", "package.json", ...src, "svid.wasm"].sort());
+  const src = (await readdir(`${TOP}/node/src`)).map((it) => `src/${it}`);
+  const types = ["index", "testing"].flatMap((it) => [`${it}.d.cts`, `${it}.d.ts`]);
+  assert.deepEqual(files, ["README.md", "index.cjs", "index.js", "package.json", "testing.js", ...types, ...src, "svid.wasm"].sort());
   await Promise.all(["bundles.json", "token.txt"].map((it) => copyFile(`${TOP}/examples/${it}`, join(elsewhere, it))));
   const program = `import { readFileSync } from "node:fs";
     import { Validator } from "svid";
-    const validator = await Validator.open({ audiences: "ledger", bundles: readFileSync("bundles.json") });
+    const validator = await Validator.open({ audiences: "ledger", bundles: readFileSync("bundles.json"), longest: "unlimited" });
     const token = readFileSync("token.txt", "utf8").trim();
     for (let n = 0; n < 2; n++) console.log(await validator.check(token).then((it) => it.spiffeId, (why) => why.name));
     console.log(typeof require);`;
   const words = [...NODE, "--input-type=module", "--eval", program];
   const { stdout } = await run(process.execPath, words, { cwd: elsewhere });
   assert.equal(stdout, "spiffe://example.org/billing/api\nReplayed\nundefined\n");
+  const required = `const { Issuer } = require("svid/testing"), { Refusal, Validator } = require("svid");
+    import("svid").then((it) => console.log(it.Validator === Validator && it.Refusal === Refusal, new Issuer().token().split(".").length));`;
+  const ran = await run(process.execPath, [...NODE, "--input-type=commonjs", "--eval", required], { cwd: elsewhere }).catch((why) => why);
+  // (a Node that can't says what to do)
+  if (process.features.require_module) assert.deepEqual([ran.stdout, ran.stderr], ["true 3\n", ""]);
+  else assert.match(ran.stderr, /this Node can't require this package, as Node 20\.19, 22\.12 and later can: write `await import/);
 });
 
 test("the types compile under strict, and say what is wrong", async () => {
   const folder = join(room, "types");
   await mkdir(join(folder, "node_modules/svid/src"), { recursive: true });
-  for (const it of ["package.json", "index.d.ts"]) await copyFile(`${PACKAGE}/${it}`, join(folder, "node_modules/svid", it));
+  const types = (await readdir(PACKAGE)).filter((it) => /\.d\.c?ts$/.test(it));
+  for (const it of ["package.json", ...types]) await copyFile(`${PACKAGE}/${it}`, join(folder, "node_modules/svid", it));
   await copyFile(`${TOP}/node/tests/types.ts`, join(folder, "types.mts"));
+  await copyFile(`${TOP}/node/tests/required.ts`, join(folder, "required.cts"));
   const compilerOptions = {
     strict: true, noEmit: true, target: "es2022", module: "nodenext", moduleResolution: "nodenext", lib: ["es2022", "dom"], types: [],
     exactOptionalPropertyTypes: true, noUnusedLocals: true,
   };
-  await writeFile(join(folder, "tsconfig.json"), JSON.stringify({ compilerOptions, files: ["types.mts"] }));
+  await writeFile(join(folder, "tsconfig.json"), JSON.stringify({ compilerOptions, files: ["types.mts", "required.cts"] }));
   const ran = await run("tsc", [], { cwd: folder }).catch((why) => why);
   assert.equal(ran.stdout, "");
   assert.equal(ran.code, undefined);
@@ -73,8 +82,10 @@ test("no name in the package is unknown or unused", async () => {
 
 test("the types have what the package has", async () => {
   const types = read("node/index.d.ts"), svid = await imported();
-  const declared = [...types.matchAll(/^export (?:class|function|const) (\w+)/gm)].map(([, name]) => name);
-  assert.deepEqual(declared.sort(), Object.keys(svid).sort());
+  for (const it of ["index", "testing"]) {
+    const declared = [...read(`node/${it}.d.ts`).matchAll(/^export (?:(?:class|function|const) (\w+)|\{ (\w+) \})/gm)].map(([, name, other]) => name ?? other);
+    assert.deepEqual(declared.sort(), Object.keys(await imported(`${it}.js`)).sort());
+  }
   for (const name of ["Validator", "Bundles"]) {
     const body = types.match(new RegExp(`^export class ${name}\\b[^]*?^}`, "m"))[0];
     const said = [...body.matchAll(/^ {2}(?:static |readonly )?(\w+)[(:]/gm)].map(([, it]) => it).filter((it) => it !== "constructor");
@@ -87,14 +98,14 @@ test("the types have what the package has", async () => {
   }
 });
 
-test("everything public is documented", () => {
-  const lines = read("node/index.d.ts").split("\n");
+for (const file of ["index.d.ts", "testing.d.ts"]) test(`everything public in ${file} is documented`, () => {
+  const lines = read(`node/${file}`).split("\n");
   for (const [n, line] of lines.entries()) {
     if (!/^export (class|interface|type|function|const) |^ {2}(static |readonly )?\w+\??[(:]/.test(line) || /constructor|\boff: /.test(line)) continue;
     const isOfOutgoing = /^ {2}(statusCode|setHeader|end)\b/.test(line);
     const isParameter = /^ {2}(validator|options\?|handler): /.test(line);
     const before = lines[n - 1] ?? "";
     const isListed = before.includes("lists:begin");
-    assert.ok(isOfOutgoing || isParameter || isListed || before.trim().endsWith("*/"), `index.d.ts:${n + 1}: ${line}`);
+    assert.ok(isOfOutgoing || isParameter || isListed || before.trim().endsWith("*/"), `${file}:${n + 1}: ${line}`);
   }
 });

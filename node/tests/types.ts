@@ -1,7 +1,7 @@
 // What TypeScript makes of the package, under strict: tests/package.test.mjs compiles this.
 
 import { Bundles, MemoryStore, NotAllowed, REFUSALS, Refusal, SvidError, Unavailable, Validator, guard, protect } from "svid";
-import type { Accepted, Claim, Found, RefusalName, Store, Use, Verify } from "svid";
+import type { Accepted, Claim, Follow, Found, RefusalName, Store, Use, Verify } from "svid";
 
 const validator: Validator = await Validator.open({ audiences: ["ledger"], bundles: { "example.org": "{}", "other.org": { keys: [] } }, longest: 60n });
 const accepted: Accepted = await validator.check("a.b.c", 1_767_225_600);
@@ -9,6 +9,13 @@ const id: string = accepted.spiffeId, expires: bigint = accepted.expires, messag
 
 // @ts-expect-error (bundles are wanted)
 await Validator.open({ audiences: "ledger" });
+// @ts-expect-error (bundles are given, or followed)
+await Validator.open({ audiences: "ledger", bundles: "{}", follow: { folder: "bundles" } });
+const follow: Follow = { folder: "bundles", sources: { "example.com": "a.json", "example.net": { url: "https://example.net/", id: "spiffe://example.net/server" } } };
+const followed = await Validator.open({ audiences: "ledger", follow: { ...follow, onFault: (why, source) => console.error(why?.message, source) }, now: () => 5n });
+// @ts-expect-error (no life has this name)
+await Validator.open({ audiences: "ledger", bundles: "{}", longest: "short" });
+await Validator.open({ audiences: "ledger", bundles: "{}", longest: "unlimited" });
 // @ts-expect-error (there is no log of a group)
 await Validator.open({ audiences: "ledger", bundles: "{}", log: {} });
 // @ts-expect-error (audiences are texts)
@@ -49,6 +56,7 @@ bundles.check("a.b.c");
 const store: Store = {
   put: async (claims: readonly Claim[], { signal }): Promise<Found[]> => claims.map((it) => ({ owner: it.owner, time: signal.aborted ? 0 : 1n })),
   withdraw: async (key, expires) => console.log(key.length, expires > 0n),
+  withdrawals: async (after) => ({ these: [{ key: new Uint8Array(32), expires: 5 }], last: after }),
 };
 const strict = await Validator.open({ audiences: "ledger", bundles: "{}", mode: "strict", store, wait: 0.5, callers: ["spiffe://example.org"] });
 const reason: string | null = strict.ready ? null : strict.unready(5);
@@ -65,9 +73,13 @@ await bound.check("a.b.c", { caller: 7 });
 // @ts-expect-error (a judgment asks for no caller)
 await bound.judge("a.b.c", { caller: "10.0.0.7" });
 
-const middleware = guard(validator, { onError: (why, req) => console.error(why, req.rawHeaders) });
+const middleware = guard(validator, { onError: (why, req) => console.error(why, req.rawHeaders), openPaths: ["/healthz"], onRefusal: (why) => console.log(why.name) });
+// (@types/express extends this one)
+const ofExpress = (req: Express.Request): string => `${req.svid?.audience} ${req.svid?.keyId} ${JSON.stringify(req.svid)}`;
+// @ts-expect-error (a path that is open has none)
+const unsure = (req: Express.Request): string => req.svid.spiffeId;
 const listener = protect(validator, (req: { rawHeaders: string[]; svid: Accepted }, res: { statusCode: number; setHeader(name: string, value: string): void; end(text?: string): void }) => res.end(req.svid.spiffeId));
 const bearer = validator.bearer(["Bearer a"]);
 if (bearer.token) await validator.check(bearer.token);
 else console.log(bearer.several || bearer.spelling);
-void [id, expires, message, early, moment, uses, names, middleware, listener, reason, isKnown];
+void [followed, ofExpress, unsure, id, expires, message, early, moment, uses, names, middleware, listener, reason, isKnown];

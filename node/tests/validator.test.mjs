@@ -1,8 +1,10 @@
 // What a validator does beside the vectors: many checks at once, withdrawals, messages, bundles, times, and want of memory.
 
 import assert from "node:assert/strict";
+import { readdirSync } from "node:fs";
 import { test } from "node:test";
-import { PACKAGE, counted, digest, exhausted, hex, imported, issuer, listed, now, read, said, seen, token } from "./making.mjs";
+import { inspect } from "node:util";
+import { PACKAGE, TOP, counted, digest, exhausted, hex, imported, issuer, listed, now, read, said, seen, token } from "./making.mjs";
 
 const { Bundles, REFUSALS, Refusal, SvidError, Validator } = await imported();
 const { sentences } = await listed();
@@ -34,6 +36,44 @@ test("an acceptance has all that it says", async () => {
   assert.deepEqual(validator.size(), { moment: BigInt(time), uses: 1 });
   const bare = await validator.check(token(one, { sub: "spiffe://example.org" }), time);
   assert.deepEqual([bare.trustDomain, bare.path], ["example.org", ""]);
+  validator.close();
+});
+
+test("an acceptance says which audience matched and which key signed, and is written as JSON", async () => {
+  const time = now(), own = ["first", "ledger", "last"], validator = await Validator.open({ ...terms, audiences: own }), judge = await Bundles.open({ ...terms, audiences: own });
+  const text = token(one, { aud: ["other", "last", "ledger"], exp: time + 60 });
+  const all = [await validator.judge(text, time), await validator.check(text, time), await judge.judge(text, time)];
+  for (const it of all) {
+    assert.deepEqual([it.audience, it.keyId], ["ledger", "k1"]);
+    const { use, ...rest } = JSON.parse(JSON.stringify(it));
+    assert.deepEqual(rest, {
+      spiffeId: "spiffe://example.org/billing/api", trustDomain: "example.org", path: "/billing/api", expires: time + 60, audience: "ledger", keyId: "k1",
+    });
+    assert.deepEqual([use.expires, use.at, use.withdrawn, use.key, use.message], [time + 60, time, false, hex(it.use.key), hex(it.use.message)]);
+    assert.ok(!JSON.stringify(it).includes(text.slice(-20)) && !inspect(it, { showHidden: true, depth: 9 }).includes(text.slice(-20)));
+  }
+  const withdrawn = await validator.withdrawKey(new Uint8Array(32), 2n ** 60n, time);
+  assert.deepEqual(JSON.parse(JSON.stringify(withdrawn)).expires, String(2n ** 60n));
+  // (what was not asked for is gone with the validator)
+  const late = await validator.check(token(one), time), early = await validator.check(token(one), time);
+  assert.equal(early.keyId, "k1");
+  validator.close();
+  assert.throws(() => late.audience, { name: "Closed" });
+  assert.equal(early.audience, "ledger");
+});
+
+test("a validator goes by the clock that it is given", async () => {
+  let time = 1_800_000_000;
+  const validator = await Validator.open({ ...terms, now: () => time }), text = token(one, { exp: time + 60 });
+  assert.equal((await validator.check(text)).use.at, BigInt(time));
+  assert.equal(await said(validator.check(token(one, { nbf: time + 5, exp: time + 60 }))), "NotYet");
+  time += 60;
+  assert.equal(await said(validator.judge(text)), "Expired");
+  validator.tick();
+  assert.deepEqual(validator.size(), { moment: BigInt(time), uses: 0 });
+  time = Date.now();
+  assert.throws(() => validator.tick(), { name: "RangeError" });
+  await assert.rejects(Validator.open({ ...terms, now: 5 }), { name: "TypeError", message: /now is a function/ });
   validator.close();
 });
 
@@ -274,7 +314,7 @@ test("a clock before 1970 is refused, and the record stays", async (t) => {
 test("options that can't be are refused", async () => {
   const wrong = [
     { audiences: [] }, { audiences: "" }, { audiences: ["ledger", ""] }, { audiences: undefined }, { audiences: [1] },
-    { bundles: undefined }, { bundles: 1 }, { longest: -1 }, { longest: "60" }, { ahead: NaN }, { step: -1n },
+    { bundles: undefined }, { bundles: 1 }, { longest: -1 }, { longest: "60" }, { longest: null }, { ahead: NaN }, { step: -1n },
     { validatorId: new Uint8Array(15) }, { validatorId: "x" }, { rsaBits: 1024 }, { rsaBits: 16385 }, { rsaBits: "4096" }, { verify: 1 },
     { longest: 2n ** 64n },
   ];
@@ -319,6 +359,17 @@ test("audiences may have any characters", async () => {
     assert.equal(await said(validator.check(token(one, { aud: name }))), "accepted");
     for (const it of ["a", "b", "", "ledger"]) assert.equal(await said(validator.check(token(one, { aud: it }))), "NotAudience");
     validator.close();
+  }
+});
+
+test("a token may live for an hour, unless the caller says otherwise", async () => {
+  const time = now(), hour = token(one, { exp: time + 3600 }), more = token(one, { exp: time + 3601 });
+  for (const kind of [Validator, Bundles]) {
+    for (const [longest, due] of [[undefined, "TooLongLived"], [3601, "accepted"], ["unlimited", "accepted"]]) {
+      const it = await kind.open({ ...terms, longest });
+      assert.deepEqual([await said(it.judge(hour, time)), await said(it.judge(more, time))], ["accepted", due]);
+      it.close();
+    }
   }
 });
 
@@ -491,18 +542,17 @@ test("a module of another build is refused by name", async () => {
     WebAssembly.Module.exports = before;
   }
   const start = WebAssembly.instantiate;
-  WebAssembly.instantiate = async (...given) => ({ exports: { ...(await start(...given)).exports, svid_version: () => 30100 } });
+  WebAssembly.instantiate = async (...given) => ({ exports: { ...(await start(...given)).exports, svid_version: () => 40100 } });
   try {
-    await assert.rejects(Validator.open(terms), /has version 30100, and this package needs 2xxxx/);
+    await assert.rejects(Validator.open(terms), /has version 40100, and this package needs 3xxxx/);
   } finally {
     WebAssembly.instantiate = start;
   }
 });
 
 test("JavaScript names nothing of tokens, keys and messages", () => {
-  const modules = ["claims", "errors", "given", "http", "library", "member", "signatures", "stores", "validator"];
-  const files = ["index.js", ...modules.map((it) => `src/${it}.js`)];
-  // (what the library answers is written in errors.js by tools/lists, in sentences; an example of an ID is no rule)
+  const files = ["index.js", ...readdirSync(`${TOP}/node/src`).map((it) => `src/${it}`)];
+  // (what tools/lists writes in errors.js is no rule, nor is an example of an ID)
   const code = files.map((it) => read(`node/${it}`).replace(/lists:begin[^]*?lists:end/g, "").replace(/(^|\s)\/\/.*|\/\*[^]*?\*\//gm, "")).join("\n");
   for (const it of [/\bkty\b/, /\bcrv\b/, /\bkid\b/, /\bjti\b/, /\baud\b/, /\bexp\b/, /\bnbf\b/, /jwt-svid/, /base64url/, /\bJSR\b/, /spiffe:(?!\/\/(example\.org|DOMAIN))/, /"jwk"/]) {
     assert.doesNotMatch(code, it);

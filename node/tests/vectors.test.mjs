@@ -9,6 +9,7 @@ const { LISTED } = await listed();
 
 const ANY = 2n ** 64n - 1n;
 const READER = "python";
+const LONG = 600; // seconds for a check: a machine may be busy
 
 function vectorsOf(name) {
   const file = JSON.parse(read(`vectors/${name}.json`));
@@ -45,7 +46,7 @@ for (const name of ["keys", "signatures"]) {
   test(name, async () => {
     const file = vectorsOf(name), { now } = file.setting;
     for (const vector of file.vectors) {
-      const terms = { audiences: "ledger", bundles: { "example.org": `{"keys":[${vector.keys.join(",")}]}` }, rsaBits: vector.rsa_bits };
+      const terms = { audiences: "ledger", bundles: { "example.org": `{"keys":[${vector.keys.join(",")}]}` }, rsaBits: vector.rsa_bits, longest: "unlimited", wait: LONG };
       await using(Validator.open(terms), async (validator) => {
         assert.equal(await verdict(() => validator.judge(vector.token, now)), vector.answer, vector.name);
         assert.equal(await verdict(() => validator.check(Buffer.from(vector.token), now)), vector.answer, vector.name);
@@ -64,7 +65,7 @@ test("a signature has its length, whatever WebCrypto takes", async (t) => {
     const { token, keys } = vectors.find((it) => it.name === `${alg}, a good signature`), at = token.lastIndexOf(".") + 1;
     const of = (length) => token.slice(0, at) + Buffer.alloc(length, 7).toString("base64url");
     const due = Buffer.from(token.slice(at), "base64url").length;
-    await using(Validator.open({ audiences: "ledger", bundles: { "example.org": `{"keys":[${keys.join(",")}]}` } }), async (validator) => {
+    await using(Validator.open({ audiences: "ledger", bundles: { "example.org": `{"keys":[${keys.join(",")}]}` }, longest: "unlimited" }), async (validator) => {
       for (const length of [1, 2, due / 2, due - 2, due - 1, due + 1, due + 2, 2 * due]) {
         assert.equal(await verdict(() => validator.judge(of(length), setting.now)), "refused BadSignature", `${alg}, ${length}`);
       }
@@ -103,7 +104,7 @@ test("calls of a validator", async () => {
     const terms = {
       audiences: given.audiences,
       bundles: file.bundles[given.bundles],
-      longest: limit(given.longest),
+      longest: given.longest === null ? "unlimited" : BigInt(given.longest),
       ahead: given.ahead === null ? ANY : BigInt(given.ahead),
       step: limit(given.step),
       validatorId: bytesOf(given.validator_id),
@@ -125,10 +126,10 @@ test("bundles", async () => {
     const bundles = vector.form === "document" ? { [vector.domain]: text } : text;
     let fault = false;
     try {
-      await using(Validator.open({ audiences: "ledger", bundles }), async (validator) => {
+      await using(Validator.open({ audiences: "ledger", bundles, longest: "unlimited" }), async (validator) => {
         assert.equal(await verdict(() => validator.check(vector.token, file.setting.now)), vector.answer, vector.name);
       });
-      await using(Bundles.open({ audiences: "ledger", bundles }), async (it) => {
+      await using(Bundles.open({ audiences: "ledger", bundles, longest: "unlimited" }), async (it) => {
         assert.equal(await verdict(() => it.judge(vector.token, file.setting.now)), vector.answer, vector.name);
       });
     } catch (why) {
@@ -143,7 +144,7 @@ test("bundles", async () => {
 test("headers", async () => {
   const file = vectorsOf("headers");
   for (const vector of file.vectors) {
-    await using(Validator.open({ audiences: "ledger", bundles: file.setting.bundles }), async (validator) => {
+    await using(Validator.open({ audiences: "ledger", bundles: file.setting.bundles, longest: "unlimited" }), async (validator) => {
       const answer = {};
       const res = { setHeader: (name, value) => (answer[name] = value), end: () => (answer.ended = true) };
       const req = { rawHeaders: vector.values.flatMap((it) => ["AuthoriZation", it]) };

@@ -51,17 +51,6 @@ EXPORT(svid_validator_open,
        (svid_validator *v, const svid_terms *terms, const uint8_t *own, size_t own_len, const uint8_t *bundles, size_t bundles_len,
         svid_told *told),
        (v, terms, own, own_len, bundles, bundles_len, told))
-EXPORT(svid_validator_ask,
-       (svid_validator *v, const uint8_t *token, size_t token_len, size_t most, uint8_t *out, size_t out_len, svid_told *told),
-       (v, token, token_len, most, out, out_len, told))
-EXPORT(svid_validator_check,
-       (svid_validator *v, uint64_t now, const svid_question *yes, size_t yes_len, const uint8_t *token, size_t token_len, uint8_t *out,
-        size_t out_len, svid_use *used, svid_told *told),
-       (v, now, yes, yes_len, token, token_len, out, out_len, used, told))
-EXPORT(svid_validator_judge,
-       (svid_validator *v, uint64_t now, const svid_question *yes, size_t yes_len, const uint8_t *token, size_t token_len, uint8_t *out,
-        size_t out_len, svid_use *used, svid_told *told),
-       (v, now, yes, yes_len, token, token_len, out, out_len, used, told))
 EXPORT(svid_validator_withdraw,
        (svid_validator *v, uint64_t now, const svid_key *key, uint64_t exp, svid_use *used, svid_told *told),
        (v, now, key, exp, used, told))

@@ -18,7 +18,7 @@ const UNNAMED = "bundle";
  * @param {Library} library
  * @param input `token`, `bundles` and `domain` (of a bundle that stands alone), `own` (audiences), `now`, `longest` (or undefined),
  *   `validatorId` (of this one), and `record`, of `readRecord`
- * @returns `{ parts, names, bundles, isUnnamed, fault, domain, keys, yes, judgedAt, verdict }`: `isUnnamed` says that nobody knows yet which
+ * @returns `{ parts, names, bundles, isUnnamed, fault, domain, keys, maker, judgedAt, verdict }`: `isUnnamed` says that nobody knows yet which
  *   trust domain the bundle is of; `fault` is that of the bundles, and then nothing is judged; `domain` is the one that has the `keys`;
  *   `verdict` is `{ status, refusal, passed, isUnasked, why, marks, id, exp, key }`, where `passed` counts the refusals that do not hold,
  *   `isUnasked` says that no audience is given, so that none was looked at, and `exp` and `key` are there for a token that is accepted or
@@ -35,23 +35,23 @@ export async function examine(library, input) {
   const asked = read.status === OK ? withValidator(library, input, bundles, (validator) => validator.ask(input.token)) : read;
   if (asked.status !== OK) return { parts, names, bundles: shown, isUnnamed, fault: asked };
   const rows = await answered(asked.value.rows, input.token, library);
-  const yes = rows.filter((it) => it.answer.is === "good").map((it) => it.question);
+  const maker = rows.find((it) => it.answer.is === "good")?.key;
   const judgedAt = later(input.now, input.record.moment);
-  const { judged, isUnasked, by } = judge(library, input, names, bundles, yes);
+  const { judged, isUnasked, by } = judge(library, input, names, bundles, maker);
   const verdict = { ...explained(judged, { ...input, parts, names, library, now: judgedAt }), isUnasked };
   if (OF_RECORD.has(verdict.refusal)) {
     // (its use is the one that a validator without a record would add)
-    const { key, exp } = withValidator(library, by, bundles, (it) => it.judge(judgedAt, yes, input.token)).value;
+    const { key, exp } = withValidator(library, by, bundles, (it) => it.judge(judgedAt, maker, input.token)).value;
     Object.assign(verdict, { key, exp });
   }
   const domain = names.domain ?? onlyOf(domainsOf(shown));
   const keys = keysOf(library, rows, shown, { ...names, domain }, input.token);
-  return { parts, names, bundles, isUnnamed, domain: isUnnamed ? undefined : domain, keys, yes, judgedAt, verdict };
+  return { parts, names, bundles, isUnnamed, domain: isUnnamed ? undefined : domain, keys, maker, judgedAt, verdict };
 }
 
 // What the library says of a token. Where no audience is given, it looks at the other checks by the audiences that the token says itself.
-function judge(library, input, names, bundles, yes) {
-  const judgedBy = (by) => withRecord(library, by, bundles, (validator) => validator.judge(by.now, yes, by.token)).value;
+function judge(library, input, names, bundles, maker) {
+  const judgedBy = (by) => withRecord(library, by, bundles, (validator) => validator.judge(by.now, maker, by.token)).value;
   const judged = judgedBy(input), isUnasked = !input.own.length && refusalOf(judged.status)?.name === "NotAudience";
   if (!isUnasked) return { judged, isUnasked, by: input };
   const by = { ...input, own: names.audiences };
@@ -61,8 +61,8 @@ function judge(library, input, names, bundles, yes) {
 const onlyOf = (list) => (list.length === 1 ? list[0] : undefined);
 
 /** Checks a token that `examine` accepted: the record with its use, as messages. */
-export function use(library, input, { bundles, yes }) {
-  return changed(library, input, bundles, (validator) => validator.check(input.now, yes, input.token).status);
+export function use(library, input, { bundles, maker }) {
+  return changed(library, input, bundles, (validator) => validator.check(input.now, maker, input.token).status);
 }
 
 /** Withdraws a token that `examine` accepted, or found to be used: the record with the withdrawal, as messages. */

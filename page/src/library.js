@@ -1,8 +1,8 @@
 // The library svid as a WebAssembly module: the calls of include/svid.h that the page makes. A length, a time and an address in memory are
 // BigInts here, as they have 64 bits; a status is a number.
 
-const TOLD = 40, ID = 24, TERMS = 40, USE = 64, VALIDATOR = 16, BUNDLES = 16, DIGEST = 32, BEARER = 16, SAID = 48, DOCUMENT = 24;
-const ID_ROOM = 2048, SIGNATURE_ROOM = 49150;
+const TOLD = 40, ID = 24, TERMS = 40, USE = 64, VALIDATOR = 16, BUNDLES = 16, TOKEN = 16, DIGEST = 32, BEARER = 16, SAID = 48, DOCUMENT = 24;
+const ID_ROOM = 2048, SIGNATURE_ROOM = 49150, BATCH_OF_LEN = 82;
 const ANY = 2n ** 64n - 1n;
 const OK = 0, TOO_SHORT = 1, BUNDLES_UNNAMED = 37;
 
@@ -127,7 +127,7 @@ export class Library {
       if (this.calls.svid_bundles_open(handle, ...memory.lend(bundles), memory.zeroed(TOLD)) !== OK) return [];
       try {
         const said = this.text((room, ...out) => this.calls.svid_bundles_ask(handle, ...room.lend(token), ANY, ...out));
-        return said.status === OK ? rowsOf(said.bytes, 0).map((it) => it.key) : [];
+        return said.status === OK ? rowsOf(said.bytes).map((it) => it.key) : [];
       } finally {
         this.calls.svid_bundles_close(handle);
       }
@@ -199,39 +199,66 @@ class Validator {
 
   /**
    * The first keys that may have signed a token.
-   * @returns `{ status, rows, more }`, and `more` says whether there are more such keys; a row has `question`, 64 hexadecimal digits, `alg`, `key`, the key
-   * as JSON, and `spki`, what `Library.spki` says of it
+   * @returns `{ status, rows, more }`, and `more` says whether there are more such keys; a row has `alg`, `key`, the key as JSON, and `spki`, what
+   * `Library.spki` says of it
    */
   ask(token) {
-    const said = this.library.text((memory, ...out) =>
-      this.calls.svid_validator_ask(this.handle, ...memory.lend(token), MOST_CANDIDATES, ...out),
-    );
-    const rows = said.status === OK ? rowsOf(said.bytes, DIGEST) : [];
+    const said = this.asked(token);
+    // (the keys stand behind the number of bytes that are signed, and the signature)
+    const rows = said.status === OK ? rowsOf(said.bytes.subarray(8 + numberAt(said.bytes, 4))) : [];
     return { status: said.status, rows: rows.map((it) => ({ ...it, spki: this.library.spki(it.key, it.alg) })), more: said.more === 1 };
   }
 
-  /** What `check` would say; the record gains nothing. */
-  judge(now, yes, token) {
-    return this.verdict(this.calls.svid_validator_judge, now, yes, token);
+  /** What a verifier needs of a token, as the library writes it: as `Library.text`. */
+  asked(token) {
+    const asked = (read) => this.library.text((_, ...out) => this.calls.svid_validator_ask_token(this.handle, read, MOST_CANDIDATES, ...out));
+    return this.read(token, asked, (status) => ({ status, length: 0, input: 0, message: 0, offset: 0, more: 0 }));
   }
 
   /**
-   * Checks a token at a time. `yes` are the questions whose answer is yes.
+   * Judges a token at a time; the record gains nothing. `by` is the key that made its signature, as JSON, and undefined where none did.
    * @returns `{ status }`, and where that is 0 `{ status, id, exp, at, key }`, the key as 32 bytes
    */
-  check(now, yes, token) {
-    return this.verdict(this.calls.svid_validator_check, now, yes, token);
+  judge(now, by, token) {
+    return this.judged(now, by, token).said;
   }
 
-  verdict(call, now, yes, token) {
+  /** As `judge`, and the record gains the use of a token that is accepted. */
+  check(now, by, token) {
+    const { said, message } = this.judged(now, by, token);
+    if (said.status !== OK) return said;
+    const { status } = this.take(now, message);
+    return status === OK ? said : { status };
+  }
+
+  judged(now, by, token) {
+    const judged = (read, memory) => {
+      const made = this.library.signature(token), shown = by === undefined ? ["", "", ""] : [by, bytesOf(token).subarray(0, made.over), made.bytes];
+      const out = memory.room(ID_ROOM), used = memory.zeroed(USE), told = memory.zeroed(TOLD), message = memory.room(BATCH_OF_LEN);
+      const lent = shown.flatMap((it) => memory.lend(it));
+      const status = this.calls.svid_validator_judge_token(this.handle, now, ...lent, read, out, BigInt(ID_ROOM), used, told);
+      if (status !== OK) return { said: { status } };
+      this.calls.svid_batch_of(used, message);
+      const [exp, at] = memory.words(used, 2), id = textOf(memory.seen(out, memory.words(told, 1)[0]));
+      return { said: { status, id, exp, at, key: memory.seen(used + 16n, DIGEST) }, message: memory.seen(message, BATCH_OF_LEN) };
+    };
+    // (a token that can't be read shows the validator the time, too)
+    return this.read(token, judged, (status) => ({ said: { status: this.tick(now) || status } }));
+  }
+
+  tick(now) {
+    return this.library.within((memory) => this.calls.svid_validator_tick(this.handle, now, memory.zeroed(TOLD)));
+  }
+
+  // Reads a token, and gives its handle to `body`, or the status to `refused`.
+  read(token, body, refused) {
     return this.library.within((memory) => {
-      const out = memory.room(ID_ROOM), used = memory.zeroed(USE), told = memory.zeroed(TOLD);
-      const questions = memory.room(DIGEST * yes.length);
-      memory.set(questions, bytesOfHex(yes.join("")));
-      const status = call(this.handle, now, questions, BigInt(yes.length), ...memory.lend(token), out, BigInt(ID_ROOM), used, told);
-      if (status !== OK) return { status };
-      const [exp, at] = memory.words(used, 2);
-      return { status, id: textOf(memory.seen(out, memory.words(told, 1)[0])), exp, at, key: memory.seen(used + 16n, DIGEST) };
+      const read = memory.zeroed(TOKEN);
+      const status = this.calls.svid_token_open(read, ...memory.lend(token), memory.zeroed(TOLD));
+      if (status !== OK) return refused(status);
+      const said = body(read, memory);
+      this.calls.svid_token_close(read);
+      return said;
     });
   }
 
@@ -319,20 +346,18 @@ function textsOf(bytes, lengths) {
   return lengths.map((length) => textOf(bytes.subarray(to, (to += length))));
 }
 
-// The rows of svid_validator_ask.
-function rowsOf(bytes, asked) {
-  const view = new DataView(bytes.buffer, bytes.byteOffset, bytes.length), rows = [];
+const numberAt = (bytes, at) => new DataView(bytes.buffer, bytes.byteOffset, bytes.length).getUint32(at);
+
+// Rows of algorithms and keys.
+function rowsOf(bytes) {
+  const rows = [];
   let at = 0;
   const field = () => {
-    const length = view.getUint32(at);
+    const length = numberAt(bytes, at);
     at += 4 + length;
     return textOf(bytes.subarray(at - length, at));
   };
-  while (at < bytes.length) {
-    const question = hexOf(bytes.subarray(at, at + asked));
-    at += asked;
-    rows.push({ question, alg: field(), key: field() });
-  }
+  while (at < bytes.length) rows.push({ alg: field(), key: field() });
   return rows;
 }
 

@@ -3,6 +3,7 @@
 import { BUNDLE_FAULTS, countOf, domainsOf } from "./bundles.js";
 import { byId, fill, make } from "./dom.js";
 import { examine, readRecord, use, withdraw } from "./examine.js";
+import { makeExample } from "./example.js";
 import { drawChecks, drawKeys, drawParts, drawToken, makeChecks } from "./explain.js";
 import { parse } from "./json.js";
 import { hexOf, Library } from "./library.js";
@@ -91,12 +92,14 @@ async function refresh() {
   document.documentElement.dataset.busy = "true";
   try {
     const input = readInput(), why = faultOfInput(input);
+    if (isOther(input)) byId("results").dataset.old = "true"; // What is shown of another token goes before this one is judged.
+    if (why || isOther(input)) drawField(input, []);
     const result = why ? undefined : await examine(library, input);
     if (mine !== asked) return;
     shown = { input, result };
-    if (why) drawField(input, []);
     if (why) drawNothing(why);
     else draw(shown);
+    delete byId("results").dataset.old;
   } catch (error) {
     if (mine !== asked) return;
     await restart(error);
@@ -104,10 +107,15 @@ async function refresh() {
   if (mine === asked) delete document.documentElement.dataset.busy;
 }
 
+// Whether another token than this one is shown, or none, or its place is empty.
+const isOther = (input) => !shown || tokenOf(shown.input) !== tokenOf(input) || byId("results").dataset.old !== undefined;
+const tokenOf = ({ token, tokenFault }) => tokenFault ?? token;
+
 // A module that stopped is not called again: a new one takes its place. The record is not in the module.
 async function restart(error) {
   library = await Library.load(bytes);
   shown = undefined;
+  delete byId("results").dataset.old;
   drawField({ token: "", from: 0 }, []);
   drawNothing(`The library stopped: ${error.message}. What is in the fields may be too large; change it to try again.`);
 }
@@ -298,9 +306,16 @@ function put(id, text) {
   return refresh();
 }
 
-function loadExample() {
-  const samples = JSON.parse(byId("samples").textContent);
-  for (const id of ["token", "bundles", "own"]) byId(id).value = samples[id];
+// Fills the fields with a token that is good now, for minutes.
+async function loadExample() {
+  document.documentElement.dataset.busy = "true";
+  try {
+    const example = await makeExample(clock());
+    setLive(true);
+    for (const id of ["token", "bundles", "own"]) byId(id).value = example[id];
+  } finally {
+    delete document.documentElement.dataset.busy;
+  }
   return refresh();
 }
 
@@ -342,7 +357,7 @@ function listen() {
     byId("drop").hidden = true;
     takeFiles(event.dataTransfer.files);
   });
-  setInterval(() => isLive() && refresh(), TICK);
+  setInterval(() => isLive() && document.documentElement.dataset.busy === undefined && refresh(), TICK);
 }
 
 makeChecks();

@@ -1,8 +1,8 @@
-// Answers the library's questions by the browser's own cryptography (WebCrypto): is this signature good for this key?
+// Verifies signatures by the browser's own cryptography (WebCrypto): is this signature good for this key?
 //
 // The library says which key can be used with an algorithm, and gives it as SubjectPublicKeyInfo.
 
-import { MOST_RSA_BITS } from "./library.js";
+import { hexOf, MOST_RSA_BITS } from "./library.js";
 
 // lists:begin curves (written by tools/lists from lists/algorithms.toml)
 const CURVES = { ES256: "P-256", ES384: "P-384", ES512: "P-521" };
@@ -30,12 +30,13 @@ const answered = new Map();
 
 /**
  * How a key answers: `{ is: "good" }`, `{ is: "bad" }`, or `{ is: "unusable", why }` where the browser takes no such key.
- * A question is a digest of all that it asks about, so its answer is kept.
+ * An answer is kept, by all that it is about.
  * @param row of `Validator.ask`; @param {string} signed the token up to its second period; @param {Uint8Array} signature
  */
 export function answer(row, signed, signature) {
-  if (!answered.has(row.question)) answered.set(row.question, ask(row, signed, signature));
-  return answered.get(row.question);
+  const question = JSON.stringify([row.key, row.alg, signed, hexOf(signature)]);
+  if (!answered.has(question)) answered.set(question, ask(row, signed, signature));
+  return answered.get(question);
 }
 
 async function ask({ alg, spki }, signed, signature) {

@@ -5,7 +5,7 @@ import { spawn } from "node:child_process";
 import { once } from "node:events";
 import { readFileSync } from "node:fs";
 import { test } from "node:test";
-import { hexOf, Library, MOST_CANDIDATES } from "../src/library.js";
+import { Library } from "../src/library.js";
 import { base64url, batch, mutated as mutatedBy, random } from "./tokens.mjs";
 
 const CALLS = 100_000, ROUND = 500, SESSION_CALLS = 8;
@@ -55,22 +55,22 @@ function makeCall(library) {
   if (kind === 2) return { kind, now, inputs: [stream(), stream()] };
   if (kind === 3) return { kind, now, inputs: [stream()] };
   const inputs = [word(r.pick([2n ** 64n - 1n, 60n])), Buffer.alloc(16, 0xaa), r.pick([Buffer.from("ledger\n"), mutated(Buffer.from("x\nledger"))]), r.below(4) ? bundles : mutated(bundles), r.below(3) ? Buffer.alloc(0) : stream(), token()];
-  const { yes, withdrawn } = chosenOf(library, inputs);
-  return { kind, now: r.pick([NOW, NOW, 1n, 2n ** 63n]), inputs: [...inputs, yes, withdrawn] };
+  const { by, withdrawn } = chosenOf(library, inputs);
+  return { kind, now: r.pick([NOW, NOW, 1n, 2n ** 63n]), inputs: [...inputs, by, withdrawn] };
 }
 
-// The questions that are answered yes, some that the library asks and some of others; and the key and the expiry of a token that is
+// The key that is said to have made the signature, one that the library lists, another one, or none; and the key and the expiry of a token that is
 // withdrawn, this one where it is accepted, or another.
 function chosenOf(library, [, validatorId, own, bundle, , it]) {
   const { value: found } = library.withValidator({ validatorId }, own, bundle, (validator) => {
     const { rows } = validator.ask(it);
-    return { rows, judged: validator.judge(NOW, rows.map((row) => row.question), it) };
+    return { rows, judged: validator.judge(NOW, rows[0]?.key, it) };
   });
-  const asked = (found?.rows ?? []).filter(() => r.below(4)).map((row) => Buffer.from(row.question, "hex"));
-  const yes = Buffer.concat(r.below(4) ? asked : [Buffer.alloc(32, r.below(256)), ...asked]);
+  const listed = (found?.rows ?? []).map((row) => Buffer.from(row.key));
+  const by = r.pick([...listed, ...listed, Buffer.from("{}"), Buffer.alloc(0)]);
   const isOwn = found?.judged.status === 0 && r.below(2);
   const withdrawn = isOwn ? [found.judged.key, word(found.judged.exp)] : [Buffer.alloc(32, r.below(3)), word(r.pick([NOW + 1n, 5n, 2n ** 64n - 1n]))];
-  return { yes, withdrawn: Buffer.concat(withdrawn) };
+  return { by, withdrawn: Buffer.concat(withdrawn) };
 }
 
 const toldText = ({ status, length, input, message, offset, bytes }) => Buffer.concat([word(status, length, input, message, offset), bytes ?? Buffer.alloc(0)]);
@@ -97,18 +97,17 @@ function unnamedAnswerOf(library, { kind, now, inputs }) {
   return sessionOf(library, now, inputs);
 }
 
-function sessionOf(library, now, [longest, validatorId, own, bundle, taken, it, yes, keyExp]) {
-  const questions = hexOf(yes).match(/.{64}/g) ?? [];
+function sessionOf(library, now, [longest, validatorId, own, bundle, taken, it, by, keyExp]) {
+  const maker = by.length ? by : undefined;
   const opened = library.withValidator({ longest: longest.readBigUInt64LE(), validatorId }, own, bundle, (validator) => {
     const took = validator.take(0n, taken);
-    const asked = library.text((memory, ...out) => library.calls.svid_validator_ask(validator.handle, ...memory.lend(it), MOST_CANDIDATES, ...out));
     return Buffer.concat([
       word(took.status, took.input, took.message, took.offset),
-      toldText(asked),
-      verdict(validator.judge(now, questions, it)),
-      verdict(validator.check(now, questions, it)),
+      toldText(validator.asked(it)),
+      verdict(validator.judge(now, maker, it)),
+      verdict(validator.check(now, maker, it)),
       word(validator.withdraw(now, keyExp.subarray(0, 32), keyExp.readBigUInt64LE(32))),
-      verdict(validator.check(now, questions, it)),
+      verdict(validator.check(now, maker, it)),
       toldText(validator.tell()),
     ]);
   });

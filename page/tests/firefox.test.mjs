@@ -12,7 +12,7 @@ testVerdicts(async () => (browser = await Firefox.start()));
 test("its policy lets it fetch nothing, and an error would be seen", async () => {
   const page = await browser.open(process.env.SVID_PAGE);
   assert.equal(await page.run(() => fetch("http://127.0.0.1:9/").then(() => "went out", (error) => error.name)), "TypeError");
-  await page.run(() => document.getElementById("samples").remove());
+  await page.run(() => document.getElementById("own").remove());
   await page.click("example");
   const said = (await page.complaints()).join("\n");
   assert.match(said, /Content-Security-Policy.*blocked/);

@@ -57,13 +57,38 @@ def report(now, messages):
     return told_text(lib.svid_report(*lent(messages), c.c_uint64(now), out, c.c_size_t(ROOM), c.byref(told)), told)
 
 
-def verdict(call, handle, now, yes, token):
-    used, told = Use(), Told()
-    status = call(handle, c.c_uint64(now), yes, c.c_size_t(len(yes) // 32), *lent(token), out, c.c_size_t(2048), c.byref(used), c.byref(told))
+def ticked(handle, now, status):
+    return lib.svid_validator_tick(handle, c.c_uint64(now), c.byref(Told())) or status
+
+
+def signature_of(token):
+    over, told = c.c_size_t(), Told()
+    lib.svid_token_signature(*lent(token), c.byref(over), out, c.c_size_t(ROOM), c.byref(told))
+    return over.value, out[: told.len]
+
+
+def asked(handle, token):
+    read, told = (c.c_uint64 * 2)(), Told()
+    status = lib.svid_token_open(read, *lent(token), c.byref(told))
+    if status == 0:
+        status = lib.svid_validator_ask_token(handle, read, c.c_size_t(MOST_CANDIDATES), out, c.c_size_t(ROOM), c.byref(told))
+    lib.svid_token_close(read)
+    return told_text(status, told)
+
+
+def verdict(call, handle, now, by, token):
+    read, used, told = (c.c_uint64 * 2)(), Use(), Told()
+    status = lib.svid_token_open(read, *lent(token), c.byref(told))
+    if status:
+        return words(ticked(handle, now, status))
+    over, signature = signature_of(token)
+    shown = lent(by, token[:over], signature) if by else lent(b"", b"", b"")
+    status = call(handle, c.c_uint64(now), *shown, read, out, c.c_size_t(2048), c.byref(used), c.byref(told))
+    lib.svid_token_close(read)
     return words(status) + (words(used.exp, used.at) + bytes(used.key) + out[: told.len] if status == 0 else b"")
 
 
-def session(now, longest, validator_id, own, bundles, messages, token, yes, key_exp):
+def session(now, longest, validator_id, own, bundles, messages, token, by, key_exp):
     """A validator from its opening to its end: each call that the page makes, in turn."""
     handle, told = (c.c_uint64 * 2)(), Told()
     terms = Terms(int.from_bytes(longest, "little"), ANY, ANY, (c.c_uint8 * 16)(*validator_id))
@@ -72,14 +97,13 @@ def session(now, longest, validator_id, own, bundles, messages, token, yes, key_
         return words(status, told.offset)
     status = lib.svid_validator_take(handle, c.c_uint64(0), *lent(messages), c.byref(told))
     said = words(status, told.input, told.message, told.offset)
-    told = Told()
-    said += told_text(lib.svid_validator_ask(handle, *lent(token), c.c_size_t(MOST_CANDIDATES), out, c.c_size_t(ROOM), c.byref(told)), told)
-    said += verdict(lib.svid_validator_judge, handle, now, yes, token)
-    said += verdict(lib.svid_validator_check, handle, now, yes, token)
+    said += asked(handle, token)
+    said += verdict(lib.svid_validator_judge_token, handle, now, by, token)
+    said += verdict(lib.svid_validator_check_token, handle, now, by, token)
     used, key = Use(), (c.c_uint8 * 32)(*key_exp[:32])
     exp = int.from_bytes(key_exp[32:], "little")
     said += words(lib.svid_validator_withdraw(handle, c.c_uint64(now), key, c.c_uint64(exp), c.byref(used), c.byref(told)))
-    said += verdict(lib.svid_validator_check, handle, now, yes, token)
+    said += verdict(lib.svid_validator_check_token, handle, now, by, token)
     told = Told()
     said += told_text(lib.svid_validator_tell(handle, out, c.c_size_t(ROOM), c.byref(told)), told)
     lib.svid_validator_close(handle)

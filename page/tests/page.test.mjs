@@ -10,7 +10,7 @@ import { batch, random } from "./tokens.mjs";
 import { vectorsOf } from "./vectors.mjs";
 
 const EXAMPLES = new URL("../../examples/", import.meta.url).pathname;
-const WIDTHS = { wide: 1440, middle: 900, narrow: 390, least: 360 };
+const WIDTHS = { wide: 1440, middle: 900, narrow: 390, less: 360, least: 320 };
 const NOW = 1767225600;
 let browser, page, room;
 
@@ -81,6 +81,80 @@ test("the example is accepted, used, and then replayed", async () => {
   await page.click("withdraw");
   assert.equal(await page.text("verdict-said"), "Refused: Withdrawn");
   await page.click("forget");
+});
+
+test("an example is made here, and is good for five minutes from now on", async () => {
+  const tokens = [];
+  for (let n = 0; n < 2; n++) {
+    await page.write({ time: String(NOW) });
+    const from = Math.floor(Date.now() / 1000);
+    await page.click("example");
+    tokens.push(await page.run(() => document.getElementById("token").value));
+    const [, payload] = tokens[n].split(".").map((it) => Buffer.from(it, "base64url").toString());
+    const { iat, exp, aud } = JSON.parse(payload);
+    assert.ok(iat >= from && iat <= Date.now() / 1000 && exp - iat === 300, payload);
+    assert.deepEqual(aud, ["ledger"]);
+    assert.equal(await page.run(() => document.getElementById("live").getAttribute("aria-pressed")), "true");
+    assert.equal(await page.text("verdict-said"), "Accepted");
+    await page.write({ time: String(exp - 1) });
+    assert.equal(await page.text("verdict-said"), "Accepted");
+    await page.write({ time: String(exp) });
+    assert.equal(await page.text("verdict-said"), "Refused: Expired");
+  }
+  assert.notEqual(tokens[0], tokens[1]);
+  await page.click("example");
+});
+
+test("nothing of another token stands beside a new one while that is judged", async () => {
+  await page.click("example");
+  const seen = () => page.run(() => ({
+    token: document.getElementById("token-shown").textContent.replace("\u200b", ""),
+    others: [...document.querySelectorAll("#results h2, #results p, #results td, #results th, #results dd, #results button")].filter((it) => it.textContent && getComputedStyle(it).visibility === "visible" && it.checkVisibility()).length,
+    height: document.getElementById("results").offsetHeight,
+  }));
+  const before = await seen();
+  assert.ok(before.others > 30, `only ${before.others} texts are looked at`);
+  // (The browser's answers about signatures are held back.)
+  await page.run(() => {
+    const verify = SubtleCrypto.prototype.verify;
+    const held = new Promise((resolve) => (window.goOn = resolve));
+    SubtleCrypto.prototype.verify = async function (...words) {
+      await held;
+      return verify.apply(this, words);
+    };
+    window.asItWas = () => (SubtleCrypto.prototype.verify = verify);
+  });
+  const other = before.token.slice(0, -2) + (before.token.endsWith("AA") ? "BA" : "AA");
+  try {
+    await page.run((text) => {
+      document.getElementById("token").value = text;
+      document.getElementById("token").dispatchEvent(new InputEvent("input", { bubbles: true }));
+    }, other);
+    assert.deepEqual(await seen(), { token: other, others: 0, height: before.height });
+  } finally {
+    await page.run(() => (window.goOn(), window.asItWas()));
+  }
+  await page.settled();
+  assert.equal(await page.text("verdict-said"), "Refused: BadSignature");
+  assert.ok((await seen()).others > 30);
+  await page.click("example");
+});
+
+test("a check has one line from 390 pixels on, and two at the most at 320", async () => {
+  for (const [width, most] of [[320, 2], [390, 1], [640, 1], [900, 1], [1200, 1], [1440, 1]]) {
+    await page.size(width, 900);
+    await page.click("example");
+    const rows = await page.run(() => [...document.querySelectorAll("#checks [data-state]")].map(({ cells: [, says, name] }) => {
+      const range = document.createRange();
+      range.selectNodeContents(says);
+      const lines = new Set([...range.getClientRects()].map((it) => Math.round(it.top))).size;
+      return { says: says.textContent, lines, from: Math.round(says.getClientRects()[0].left), name: Math.round(name.getBoundingClientRect().left) };
+    }));
+    assert.deepEqual(rows.filter((it) => it.lines > most), [], `at ${width}`);
+    assert.equal(new Set(rows.map((it) => it.from)).size, 1, `at ${width} the texts do not stand under each other`);
+    if (width > 640) assert.equal(new Set(rows.map((it) => it.name)).size, 1, `at ${width} the names do not stand under each other`);
+  }
+  await page.size(WIDTHS.wide, 900);
 });
 
 test("files of both versions are joined, and what changed is told", async () => {
@@ -311,7 +385,7 @@ test("everything is reached by the Tab key, in the order of the page, and shows 
     assert.ok(it.isShown, `${it.name} does not show the focus`);
     reached.push(it.name);
   }
-  assert.deepEqual(reached, ["skip", "example", "open", "token", "bundles", "own", "time", "longest", "live", "slider", "use", "withdraw", "verifies the signature", "passed over: its kty is not the algorithm's: RSA for RS and PS, EC for ES", "save", "forget", "rows", "What this page rests on"]);
+  assert.deepEqual(reached, ["skip", "example", "open", "token", "bundles", "own", "time", "longest", "live", "slider", "use", "withdraw", "verifies the signature", 'passed over: its kid is not that of the token, "example"', "save", "forget", "rows", "What this page rests on"]);
 });
 
 test("a token is used by keys alone", async () => {
@@ -403,7 +477,7 @@ test("every text stands out from what is behind it, in light and dark, accepted 
   await page.run(() => (document.getElementById("trust").open = false));
 });
 
-test("nothing is cut off or laid over at four widths, in light and dark", async () => {
+test("nothing is cut off or laid over at any width, in light and dark", async () => {
   await page.click("forget");
   await openFiles(join(EXAMPLES, "shared.messages"));
   for (const [name, width] of Object.entries(WIDTHS)) {

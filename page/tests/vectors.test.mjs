@@ -21,18 +21,18 @@ before(async () => {
   library = await Library.load(readFileSync(process.env.SVID_MODULE));
 });
 
-// The questions of a token whose answer is yes, by the cryptography of this program.
-async function yes(terms, own, bundles, token) {
+// The key that made the signature of a token, by the cryptography of this program.
+async function makerOf(terms, own, bundles, token) {
   const { value } = library.withValidator(terms, own, bundles, (validator) => validator.ask(token));
   const { over, bytes } = library.signature(token);
   const answers = await Promise.all(value.rows.map(async (row) => ({ row, is: (await answer(row, token.slice(0, over), bytes)).is })));
-  return answers.filter((it) => it.is === "good").map((it) => it.row.question);
+  return answers.find((it) => it.is === "good")?.row.key;
 }
 
-function called(validator, call, questions) {
+function called(validator, call, maker) {
   const now = numberOf(call.now ?? 0);
   if (call.call === "check" || call.call === "judge") {
-    const said = validator[call.call](now, questions, call.token);
+    const said = validator[call.call](now, maker, call.token);
     return said.status === 0 ? `accepted ${said.id} ${said.exp}` : `refused ${refusalOf(said.status)?.name}`;
   }
   if (call.call === "withdraw") return { 0: "withdrawn", 7: "Gone" }[validator.withdraw(now, bytesOf(call.key), numberOf(call.exp))];
@@ -47,8 +47,8 @@ test("calls of a validator", async () => {
   for (const vector of file.vectors) {
     const given = { ...file.setting, ...vector.setting };
     const terms = { longest: numberOf(given.longest), validatorId: bytesOf(given.validator_id) }, own = given.audiences.join("\n"), bundles = file.bundles[given.bundles];
-    const questions = await Promise.all(vector.calls.map((it) => ("token" in it ? yes(terms, own, bundles, it.token) : [])));
-    const said = library.withValidator(terms, own, bundles, (validator) => vector.calls.map((call, n) => called(validator, call, questions[n])));
+    const makers = await Promise.all(vector.calls.map((it) => ("token" in it ? makerOf(terms, own, bundles, it.token) : undefined)));
+    const said = library.withValidator(terms, own, bundles, (validator) => vector.calls.map((call, n) => called(validator, call, makers[n])));
     assert.deepEqual(said.value, vector.calls.map((it) => it.answer), vector.name);
   }
 });

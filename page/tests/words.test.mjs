@@ -59,6 +59,6 @@ test("a key that can't be used", async () => {
   const words = { "ALGORITHM_LENGTHS": "32, 48 or 66", "most_bits": "4,096", "ALGORITHM_CURVES": "P-256 for ES256, P-384 for ES384, P-521 for ES512", "ALGORITHM_KTYS": "RSA for RS and PS, EC for ES" };
   for (const name of ["KEY_NOT_OBJECT", "KEY_KTY", "KEY_ALG", "KEY_N", "KEY_BITS", "KEY_E", "KEY_CRV", "KEY_X", "KEY_Y"]) {
     const due = Object.entries(words).reduce((it, [from, to]) => it.replace(from, to), clause(name)).replace(/^its /, "the key's ");
-    assert.deepEqual(await answer({ question: name, alg: "ES256", spki: { status: LISTED.get(name).number } }, "", NONE), { is: "unusable", why: due });
+    assert.deepEqual(await answer({ key: name, alg: "ES256", spki: { status: LISTED.get(name).number } }, "", NONE), { is: "unusable", why: due });
   }
 });

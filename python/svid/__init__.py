@@ -14,7 +14,7 @@
 restarts. Several processes share a store (`Validator(mode="strict", store=..)`), tell each other by
 messages, or have the sidecar svidd in front of them.
 `Refused` has a subclass for each of the 25 reasons to refuse a token. `svid.asgi` and `svid.wsgi`
-are middlewares for web services.
+are middlewares for web services, and `svid.testing` is for your tests.
 """
 
 from __future__ import annotations
@@ -23,7 +23,7 @@ from ._allow import allows
 from ._bundles import Bundle, Bundles, from_workload_api
 from ._journal import Journal
 from ._signatures import Verifies
-from ._validator import Validator
+from ._validator import UNLIMITED, Validator
 from .errors import (
     BadBundles,
     BadMessages,
@@ -72,7 +72,8 @@ from .errors import (  # the refusals
 
 # lists:end
 from .records import Accepted, Report, Use
-from .stores import WITHDRAWN, Claim, Found, MemoryStore, Store
+from .sources import Endpoint, WorkloadApi
+from .stores import WITHDRAWN, Claim, Found, Store, TellingStore
 
 __all__ = [
     "Accepted",
@@ -83,6 +84,7 @@ __all__ = [
     "Claim",
     "Closed",
     "Damaged",
+    "Endpoint",
     "Error",
     "Forked",
     "Found",
@@ -90,18 +92,20 @@ __all__ = [
     "Held",
     "Journal",
     "Jump",
-    "MemoryStore",
     "NotAllowed",
     "OtherFormat",
     "Refused",
     "Report",
     "Store",
+    "TellingStore",
     "TooFar",
+    "UNLIMITED",
     "Unavailable",
     "Use",
     "Validator",
     "Verifies",
     "WITHDRAWN",
+    "WorkloadApi",
     "allows",
     "from_workload_api",
 ]

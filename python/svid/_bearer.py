@@ -3,6 +3,7 @@
 from __future__ import annotations
 
 import asyncio
+import json
 from collections.abc import Callable, Iterable, Mapping, Sequence
 from http import HTTPStatus
 from typing import Any, NamedTuple, Union
@@ -10,7 +11,7 @@ from typing import Any, NamedTuple, Union
 from . import _library as lib
 from ._paths import Paths
 from ._validator import Validator
-from .errors import NotAllowed, Refused, TooLong, Unavailable
+from .errors import Jump, NotAllowed, Refused, TooLong, Unavailable
 from .records import Accepted
 
 Reuse = Union[Iterable[str], Callable[[Any], bool]]
@@ -26,21 +27,46 @@ class Admission(NamedTuple):
     """Its token; None where it is not let in."""
     status: HTTPStatus = HTTPStatus.OK
     """The status of the answer where it is not let in."""
-    challenge: str = ""
-    """The header WWW-Authenticate of that answer, where it has one."""
+    reason: str = ""
+    """The word by which its client hears why."""
+    error: str = ""
+    """The error code of RFC 6750, section 3.1; "" where the client tried no bearer token."""
+
+    def answer(self) -> tuple[list[tuple[str, str]], bytes]:
+        """The headers and the body of the answer, as svidd gives them."""
+        is_refused = self.status != HTTPStatus.SERVICE_UNAVAILABLE
+        said = {"reason": self.reason, "result": "refused" if is_refused else "unavailable"}
+        body = json.dumps(said, separators=(",", ":")).encode() + b"\n"
+        headers = [
+            ("Cache-Control", "no-store"),
+            ("Content-Type", "application/json"),
+            ("Content-Length", str(len(body))),
+        ]
+        if not is_refused:
+            headers.append(("Retry-After", "1"))
+        elif self.error:
+            challenge = f'Bearer error="{self.error}", error_description="{self.reason}"'
+            headers.append(("WWW-Authenticate", challenge))
+        else:
+            headers.append(("WWW-Authenticate", 'Bearer realm="svid"'))
+        return headers, body
 
 
-_NO_TOKEN = Admission(None, HTTPStatus.UNAUTHORIZED, 'Bearer realm="svid"')
-_NOT_BEARER = Admission(
-    None,
-    HTTPStatus.UNAUTHORIZED,
-    'Bearer error="invalid_request", error_description="NotBearer"',
-)
-_NOT_ALLOWED = Admission(
-    None,
-    HTTPStatus.FORBIDDEN,
-    'Bearer error="insufficient_scope", error_description="NotAllowed"',
-)
+def _refused(reason: str, error: str = "") -> Admission:
+    is_allowed = error != "insufficient_scope"
+    status = HTTPStatus.UNAUTHORIZED if is_allowed else HTTPStatus.FORBIDDEN
+    return Admission(None, status, reason, error)
+
+
+def _unavailable(reason: str) -> Admission:
+    return Admission(None, HTTPStatus.SERVICE_UNAVAILABLE, reason)
+
+
+_NO_TOKENS = {
+    lib.BEARER_SCHEME: _refused("NotBearer"),
+    lib.BEARER_SEVERAL: _refused("NotBearer", "invalid_request"),
+    lib.BEARER_SPELLING: _refused("NotBearer", "invalid_request"),
+}
 
 
 class Terms:
@@ -92,9 +118,15 @@ class Terms:
                 return Admission(self._validator.check(token))
             return Admission(self._validator.check(token, caller=caller))
         except NotAllowed:
-            return _NOT_ALLOWED
-        except (Refused, Unavailable) as why:
-            return _turned_away(why)
+            return _refused("NotAllowed", "insufficient_scope")
+        except Refused as why:
+            return _refused(why.name, "invalid_token")
+        except Unavailable as why:
+            return _unavailable(why.reason)
+        except Jump:
+            return _unavailable("ClockJump")
+        except MemoryError:
+            return _unavailable("NoMemory")
 
     async def admit_soon(
         self, authorization: Sequence[bytes], reuses: bool, caller: bytes | None
@@ -111,17 +143,8 @@ def _token(authorization: Sequence[bytes]) -> bytes | Admission:
     found = lib.Bearer()
     lent = (len(authorization), value, len(value), lib.address(found))
     status = lib.library.svid_bearer_token(*lent)
-    if status in (lib.BEARER_SEVERAL, lib.BEARER_SPELLING):
-        return _NOT_BEARER
     if status == lib.TOO_LONG:
         raise TooLong()
     if status != lib.OK:
-        return _NO_TOKEN
+        return _NO_TOKENS.get(status, _refused("NoToken"))
     return value[found.at : found.at + found.len]
-
-
-def _turned_away(why: Refused | Unavailable) -> Admission:
-    if isinstance(why, Unavailable):
-        return Admission(None, HTTPStatus.SERVICE_UNAVAILABLE)
-    challenge = f'Bearer error="invalid_token", error_description="{why.name}"'
-    return Admission(None, HTTPStatus.UNAUTHORIZED, challenge)

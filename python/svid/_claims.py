@@ -9,11 +9,12 @@ import struct
 import threading
 import time
 import weakref
-from collections.abc import Callable
-from typing import NamedTuple, Protocol
+from collections.abc import Callable, Sequence
+from typing import NamedTuple, Protocol, cast
 
 from . import _library as lib
-from .stores import Claim, Found, Store
+from .errors import Closed, Forked
+from .stores import Claim, Found, Store, TellingStore
 
 _LOG = logging.getLogger("svid")
 _FOUND = struct.Struct("=QQ32s")
@@ -21,6 +22,8 @@ _MOST = 256
 """How many claims share a call."""
 _LONGEST = 60.0
 """For how many seconds a thread waits at once."""
+_HEARS = 1.0
+"""How many seconds pass between two looks at the store's withdrawals."""
 
 
 class Due(NamedTuple):
@@ -45,6 +48,9 @@ class Claimant(Protocol):
     def reached(self) -> None:
         """The store has answered for the first time."""
 
+    def heard(self, these: Sequence[tuple[bytes, int]], is_whole: bool) -> None:
+        """The store tells of withdrawals. Whole: there are no more at the moment."""
+
 
 def up() -> int:
     """The moment of the clock that only goes ahead, in milliseconds."""
@@ -54,8 +60,10 @@ def up() -> int:
 class Claims:
     """The claims of a validator. The library says when a call to the store goes out."""
 
-    def __init__(self, store: Store, claimant: Claimant) -> None:
+    def __init__(self, store: Store, claimant: Claimant, tells: bool) -> None:
+        """tells: the store's withdrawals are read too."""
         self._store = store
+        self._tells = tells
         self._claimant = weakref.ref(claimant)  # (its threads must not keep a validator)
         self._process = os.getpid()
         self._gate = threading.Condition()  # guards what follows
@@ -67,14 +75,24 @@ class Claims:
         self._asks = True  # whether the store is to say that it is there
         self._silent: float | None = None  # since when the store does not answer
         self._closing = False
+        self._ended = threading.Event()  # what reads withdrawals is to end
+        self._heard = threading.Event()  # all withdrawals were read once
         self.deaf = 0
         self.is_there = False  # the store has answered once
         self._announced = threading.Event()  # the claimant knows that too
 
     def begin(self, wait: float) -> None:
-        """Begins to put claims, and waits until the store answers, but no longer than `wait`."""
+        """Begins to put claims, and waits until the store answers, but no longer than `wait`.
+
+        Then it has told its withdrawals too.
+        """
         self._grow()
+        if self._tells:
+            threading.Thread(target=self._hear, name="svid-withdrawals", daemon=True).start()
+        end = time.monotonic() + wait
         self._announced.wait(wait)
+        if self._tells:
+            self._heard.wait(max(end - time.monotonic(), 0))
 
     def add(self, due: Due) -> None:
         """Puts a claim, and again until the store answers or the claim is not to go out."""
@@ -110,6 +128,7 @@ class Claims:
             with self._gate:
                 self._closing = True
                 self._gate.notify_all()
+            self._ended.set()
 
     def _grow(self) -> None:
         threading.Thread(target=self._work, name="svid-claims", daemon=True).start()
@@ -127,6 +146,35 @@ class Claims:
                 self._failed([due for due, _ in these], why)
             else:
                 self._answered([due.number for due, _ in these], found)
+
+    def _hear(self) -> None:
+        """Reads the store's withdrawals once a second, until it is closed."""
+        position, last, was_well = "", "", True
+        while not self._ended.is_set():
+            try:
+                position, last = last, self._heard_after(last)
+                was_well = True
+            except (Closed, Forked):
+                return
+            except Exception as why:
+                position = last
+                if was_well:
+                    with contextlib.suppress(Exception):
+                        _LOG.warning("the group's store tells no withdrawals: %s", why)
+                was_well = False
+            if position == last:
+                self._ended.wait(_HEARS)
+
+    def _heard_after(self, position: str) -> str:
+        """Reads the withdrawals that came after a position, and says up to which it has read."""
+        these, last = cast(TellingStore, self._store).withdrawals(position)
+        claimant = self._claimant()
+        if claimant is None:
+            raise Closed
+        claimant.heard(these, last == position)
+        if last == position:
+            self._heard.set()
+        return last
 
     def _next(self) -> list[tuple[Due, Claim]] | None:
         """The claims of the next call, once it is to go out. None at the end."""

@@ -27,11 +27,12 @@ from .errors import (
     TooFar,
     Unavailable,
 )
-from .records import Accepted, Use
+from .records import Accepted, Use, entries, news_of_twice
 
 _USE = struct.Struct("=QQ32s16s")
 _MOST = lib.size(lib.MOST_CANDIDATES)
 _ROOM = 65_536
+_TELLS = 2**22
 _ROOM_SIZE = lib.size(_ROOM)
 
 _Call = Callable[..., int]
@@ -186,6 +187,33 @@ class Handle:
         """Joins the record with what the messages tell."""
         self._run(lib.library.svid_validator_take, now, messages, len(messages))
 
+    def take_and_tell(self, now: int, messages: bytes) -> list[bytes]:
+        """Does so, and says which tokens it learns to be accepted more than once.
+
+        Of more than 4 MiB of messages it says none: `report` has them.
+        """
+        looked_at = entries(messages) if len(messages) <= _TELLS else []
+        keys = [key for *_, key, _ in looked_at]
+        with self._lock:
+            beside = b"".join(self._bucket(it) for it in {key[0] for key in keys})
+            status = lib.library.svid_validator_take(
+                self._at, now, messages, len(messages), self._told_at
+            )
+            if status != lib.OK:
+                raise self._fault(status)
+        if len(set(keys)) == len(keys) and not any(key in beside for key in keys):
+            return []
+        return news_of_twice(beside, messages)
+
+    def has_withdrawal(self, key: bytes, expires: int) -> bool:
+        """Whether the record has this very withdrawal."""
+        with self._lock:
+            beside = self._bucket(key[0])
+        return key in beside and any(
+            (withdrawn, until, of) == (1, expires, key)
+            for withdrawn, until, _, of, _ in entries(beside)
+        )
+
     def parts(self, size: int) -> Iterator[bytes]:
         """The record, a batch of at most so many bytes at a time, with the lock free in between."""
         part, room = lib.Part(), bytearray(size)
@@ -217,10 +245,18 @@ class Handle:
     def _written(self, call: _Call, *lent: Any) -> bytes:
         """What a call writes, in a room that is long enough."""
         with self._lock:
-            status = call(self._at, *lent, self._room_at, _ROOM, self._told_at)
-            if status == lib.OK:
-                return bytes(self._room[: self._told.len])
-            return self._rest(status, call, *lent)
+            return self._text(call, *lent)
+
+    def _bucket(self, number: int) -> bytes:
+        """The entries whose keys begin with this byte, as messages, with the lock held."""
+        return self._text(lib.library.svid_validator_bucket, number, 0)
+
+    def _text(self, call: _Call, *lent: Any) -> bytes:
+        """What a call writes, with the lock held."""
+        status = call(self._at, *lent, self._room_at, _ROOM, self._told_at)
+        if status == lib.OK:
+            return bytes(self._room[: self._told.len])
+        return self._rest(status, call, *lent)
 
     def _rest(self, status: int, call: _Call, *lent: Any) -> bytes:
         """What a call writes that had this status, with the lock held: now in a longer room."""
@@ -243,8 +279,8 @@ def fault(status: int, told: lib.Told | None = None) -> Exception:
         return REFUSALS[status]()
     if status in _FAULTS:
         return _FAULTS[status]()
-    if status in _UNAVAILABLE:
-        return Unavailable(said(status))
+    if status in REASONS:
+        return Unavailable(said(status), REASONS[status])
     if told and status in lib.MESSAGE_FAULTS:
         return BadMessages(reason(status), told.message, told.offset)
     return RuntimeError(f"libsvid answered {status}, which include/svid.h does not explain")
@@ -267,7 +303,15 @@ _FAULTS: dict[int, Callable[[], Exception]] = {
     lib.JUMP: Jump,
     lib.NOT_ALLOWED: NotAllowed,
 }
-_UNAVAILABLE = {lib.CLAIM_FAR, lib.CLAIM_DEAF, lib.LATE, lib.NOT_KEPT, lib.LEFT, *lib.UNREADY}
+REASONS = {
+    lib.CLAIM_FAR: "NotClaimed",
+    lib.CLAIM_DEAF: "EntriesLost",
+    lib.LATE: "NotJudged",
+    lib.NOT_KEPT: "NotKept",
+    lib.LEFT: "NotJudged",
+    **dict.fromkeys(lib.UNREADY, "NotReady"),
+}
+"""Why there is no answer about a token, by status: the words of docs/SIDECAR-REFERENCE.md."""
 
 
 def _close(words: ctypes.Array[ctypes.c_uint64]) -> None:

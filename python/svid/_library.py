@@ -29,6 +29,7 @@ MESSAGE_FAULTS = (TOO_MUCH, NOT_SUMMARY, *range(MAGIC, 19))
 """Why bytes are no messages."""
 
 BEARER_SEVERAL = 82
+BEARER_SCHEME = 83
 BEARER_SPELLING = 84
 NOT_ALLOWED = 91
 CLAIM_FAR = 58
@@ -125,6 +126,7 @@ class Said(ctypes.Structure):
     _fields_ = [("key", c_uint8 * 32), ("exp", c_uint64), ("texts", c_size_t)]
     key: ctypes.Array[c_uint8]
     exp: int
+    texts: int
 
 
 class Id(ctypes.Structure):
@@ -146,6 +148,9 @@ class Entry(ctypes.Structure):
         ("key", c_uint8 * 32),
         ("validator_id", c_uint8 * 16),
     ]
+    withdrawn: int
+    exp: int
+    key: ctypes.Array[c_uint8]
 
 
 class Document(ctypes.Structure):
@@ -295,7 +300,7 @@ class Pacing(ctypes.Structure):
 
 PACING_FIRST = (0, 0, 10)
 
-_MAJOR = 2
+_MAJOR = 3
 _LENT = [c_char_p, c_size_t]
 _OUT = [c_void_p, c_size_t]
 _TOLD = [c_void_p]
@@ -322,6 +327,7 @@ _CALLS = {
     "svid_journal_synced": _FOLDER,
     "svid_journal_unwritten": _FOLDER,
     "svid_key_spki": [*_LENT, *_LENT, c_size_t, *_OUT, *_TOLD],
+    "svid_token_payload": [*_LENT, *_OUT, *_TOLD],
     "svid_token_says": [*_LENT, c_void_p, *_OUT, *_OUT, *_TOLD],
     "svid_member_due": [*_VALIDATOR, c_void_p],
     "svid_member_know": [*_VALIDATOR, c_void_p],
@@ -337,6 +343,7 @@ _CALLS = {
     "svid_status_name": [c_uint32, *_OUT, *_TOLD],
     "svid_status_sentence": [c_uint32, *_OUT, *_TOLD],
     "svid_validator_answer": [*_VALIDATOR, *_NOW, *_LENT, *_OUT, *_TOLD],
+    "svid_validator_bucket": [*_VALIDATOR, c_uint8, *_NOW, *_OUT, *_TOLD],
     "svid_validator_open_by_lengths": [*_VALIDATOR, c_void_p, *_LENT, *_OUT, *_LENT, *_TOLD],
     "svid_validator_renew_by": [*_VALIDATOR, *_VALIDATOR, *_TOLD],
     "svid_validator_parts": [*_VALIDATOR, c_void_p, *_OUT, *_TOLD],
@@ -378,7 +385,7 @@ _CALLS_OF_A_CHECK = [
 def _path() -> str:
     """The library that LIBSVID names, or the one in this package, or the system's."""
     beside = pathlib.Path(__file__).with_name("libsvid.so")
-    return os.environ.get("LIBSVID") or (str(beside) if beside.exists() else "libsvid.so.2")
+    return os.environ.get("LIBSVID") or (str(beside) if beside.exists() else "libsvid.so.3")
 
 
 size = c_size_t.from_param

@@ -15,17 +15,17 @@ import struct
 import threading
 import time
 import weakref
-from collections.abc import Callable
+from collections.abc import Callable, Sequence
 from typing import Any, NamedTuple, TypeVar, Union
 
 from . import _library as lib
 from ._claims import Claims, Due, up
-from ._handle import Handle, fault
+from ._handle import REASONS, Handle, fault
 from ._journal import Journal
 from ._signatures import Verifies
 from ._token import Token
 from ._words import said
-from .errors import Closed, Error, Jump, Unavailable
+from .errors import Closed, Error, Gone, Jump, Unavailable
 from .records import Accepted, Use
 from .stores import Claim, Store
 
@@ -100,14 +100,25 @@ class Member(Handle):
         longest: int,
         ahead: int,
         own: list[bytes],
+        clock: Callable[[float | None], int],
+        bundled: bool,
         **terms: Any,
     ) -> None:
-        """Opens it. It judges no token before `begin`."""
+        """Opens it. It judges no token before `begin`.
+
+        clock: gives the time of now. bundled: it has bundles, or none are to come.
+        """
         super().__init__(longest=longest, ahead=ahead, own=own, **terms)
         self._wait = min(wait, threading.TIMEOUT_MAX)
         self._longest = longest
         self._journal = journal
-        self._claims = None if store is None else Claims(store, self)
+        self._clock = clock
+        self._bundled = bundled
+        tells = mode != "strict" and hasattr(store, "withdrawals")
+        self._claims = None if store is None else Claims(store, self, tells)
+        self._has_heard = not tells
+        late = "NotClaimed" if mode in ("strict", "bound") else "NotKept"
+        self._reasons = {**REASONS, lib.LATE: late if journal or store else "NotJudged"}
         if self._claims is not None:
             weakref.finalize(self, self._claims.close).atexit = False
         self._life = os.urandom(16)
@@ -224,6 +235,24 @@ class Member(Handle):
         """The store is there."""
         self._know()
 
+    def heard(self, these: Sequence[tuple[bytes, int]], is_whole: bool) -> None:
+        """The store tells of withdrawals. Whole: there are no more at the moment."""
+        for key, expires in these:
+            if not self.has_withdrawal(key, expires):
+                with contextlib.suppress(Gone):
+                    use = super().withdraw(self._clock(None), key, expires)
+                    if self._journal is not None:
+                        self._journal.keep(use.message, _nothing)
+        if is_whole and not self._has_heard:
+            self._has_heard = True
+            self._know()
+
+    def has_bundles(self, bundled: bool) -> None:
+        """Whether there are bundles, or none are to come."""
+        if bundled != self._bundled:
+            self._bundled = bundled
+            self._know()
+
     def _own(self, request: Request, due: Due, owner: Any) -> None:
         """Writes whose the claim of a request is."""
         if self._is_bound:
@@ -309,8 +338,9 @@ class Member(Handle):
         with self._lock:
             if request.is_writing:  # (the disk hangs, until it says otherwise)
                 self._tell(lib.quick.svid_member_wrote, up(), request.number, False)
-        if request.why is not None:
-            raise Unavailable(f"{said(deed.status)} ({request.why})") from request.why
+        if deed.status in self._reasons:
+            text = said(deed.status) + (f" ({request.why})" if request.why else "")
+            raise Unavailable(text, self._reasons[deed.status]) from request.why
         raise fault(deed.status)
 
     def _leave(self, request: Request) -> None:
@@ -333,7 +363,7 @@ class Member(Handle):
                     return steps.get(timeout=min(self._until_due(), max(left, 0)))
                 self._overdue()
                 if left < 0 and steps.empty():
-                    raise fault(lib.LATE) from None
+                    raise Unavailable(said(lib.LATE), self._reasons[lib.LATE]) from None
 
     def _until_due(self) -> float:
         """For how many seconds nothing is due."""
@@ -397,13 +427,14 @@ class Member(Handle):
     def _know(self, now: int = 0, jumped: bool = False) -> None:
         """Tells the library what the validator has."""
         claims = self._claims
-        known = lib.Known(bundled=1, loaded=1, heard=1, joined=1, caught_up=1, jumped=jumped)
+        known = lib.Known(loaded=1, joined=1, caught_up=1, jumped=jumped)
         known.away = claims is not None and claims.look(self._wait)
         known.deaf = claims is not None and claims.deaf >= now + self._longest
         with self._lock:
             # (read with the lock held: who looked earlier must not say later that the store was
             # not reached)
             known.opened = claims is None or claims.is_there
+            known.bundled, known.heard = self._bundled, self._has_heard
             self._check(lib.quick.svid_member_know(self._at, lib.address(known)))
 
     def _bring(self, number: int, use: Use) -> None:
@@ -424,3 +455,7 @@ class Member(Handle):
         """A keeper has a withdrawal, or may not have it."""
         with contextlib.suppress(Closed), self._lock:
             self._ended(lib.quick.svid_withdrawal_told, number, keeper, why is None)
+
+
+def _nothing(_: Exception | None) -> None:
+    """The store has the withdrawal, whether the disk takes it or not."""

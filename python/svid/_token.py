@@ -5,10 +5,12 @@ from __future__ import annotations
 import ctypes
 import functools
 import struct
-from typing import Any
+from typing import Any, NamedTuple
 
 from . import _library as lib
 from ._signatures import Verifies
+from ._words import no_memory
+from .errors import REFUSALS
 
 _LEN = struct.Struct(">I")
 _NONE = lib.size(0)
@@ -17,6 +19,47 @@ _LONG = 8192  # a token of so many bytes may take some milliseconds to read: oth
 Evidence = tuple[Any, ...]
 """Which key made which signature over which bytes, as the calls of the library take it."""
 NO_KEY: Evidence = (None, _NONE, None, _NONE, None, _NONE)
+
+
+class Said(NamedTuple):
+    """What a token says. Nobody has vouched for it."""
+
+    key: bytes
+    """32 bytes by which all uses of the token are known."""
+    expires: int
+    trust_domain: str
+    key_id: str
+    """The name of its key; "" if it has none."""
+    audiences: tuple[str, ...]
+
+
+def says(token: bytes) -> Said:
+    """Reads a token. Raises Refused for what is no JWT-SVID, and looks at no signature."""
+    said, told, lens = lib.Said(), lib.Told(), (ctypes.c_size_t * 0)()
+    status, room = lib.TOO_SHORT, bytearray(1)
+    while status == lib.TOO_SHORT:
+        lent = (lib.address(said), lens, len(lens), lib.address(room), len(room))
+        status = lib.library.svid_token_says(token, len(token), *lent, lib.address(told))
+        if status == lib.TOO_SHORT:
+            lens, room = (ctypes.c_size_t * said.texts)(), bytearray(told.len + 1)
+    if status != lib.OK:
+        raise no_memory() if status == lib.NO_MEMORY else REFUSALS[status]()
+    texts, at = [], 0
+    for size in lens:
+        texts.append(room[at : at + size].decode())
+        at += size
+    _alg, _subject, domain, key_id, *audiences = texts
+    return Said(bytes(said.key), said.exp, domain, key_id, tuple(audiences))
+
+
+def payload(token: bytes) -> bytes:
+    """The claims of a token as JSON, byte for byte as they were signed."""
+    told, room = lib.Told(), bytearray(len(token) + 1)
+    lent = (token, len(token), lib.address(room), len(room), lib.address(told))
+    status = lib.library.svid_token_payload(*lent)
+    if status != lib.OK:
+        raise no_memory() if status == lib.NO_MEMORY else REFUSALS[status]()
+    return bytes(room[: told.len])
 
 
 class _Read(ctypes.Structure):

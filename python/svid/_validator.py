@@ -2,26 +2,28 @@
 
 from __future__ import annotations
 
+import contextlib
 import functools
 import hashlib
 import logging
-import math
 import os
 import pathlib
 import tempfile
 import threading
 import time
-from collections.abc import Iterable, Iterator
+import weakref
+from collections.abc import Callable, Iterable, Iterator
 from typing import TypeVar, Union
 
 from . import _library as lib
 from ._allow import allows, patterns
-from ._bundles import Bundles, Path, Source
-from ._handle import fault
+from ._bundles import Bundles, Path
+from ._follow import Followed
 from ._journal import Journal
 from ._member import Member
 from ._signatures import USUAL_RSA_BITS, Verifier, Verifies
-from .errors import BadMessages, Error, NotAllowed
+from ._token import says
+from .errors import BadMessages, NotAllowed, Refused, Unavailable, UnknownDomain
 from .records import Accepted, Report, Use
 from .stores import Store
 
@@ -31,10 +33,23 @@ _PIECE = 2**22
 """How many bytes of messages are written, or read of a file, at a time."""
 _NOBODY = bytes(32)
 _CLAIMS = ("strict", "bound")
-_LEAST_WAIT = 0.001  # (the library counts milliseconds)
 """The modes in which tokens are claimed in a store."""
+_LEAST_WAIT = 0.001  # (the library counts milliseconds)
+_LEAST_REFRESH = 0.01
 
 Token = Union[str, bytes]
+Seconds = Union[int, "Unlimited"]
+
+
+class Unlimited:
+    """What `UNLIMITED` is."""
+
+    def __repr__(self) -> str:
+        return "svid.UNLIMITED"
+
+
+UNLIMITED = Unlimited()
+"""As `longest`: a token may live for as long as it wants."""
 Self = TypeVar("Self", bound="Validator")
 
 
@@ -52,8 +67,8 @@ class Validator:
     `answer` and `summary` for longer, the larger the record is. Signatures are verified, and files
     are read, without the lock. A signal handler may not use it, since it may interrupt a call.
 
-    Every `now` is the time of the call in seconds since 1970, by default that of the system's
-    clock. One of 100,000,000,000 or more, as milliseconds are, raises ValueError.
+    Every `now` is the time of the call in seconds since 1970, by default that of `clock`. One of
+    100,000,000,000 or more, as milliseconds are, raises ValueError.
     Tokens are judged at the record's moment, the greatest time that it has seen.
 
     Each method raises Closed after `close`, Forked in a process that was forked from the one that
@@ -68,29 +83,36 @@ class Validator:
         mode: str = "once",
         callers: str | Iterable[str] | None = None,
         store: Store | None = None,
-        longest: int | None = None,
+        longest: Seconds = 3600,
         ahead: int = 10,
         step: int | None = None,
         validator_id: bytes | None = None,
-        refresh: float | None = 10.0,
+        refresh: float | None = 1.0,
         verifies: Verifies | None = None,
         rsa_bits: int = USUAL_RSA_BITS,
         state: Path | None = None,
         wait: float = 2.0,
+        clock: Callable[[], float] = time.time,
+        on_refusal: Callable[[Refused | NotAllowed], object] | None = None,
+        on_twice: Callable[[bytes], object] | None = None,
     ) -> None:
         """Makes a validator whose record is empty, or is that of `state`.
 
         audiences: this service's own names. A token is for it where one of them is in `aud`.
-        bundles: the keys of each trust domain; see `svid.Bundles`.
+        bundles: the keys of each trust domain; see `svid.Bundles`. Files and addresses are followed
+            until the validator is closed. What can't be read leaves the last good bundles as they
+            are, and the logger "svid" has a warning.
         mode: how often a token is accepted. "once": once by this validator. "strict": once by all
             validators that share the `store`. "bound": again and again, but from one caller alone,
             by all that share the `store`. "reuse": again and again.
         callers: patterns of the SPIFFE IDs that may call (`svid.allows`). A good token of another
             caller raises NotAllowed, and is not used up. None lets all call.
-        store: the store of the group, for "strict" and "bound".
+        store: the store of the group, for "strict" and "bound". In each mode but "strict" the
+            validator hears the withdrawals of a `svid.TellingStore`, once a second. In "once" and
+            "reuse" that is all that a store is for.
         longest: how many seconds a token may still live; a token that expires later is refused as
-            TooLongLived. None is no limit. It bounds how long a use stays in the record, and for
-            how long a store that has lost entries lets nobody in.
+            TooLongLived. `svid.UNLIMITED` is no limit. It bounds how long a use stays in the
+            record, and for how long a store that has lost entries lets nobody in.
         ahead: how many seconds a message's moment, or the store's time, may lie past `now`: a
             little more than clocks differ.
         step: a `now` more than so many seconds past the record's moment raises Jump, so that a
@@ -98,9 +120,8 @@ class Validator:
             a new validator, so set it to more than the longest time without a call.
         validator_id: 16 bytes that name this validator among all that share its record; by default
             random ones. Two validators of one ID accept a token twice.
-        refresh: how many seconds may pass before files of bundles are looked at again, by the next
-            check. None is never. Where they can't be read, the bundles stay as they are, and the
-            logger "svid" has a warning.
+        refresh: how many seconds pass between two looks at files of bundles, at least 0.01. None
+            looks once.
         verifies: verifies signatures in place of the package `cryptography`; see `svid.Verifies`.
         rsa_bits: how many bits an RSA key may have, 2,048 to 16,384. A longer one verifies nothing,
             so that a token of a stranger costs little. It is not for `verifies`.
@@ -110,35 +131,45 @@ class Validator:
             in each mode. What `take` got is kept from the next snapshot on. See `svid.Journal`.
         wait: how many seconds `check` and `withdraw` may take, until they raise Unavailable. It is
             at least 0.001.
+        clock: gives the time in seconds since 1970 (`svid.testing.Clock`).
+        on_refusal: is called with each refusal of `check` and `judge` before they raise it. By
+            default the logger "svid" has its name, at the level INFO.
+        on_twice: is called with the key (`Use.key`) of a token that several validators accepted,
+            when `take` learns that. By default the logger "svid" has a warning.
 
         Raises BadBundles, OSError for a file of bundles, and ValueError and TypeError for arguments
-        that can't be. With `state` it raises what `svid.Journal` does, and TooFar where the clock
-        is behind the record that was kept.
+        that can't be. It does not wait for addresses: until bundles come from there, `unready` says
+        so, and tokens are Unavailable. With `state` it raises what `svid.Journal` does, and TooFar
+        where the clock is behind the record that was kept.
         """
         if validator_id is not None and (len(validator_id) != 16 or state is not None):
             raise ValueError("validator_id has 16 bytes, and a folder of state has its own")
-        if refresh is not None and not refresh >= 0:
-            raise ValueError("refresh is a number of seconds, or None")
+        if refresh is not None and not refresh >= _LEAST_REFRESH:
+            raise ValueError(f"refresh is None, or at least {_LEAST_REFRESH} seconds")
         if not wait >= _LEAST_WAIT:
             raise ValueError(f"wait is a number of seconds, and at least {_LEAST_WAIT}")
         if mode not in lib.MODES:
             raise ValueError(f"mode is one of {', '.join(lib.MODES)}, and not {mode!r}")
-        if (store is not None) != (mode in _CLAIMS):
-            raise ValueError("give a store in the modes strict and bound, and in no other one")
+        if store is None and mode in _CLAIMS:
+            raise ValueError(f"give a store in the mode {mode}")
+        if store is not None and mode not in _CLAIMS and not hasattr(store, "withdrawals"):
+            raise ValueError(f"in the mode {mode} a store tells its withdrawals, and this can't")
         self._verifies = verifies or Verifier(rsa_bits)
-        self._source = Source(bundles)
-        self._stamp = self._source.stamp()
-        self._refresh = math.inf if refresh is None else refresh
-        self._look_at = time.monotonic() + self._refresh
+        self._seconds = functools.partial(_seconds, clock)
+        self._on_refusal = on_refusal or _log_refusal
+        self._on_twice = on_twice or _log_twice
+        self._refresh = refresh
         self._renewing = threading.Lock()
         self._mode = mode
         self._callers = patterns(callers)
         terms = {
-            "longest": _limit("longest", longest),
+            "longest": lib.NO_LIMIT if longest is UNLIMITED else _limit("longest", longest),
             "ahead": _limit("ahead", ahead),
-            "step": _limit("step", step),
+            "step": lib.NO_LIMIT if step is None else _limit("step", step),
         }
-        own, text = _names(audiences), self._source.read()
+        own = _names(audiences)
+        self._own = tuple(it.decode() for it in own)
+        self._followed = Followed(bundles)
         if callers is not None and any(b"\n" in it for it in own):
             raise ValueError("with callers, no audience has a line feed")
         self._journal = None if state is None else Journal(state)
@@ -151,7 +182,9 @@ class Validator:
                 **terms,
                 validator_id=validator_id,
                 own=own,
-                bundles=text,
+                bundles=self._followed.text(),
+                bundled=self._followed.is_there,
+                clock=self._seconds,
                 mode=mode,
                 wait=wait,
                 callers=self._callers,
@@ -159,7 +192,9 @@ class Validator:
                 store=store,
             )
             self._start()
+            self._follow()
         except BaseException:
+            self._followed.drop()
             if self._journal is not None:
                 self._journal.close()
             raise
@@ -186,10 +221,11 @@ class Validator:
         None if it is ready. Ask it where a load balancer asks, as at the path /readyz: it also
         tries the disk and the store again, and advances the record to `now`.
         """
-        return self._handle.unready(_seconds(now))
+        return self._handle.unready(self._seconds(now))
 
     def close(self) -> None:
-        """Frees the record and the bundles. Closing twice does nothing."""
+        """Frees the record and the bundles, and ends all threads. Closing twice does nothing."""
+        self._followed.close()
         if self._journal is not None:
             self._journal.close()
         self._handle.close()
@@ -207,25 +243,31 @@ class Validator:
         """
         if (caller is not None) != (self._mode == "bound"):
             raise ValueError("give a caller in the mode bound, and in no other one")
-        self._look()
         who = _NOBODY if caller is None else hashlib.sha256(_lent(caller)).digest()
-        clock = functools.partial(_seconds, now)
-        accepted = self._handle.check(_bytes(token), clock, who, self._verifies)
+        clock, text = functools.partial(self._seconds, now), _bytes(token)
+        try:
+            accepted = self._handle.check(text, clock, who, self._verifies)
+        except (Refused, NotAllowed) as why:
+            self._tell(why, text)
+            raise
         self._tidy()
-        return accepted
+        return self._told(accepted, text)
 
     def judge(self, token: Token, now: float | None = None) -> Accepted:
         """Answers what `check` would, but the record gains no use: `check` may still accept it."""
-        self._look()
-        moment = _seconds(now)
-        read = self._handle.read(_bytes(token), moment)
+        moment, text = self._seconds(now), _bytes(token)
         try:
-            accepted = self._handle.judge(read, moment, self._verifies)
-        finally:
-            read.close()
-        if self._callers and not any(allows(it, accepted.spiffe_id) for it in self._callers):
-            raise NotAllowed
-        return accepted
+            read = self._handle.read(text, moment)
+            try:
+                accepted = self._handle.judge(read, moment, self._verifies)
+            finally:
+                read.close()
+            if self._callers and not any(allows(it, accepted.spiffe_id) for it in self._callers):
+                raise NotAllowed
+        except (Refused, NotAllowed) as why:
+            self._tell(why, text)
+            raise
+        return self._told(accepted, text)
 
     def withdraw(self, token: Token, now: float | None = None) -> Use:
         """Withdraws a token until it expires: from now on it is refused as Withdrawn.
@@ -234,7 +276,8 @@ class Validator:
         token is withdrawn that has this trust domain and `jti`, or this text where it has no `jti`.
         Raises Gone for an expired token, and Refused for what is no JWT-SVID (TooLong to Jti).
         """
-        return self.withdraw_key(*_key(_bytes(token)), now)
+        said = says(_bytes(token))
+        return self.withdraw_key(said.key, said.expires, now)
 
     def withdraw_key(self, key: bytes, expires: int, now: float | None = None) -> Use:
         """Withdraws the token with this key of 32 bytes (`Use.key`), which expires at `expires`.
@@ -243,15 +286,13 @@ class Validator:
         """
         if len(key) != 32:
             raise ValueError("a key has 32 bytes")
-        if expires is None:  # (as no limit, the withdrawal would stay in each record)
-            raise TypeError("expires is a number of seconds")
-        use = self._handle.withdraw(_seconds(now), _lent(key), _limit("expires", expires))
+        use = self._handle.withdraw(self._seconds(now), _lent(key), _limit("expires", expires))
         self._tidy()
         return use
 
     def tick(self, now: float | None = None) -> None:
         """Advances the record to `now`, and drops what has expired by then."""
-        self._handle.tick(_seconds(now))
+        self._handle.tick(self._seconds(now))
 
     def take(self, messages: bytes, now: float | None = None) -> None:
         """Takes messages of other validators: `Use.message`, `parts` and `answer` make them.
@@ -259,7 +300,8 @@ class Validator:
         Taking a message twice, or in another order, makes no difference. Raises TooFar and
         BadMessages, and then takes none of them. At most 67,108,864 bytes.
         """
-        self._handle.take(_seconds(now), _lent(messages))
+        for key in self._handle.take_and_tell(self._seconds(now), _lent(messages)):
+            self._on_twice(key)
 
     def parts(self, size: int = _PIECE) -> Iterator[bytes]:
         """The record as messages, each of at most so many bytes, which are 82 or more.
@@ -280,7 +322,7 @@ class Validator:
 
         Raises TooFar, and BadMessages where it is no summary.
         """
-        return self._handle.answer(_seconds(now), _lent(summary))
+        return self._handle.answer(self._seconds(now), _lent(summary))
 
     def report(self) -> Report:
         """What the record holds, and which tokens were accepted more than once.
@@ -288,7 +330,7 @@ class Validator:
         It is for people and for tests: it makes an object for each use. Raises BadMessages
         ("TooMuch") for a record of more than 1,032,439 uses.
         """
-        return Report.parse(_report(b"".join(self.parts())))
+        return Report.of(b"".join(self.parts()))
 
     def save(self, path: Path) -> None:
         """Writes the record to a file, which has the old record or the new one, whole, at any time.
@@ -316,12 +358,12 @@ class Validator:
                 messages += more
                 messages = messages[self._take_whole(messages, now) :]
         if messages:
-            self.take(messages, now)
+            self._join(messages, now)
 
     def _take_whole(self, messages: bytes, now: float | None) -> int:
         """Takes those that are whole, and gives how many bytes they are."""
         try:
-            self.take(messages, now)
+            self._join(messages, now)
             return len(messages)
         except BadMessages as fault:
             # Of one that is cut off, the offset says how many of its bytes are there.
@@ -329,29 +371,70 @@ class Validator:
                 raise
             whole = len(messages) - fault.offset
         if whole:
-            self.take(messages[:whole], now)
+            self._join(messages[:whole], now)
         return whole
 
-    def renew(self, bundles: Bundles | None = None) -> None:
-        """Replaces the bundles, by default by what their files have now. The record stays.
+    def _join(self, messages: bytes, now: float | None = None) -> None:
+        """Takes messages of its own record."""
+        self._handle.take(self._seconds(now), messages)
 
-        Raises BadBundles, and OSError for a file of bundles; then the old ones stay.
+    def renew(self, bundles: Bundles | None = None) -> None:
+        """Replaces the bundles, by default by what their sources have now. The record stays.
+
+        From now on it follows the new sources. Files are read at once, and addresses are asked at
+        once, but not waited for: the last good bundle of an address that had one stays until then.
+        Raises what the constructor does for bundles; then the old ones stay.
         """
         self._handle.stand()  # (before the lock: a thread of the parent process may have held it)
         with self._renewing:
-            source = self._source if bundles is None else Source(bundles)
-            stamp = source.stamp()
-            self._handle.renew(source.read())
-            self._source, self._stamp = source, stamp
-            if isinstance(self._verifies, Verifier):
-                self._verifies.forget()
+            before = self._followed
+            now = Followed(before.given if bundles is None else bundles, before)
+            self._use(now)
+            self._dropping.detach()
+            before.drop()
+            self._followed = now
+            self._follow()
+        before.close()
+
+    def _follow(self) -> None:
+        """Begins to follow the sources of the bundles."""
+        # (its threads must not keep the validator)
+        self._dropping = weakref.finalize(self, self._followed.drop)
+        self._dropping.atexit = False
+        self._followed.begin(weakref.WeakMethod(self._take), self._refresh)
+
+    def _take(self, followed: Followed) -> None:
+        """Takes bundles that have changed, unless others are followed by now."""
+        with self._renewing:
+            if followed is self._followed:
+                self._use(followed)
+
+    def _use(self, followed: Followed) -> None:
+        self._handle.renew(followed.text())
+        self._handle.has_bundles(followed.is_there)
+        if isinstance(self._verifies, Verifier):
+            self._verifies.forget()
+
+    def _tell(self, why: Refused | NotAllowed, token: bytes) -> None:
+        """Tells a refusal. Raises Unavailable if the bundle of the trust domain is to come."""
+        if isinstance(why, UnknownDomain):
+            domain = says(token).trust_domain
+            if self._followed.awaits(domain):
+                text = f"the bundle of {domain} was not read yet"
+                raise Unavailable(text, "NoBundle") from None
+        self._on_refusal(why)
+
+    def _told(self, accepted: Accepted, token: bytes) -> Accepted:
+        """An acceptance, with what the token says."""
+        accepted._token, accepted._own = token, self._own
+        return accepted
 
     def _start(self) -> None:
         """Takes the record that the state folder has."""
         if self._journal is not None:
             for name in self._journal.torn:
                 _LOG.warning("a crash cut off a write at the end of %s: nobody had an answer", name)
-            self._journal.load(self.take)
+            self._journal.load(self._join)
             if self._journal.wants_snapshot:
                 self._journal.snapshot(self.parts)
         self._handle.begin()
@@ -360,17 +443,6 @@ class Validator:
         """Writes a snapshot in the background, if one is due."""
         if self._journal is not None and self._journal.wants_snapshot:
             self._journal.snapshot_soon(self.parts)
-
-    def _look(self) -> None:
-        """Reads the files of the bundles again where they have changed, if a look is due."""
-        if not self._stamp or time.monotonic() < self._look_at:
-            return
-        self._look_at = time.monotonic() + self._refresh
-        try:
-            if self._source.stamp() != self._stamp:
-                self.renew()
-        except (OSError, Error) as error:
-            _LOG.warning("the bundles stay as they are: %s", error)
 
 
 def _bytes(token: Token) -> bytes:
@@ -389,19 +461,9 @@ def _lent(data: bytes) -> bytes:
     raise TypeError(f"messages and keys are bytes, and not {type(data).__name__}")
 
 
-def _key(token: bytes) -> tuple[bytes, int]:
-    """The key of a token, and when it expires. Raises Refused for what is no JWT-SVID."""
-    said, told = lib.Said(), lib.Told()
-    lent = (token, len(token), lib.address(said), None, 0, None, 0, lib.address(told))
-    status = lib.library.svid_token_says(*lent)
-    if status != lib.TOO_SHORT:  # (the texts were given no room)
-        raise fault(status, told)
-    return bytes(said.key), said.exp
-
-
-def _seconds(now: float | None) -> int:
+def _seconds(clock: Callable[[], float], now: float | None) -> int:
     if now is None:
-        now = time.time()
+        now = clock()
     if not isinstance(now, (int, float)):
         raise TypeError(f"now is a number of seconds, and not {type(now).__name__}")
     if not 0 <= now < _YEAR_5138:
@@ -409,9 +471,9 @@ def _seconds(now: float | None) -> int:
     return int(now)
 
 
-def _limit(name: str, seconds: int | None) -> int:
-    if seconds is None:
-        return lib.NO_LIMIT
+def _limit(name: str, seconds: Seconds) -> int:
+    if not isinstance(seconds, (int, float)):
+        raise TypeError(f"{name} is a number of seconds, and not {seconds!r}")
     if not 0 <= seconds <= lib.NO_LIMIT:
         raise ValueError(f"{name} is a number of seconds from 0 to 2^64-1")
     return int(seconds)
@@ -427,13 +489,11 @@ def _names(audiences: str | Iterable[str]) -> list[bytes]:
     return [name.encode() for name in names]
 
 
-def _report(messages: bytes) -> str:
-    told, room = lib.Told(), bytearray(1)
-    while True:
-        lent = (messages, len(messages), 0, lib.address(room), len(room))
-        status = lib.library.svid_report(*lent, lib.address(told))
-        if status == lib.OK:
-            return room[: told.len].decode()
-        if status != lib.TOO_SHORT:
-            raise fault(status, told)
-        room = bytearray(told.len)
+def _log_refusal(why: Refused | NotAllowed) -> None:
+    with contextlib.suppress(Exception):  # (a logger that fails changes no answer)
+        _LOG.info("%s", type(why).__name__)
+
+
+def _log_twice(key: bytes) -> None:
+    with contextlib.suppress(Exception):
+        _LOG.warning("a token was accepted more than once: %s", key.hex())

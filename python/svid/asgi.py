@@ -22,12 +22,11 @@ class SvidMiddleware:
     """Checks the bearer token of each request and each websocket, and calls `app` if it is good.
 
     There `scope["spiffe_id"]` is the SPIFFE ID of the token's subject, a str, and
-    `scope["svid.accepted"]` the `svid.Accepted`, with the token's expiry and key. Any other request
-    is answered with status 401, and any other websocket is closed before it is accepted. Where a
-    check is Unavailable, the status is 503. A check runs on the event loop: it takes little more
-    than to verify one signature. A check that waits for a disk runs in a thread.
-
-    A good token of who may not call (`Validator(callers=..)`) is answered with status 403.
+    `scope["svid.accepted"]` the `svid.Accepted`. Any other websocket is closed before it is
+    accepted, and any other request is answered as svidd does (docs/SIDECAR-REFERENCE.md): with
+    status 401 for a refusal, 403 for a good token of who may not call, and 503 without an answer
+    about the token. A check runs on the event loop: it takes little more than to verify one
+    signature. A check that waits for a disk or a store runs in a thread.
 
     `reuse` are paths where a token is checked, and stays good: it may come again, there and once
     elsewhere. It is refused there, too, once it was used elsewhere. It may also be a function of
@@ -80,12 +79,11 @@ class SvidMiddleware:
             code = 1013 if admission.status == HTTPStatus.SERVICE_UNAVAILABLE else 1008
             await send({"type": "websocket.close", "code": code})
         else:
-            headers = [(b"content-length", b"0")]
-            if admission.challenge:
-                headers.append((b"www-authenticate", admission.challenge.encode()))
+            headers, body = admission.answer()
             start = {"type": "http.response.start", "status": int(admission.status)}
-            await send({**start, "headers": headers})
-            await send({"type": "http.response.body"})
+            sent = [(name.lower().encode(), value.encode()) for name, value in headers]
+            await send({**start, "headers": sent})
+            await send({"type": "http.response.body", "body": body})
 
 
 def _readings(scope: Scope) -> tuple[str, ...]:

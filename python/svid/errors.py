@@ -110,7 +110,12 @@ class Unavailable(Error):
     """Nobody accepts the token: the disk or the store failed, or did not answer in time.
 
     Answer with status 503. The token may be used up all the same, and its client needs a new one.
+    `reason` is the word by which its client hears why, as "NotKept" (docs/SIDECAR-REFERENCE.md).
     """
+
+    def __init__(self, text: str, reason: str = "NotJudged") -> None:
+        super().__init__(text)
+        self.reason = reason
 
 
 class Held(Error):

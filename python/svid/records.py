@@ -2,15 +2,22 @@
 
 from __future__ import annotations
 
+import json
 import struct
+from collections import defaultdict
 from collections.abc import Iterable
-from dataclasses import dataclass
+from dataclasses import dataclass, field
+from typing import Any
 
 from . import _library as lib
-from ._words import no_memory, said
+from ._token import payload, says
+from ._words import no_memory, reason, said
+from .errors import BadMessages
 
 _ENTRY = struct.Struct("@QQQ32s16s")
 """`svid_entry`, as the C library has it in memory."""
+_LEAST = 64
+"""So many bytes an entry takes in messages, or more."""
 
 
 @dataclass(slots=True, unsafe_hash=True)
@@ -57,6 +64,26 @@ def batches(uses: Iterable[Use]) -> bytes:
     return bytes(room[: told.len])
 
 
+def entries(messages: bytes) -> list[tuple[Any, ...]]:
+    """The entries of messages, as `svid_entry` has them; none where these are no messages."""
+    told, room = lib.Told(), bytearray(_ENTRY.size * (len(messages) // _LEAST + 1))
+    lent = (messages, len(messages), lib.address(room), len(room) // _ENTRY.size)
+    if lib.library.svid_entries_read(*lent, lib.address(told)) != lib.OK:
+        return []
+    return [*_ENTRY.iter_unpack(room[: told.len * _ENTRY.size])]
+
+
+def news_of_twice(before: bytes, messages: bytes) -> list[bytes]:
+    """The keys of tokens that were accepted more than once, by these messages and not before."""
+    had: defaultdict[bytes, set[object]] = defaultdict(set)
+    has: defaultdict[bytes, set[object]] = defaultdict(set)
+    for uses, these in (had, before), (has, messages):
+        for withdrawn, *times, key, validator_id in entries(these):
+            if not withdrawn:
+                uses[key].add((*times, validator_id))
+    return [key for key, uses in has.items() if len(had[key]) < 2 <= len(had[key] | uses)]
+
+
 @dataclass(slots=True, unsafe_hash=True)
 class Accepted:
     """A token that a validator accepted."""
@@ -65,6 +92,25 @@ class Accepted:
     """The SPIFFE ID of the token's subject, as "spiffe://example.org/billing/api"."""
     use: Use
     """What the record has gained; of `judge`, what it would have."""
+    _token: bytes = field(default=b"", repr=False, compare=False)
+    _own: tuple[str, ...] = field(default=(), repr=False, compare=False)
+
+    @property
+    def claims(self) -> dict[str, Any]:
+        """The claims of the token, as `json.loads` reads its payload."""
+        claims: dict[str, Any] = json.loads(payload(self._token))
+        return claims
+
+    @property
+    def audience(self) -> str:
+        """The first of the validator's audiences that the token names."""
+        named = says(self._token).audiences
+        return next(it for it in self._own if it in named)
+
+    @property
+    def key_id(self) -> str | None:
+        """The ID of the key that the token names (`kid`), if it names one."""
+        return says(self._token).key_id or None
 
     @property
     def expires(self) -> int:
@@ -100,6 +146,21 @@ class Report:
     """All entries, the first to expire first."""
     twice: dict[bytes, int]
     """The keys of tokens that were accepted more than once, each with the number of its uses."""
+
+    @classmethod
+    def of(cls, messages: bytes) -> Report:
+        """What messages hold. Raises BadMessages."""
+        told, room = lib.Told(), bytearray(1)
+        while True:
+            lent = (messages, len(messages), 0, lib.address(room), len(room))
+            status = lib.library.svid_report(*lent, lib.address(told))
+            if status == lib.OK:
+                return cls.parse(room[: told.len].decode())
+            if status == lib.NO_MEMORY:
+                raise no_memory()
+            if status != lib.TOO_SHORT:
+                raise BadMessages(reason(status), told.message, told.offset)
+            room = bytearray(told.len)
 
     @classmethod
     def parse(cls, text: str) -> Report:

@@ -2,12 +2,8 @@
 
 from __future__ import annotations
 
-import threading
-import time
-from collections.abc import Callable, Sequence
+from collections.abc import Sequence
 from typing import NamedTuple, Protocol
-
-from . import _library as lib
 
 WITHDRAWN = bytes(32)
 """The owner that a key has whose token was withdrawn."""
@@ -66,51 +62,15 @@ class Store(Protocol):
         """
 
 
-class MemoryStore:
-    """A store in the memory of one process, for tests."""
+class TellingStore(Store, Protocol):
+    """A store that tells its withdrawals, which validators in every mode but "strict" then hear.
 
-    def __init__(
-        self, *, now: Callable[[], float] = time.time, margin: int = 60, lasts: int = 3600
-    ) -> None:
-        """Makes an empty store.
+    In the mode "strict" the claim of a token finds the withdrawal.
+    """
 
-        now: its clock, in seconds since 1970.
-        margin: for how many seconds an entry stays after its token has expired.
-        lasts: how many seconds a token may live that is claimed.
+    def withdrawals(self, after: str) -> tuple[Sequence[tuple[bytes, int]], str]:
+        """The withdrawals that came after a position, as key and expiry, and the position behind.
+
+        The first position is "". The validator asks again until the position stays. A position that
+        the store does not know reads all again.
         """
-        self._now = now
-        self._margin = margin
-        self._lasts = lasts
-        self._lock = threading.Lock()
-        self._entries: dict[bytes, tuple[bytes, int]] = {}
-        self._deaf = 0
-
-    def put(self, claims: Sequence[Claim]) -> list[Found]:
-        """Is that of `Store`."""
-        with self._lock:
-            now = int(self._now())
-            return [Found(self._put(it, now), now, self._deaf) for it in claims]
-
-    def withdraw(self, key: bytes, expires: int) -> None:
-        """Is that of `Store`."""
-        with self._lock:
-            _, earlier = self._entries.get(key, (WITHDRAWN, 0))
-            self._entries[key] = WITHDRAWN, max(earlier, self._until(expires))
-
-    def lose(self) -> None:
-        """Loses all entries, as a server does that crashes."""
-        with self._lock:
-            self._entries.clear()
-            time = int(self._now())
-            self._deaf = lib.quick.svid_claim_deaf(time, self._lasts, self._deaf)
-
-    def _put(self, claim: Claim, now: int) -> bytes:
-        owner, until = self._entries.get(claim.key, (b"", 0))
-        if until <= now:
-            owner = claim.owner
-            self._entries[claim.key] = owner, self._until(claim.expires)
-        return owner
-
-    def _until(self, expires: int) -> int:
-        until: int = lib.quick.svid_claim_until(expires, self._margin)
-        return until

@@ -19,27 +19,11 @@ class SvidMiddleware:
     """Checks the bearer token of each request, and calls `app` if it is good.
 
     There `environ["svid.spiffe_id"]` is the SPIFFE ID of the token's subject, a str, and
-    `environ["svid.accepted"]` the `svid.Accepted`, with the token's expiry and key. Any other
-    request is answered with status 401, and with 503 where a check is Unavailable. Servers with
-    several threads may use it.
+    `environ["svid.accepted"]` the `svid.Accepted`. Servers with several threads may use it.
 
-    A good token of who may not call (`Validator(callers=..)`) is answered with status 403.
-
-    `reuse` are paths where a token is checked, and stays good: it may come again, there and once
-    elsewhere. It is refused there, too, once it was used elsewhere. It may also be a function of
-    the environ that returns True or False, as `lambda it: it["REQUEST_METHOD"] == "GET"`.
-
-    `open_paths` are paths that need no token, as those of health checks. There the environ has no
-    SPIFFE ID and no acceptance, whatever stood in it, and a token is not looked at.
-
-    "/healthz" is that path alone, and "/static/*" is each path below "/static". They are compared
-    with `PATH_INFO`, by which frameworks choose what to call, and not with `SCRIPT_NAME`. What may
-    be read in two ways is on no list: escapes, empty segments, "." and "..".
-
-    `caller` is a function of the environ that returns bytes which tell who presents the token, as
-    the client's address. A validator in the mode "bound" needs it.
-
-    Raises ValueError for what is no path.
+    `reuse`, `open_paths`, `caller` and its answers are those of `svid.asgi.SvidMiddleware`, by the
+    environ. Paths are compared with `PATH_INFO`, by which frameworks choose what to call, and not
+    with `SCRIPT_NAME`.
 
     A `Validator` belongs to one process: in the mode "once" a server with several workers accepts a
     token once in each. Run one process with several threads, take the mode "strict", or put the
@@ -71,8 +55,6 @@ class SvidMiddleware:
         if admission.accepted is not None:
             ours = (admission.accepted.spiffe_id, admission.accepted)
             return self.app({**theirs, **dict(zip(_OURS, ours))}, start_response)
-        headers = [("Content-Length", "0")]
-        if admission.challenge:
-            headers.append(("WWW-Authenticate", admission.challenge))
+        headers, body = admission.answer()
         start_response(f"{admission.status.value} {admission.status.phrase}", headers)
-        return []
+        return [body]

@@ -129,6 +129,7 @@ def validator(bundles=None, **terms):
     """A validator of the audience "ledger" that knows the key k1, of ES256, and has patience."""
     bundles = bundle(entry(private_key("ES256"), "k1")) if bundles is None else bundles
     usual = {"audiences": ["ledger"], "bundles": bundles, "wait": PATIENCE}
+    usual |= {"longest": svid.UNLIMITED}
     return svid.Validator(**{**usual, **terms})
 
 

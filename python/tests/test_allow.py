@@ -6,6 +6,7 @@ from wsgiref.util import setup_testing_defaults
 
 import pytest
 import svid
+import svid.testing
 from making import SUBJECT, fresh, token, validator
 from svid import asgi, wsgi
 from vectors import name_of, read
@@ -95,7 +96,7 @@ def test_a_caller_that_no_pattern_allows(server):
 )
 def test_a_token_is_bound_to_who_sends_the_request(server, caller):
     text = fresh()
-    with validator(mode="bound", store=svid.MemoryStore()) as checks:
+    with validator(mode="bound", store=svid.testing.MemoryStore()) as checks:
         for _ in range(2):
             assert server(checks, caller=caller)(text)[0] == 200
         assert "Replayed" in server(checks, caller=lambda _: b"b")(text)[1]

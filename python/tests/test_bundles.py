@@ -9,12 +9,23 @@ import subprocess
 import sys
 import threading
 import time
-import types
 
 import pytest
 import svid
-from making import NOW, PATIENCE, bundle, entry, private_key, token, validator, verdict
-from svid._bundles import Source
+from making import (
+    NOW,
+    PATIENCE,
+    bundle,
+    entry,
+    no_logger,
+    private_key,
+    token,
+    until,
+    validator,
+    verdict,
+)
+from svid import _follow
+from test_threads import forked
 
 KEY = private_key("ES256")
 JWKS = {"keys": [entry(KEY, "k1")]}
@@ -190,11 +201,11 @@ def test_keys_of_replaced_bundles_are_freed():
     """Each bundle has four keys of 60 kB: those of 600 bundles that stayed would be 144 MB."""
     text = """
 import base64, json, svid
-from making import NOW, bundle, entry, private_key, token
+from making import NOW, PATIENCE, bundle, entry, private_key, token
 key, made = entry(private_key("ES256", 1), "k1"), token()
 def bundles(which):
     return bundle(*({**key, "note": f"{which} {it}".ljust(60_000)} for it in range(4)))
-with svid.Validator(audiences="ledger", bundles=bundles(0)) as checks:
+with svid.Validator(audiences="ledger", bundles=bundles(0), wait=PATIENCE) as checks:
     for which in range(600):
         checks.renew(bundles(which))
         try:
@@ -324,15 +335,32 @@ def rewrite(path, text):
     os.replace(new, path)
 
 
+def judged(checks, made, now=NOW):
+    """What a check would print of a token, which stays good."""
+    try:
+        accepted = checks.judge(made, now)
+        return f"accepted {accepted.spiffe_id} {accepted.expires}"
+    except svid.Refused as why:
+        return f"refused {why.name}"
+    except svid.Unavailable as why:
+        return f"unavailable {why.reason}"
+
+
+def soon(checks, said, made=None):
+    """Waits until a token gets this verdict."""
+    made = made or token()
+    until(lambda: judged(checks, made) == said)
+
+
 def test_files_that_change_are_read_again(tmp_path):
     path = tmp_path / "example.org.json"
     path.write_text(json.dumps({"keys": []}))
-    with validator(tmp_path, refresh=0) as checks:
+    with validator(tmp_path, refresh=0.01) as checks:
         assert verdict(checks, token()) == "refused NoKey"
         rewrite(path, json.dumps(SPIRE))
-        assert verdict(checks, token()) == ACCEPTED
+        soon(checks, ACCEPTED)
         path.unlink()
-        assert verdict(checks, token(jti="2")) == "refused UnknownDomain"
+        soon(checks, "refused UnknownDomain")
 
 
 def rotation(which):
@@ -340,103 +368,176 @@ def rotation(which):
     return json.dumps({"keys": [entry(private_key("ES256", which), "k1")]})
 
 
-def replaced(path, text, time):
-    new = path.with_suffix(".new")
-    new.write_text(text)
-    os.utime(new, ns=(time, time))
-    os.replace(new, path)
-
-
-def written(path, text, time):
-    path.write_text(text)
-    os.utime(path, ns=(time + 1, time + 1))
-
-
-def grown(path, text, time):
-    path.write_text(text + "\n")
-    os.utime(path, ns=(time, time))
-
-
-@pytest.mark.parametrize("rotate", [replaced, written, grown])
-def test_a_rotation_that_differs_in_one_thing_is_seen(tmp_path, rotate):
-    """In its file alone, in a nanosecond of its time, or in its size."""
+def test_a_rotation_is_seen_by_what_the_file_has(tmp_path):
+    """Its time and its size stay, and it is the same file."""
     path = tmp_path / "example.org.json"
     path.write_text(rotation(0))
-    time = path.stat().st_mtime_ns // 10**9 * 10**9
-    os.utime(path, ns=(time, time))
     before = path.stat()
-    with validator(path, refresh=0) as checks:
+    with validator(path, refresh=0.01) as checks:
         assert verdict(checks, token(jti="1")) == ACCEPTED
-        rotate(path, rotation(1), time)
-        after = path.stat()
-        same = [
-            getattr(before, it) == getattr(after, it) for it in ("st_ino", "st_mtime_ns", "st_size")
-        ]
-        assert same.count(False) == 1
+        with open(path, "r+") as file:
+            file.write(rotation(1))
+        os.utime(path, ns=(before.st_atime_ns, before.st_mtime_ns))
+        soon(checks, ACCEPTED, token(jti="2", key=private_key("ES256", 1)))
         assert verdict(checks, token(jti="2")) == "refused BadSignature"
-        assert verdict(checks, token(jti="2", key=private_key("ES256", 1))) == ACCEPTED
 
 
-def test_a_file_that_changes_while_it_is_read_is_read_again(tmp_path, monkeypatch):
-    """When the validator is made, and when it is renewed."""
-    path, read, texts = tmp_path / "example.org.json", Source.read, []
+def test_a_file_that_changes_while_the_validator_is_made_is_read_again(tmp_path, monkeypatch):
+    path, read, texts = tmp_path / "example.org.json", _follow.contents, [json.dumps(SPIRE)]
 
-    def changing(source):
-        found = read(source)
+    def changing(name):
+        found = read(name)
         if texts:
             rewrite(path, texts.pop())
         return found
 
-    monkeypatch.setattr(Source, "read", changing)
+    monkeypatch.setattr(_follow, "contents", changing)
     path.write_text(json.dumps({"keys": []}))
-    texts.append(json.dumps(SPIRE))
-    with validator(path, refresh=0) as checks:
-        assert verdict(checks, token()) == ACCEPTED
-        texts.append(rotation(0))
-        rewrite(path, json.dumps({"keys": []}))
-        assert verdict(checks, token(jti="1")) == "refused NoKey"
-        assert verdict(checks, token(jti="1")) == ACCEPTED
+    with validator(path, refresh=0.01) as checks:
+        soon(checks, ACCEPTED)
 
 
-def test_files_are_looked_at_every_ten_seconds(tmp_path, monkeypatch):
-    clock = types.SimpleNamespace(now=1000.0)
-    at = types.SimpleNamespace(monotonic=lambda: clock.now, time=lambda: NOW)
-    monkeypatch.setattr(svid._validator, "time", at)
+def test_a_change_is_used_within_two_seconds(tmp_path):
+    """By what the validator does by default: a look each second, which ends in time."""
     path = tmp_path / "example.org.json"
     path.write_text(json.dumps({"keys": []}))
     with validator(path) as checks:
-        for which in range(3):
-            rewrite(path, json.dumps([SPIRE, {"keys": []}][which % 2]))
-            clock.now += 9.9
-            before, after = (ACCEPTED, "refused NoKey")[:: 1 if which % 2 else -1]
-            assert verdict(checks, token(jti=f"{which} before")) == before
-            clock.now += 0.1
-            assert verdict(checks, token(jti=f"{which} after")) == after
+        assert checks._refresh == 1.0
+        rewrite(path, json.dumps(SPIRE))
+        soon(checks, ACCEPTED)
 
 
-@pytest.mark.parametrize("refresh", [None, 3600])
-def test_files_are_not_looked_at_before_it_is_time(tmp_path, refresh):
+def test_files_are_not_looked_at_where_nobody_wants_that(tmp_path):
     path = tmp_path / "example.org.json"
     path.write_text(json.dumps({"keys": []}))
-    with validator(path, refresh=refresh) as checks:
+    with validator(path, refresh=None) as checks:
+        assert not threads()
         rewrite(path, json.dumps(SPIRE))
         assert verdict(checks, token()) == "refused NoKey"
         checks.renew()
         assert verdict(checks, token()) == ACCEPTED
 
 
-def test_a_file_that_gets_bad_is_told_and_not_used(tmp_path, caplog):
+@pytest.mark.parametrize("refresh", [0, 0.009, -1, float("nan")])
+def test_a_refresh_that_can_not_be(refresh):
+    with pytest.raises(ValueError, match="^refresh is None, or at least 0.01 seconds$"):
+        validator(refresh=refresh)
+
+
+def told(caplog):
+    """The faults that were told."""
+    return [it.getMessage() for it in caplog.records if it.levelno == logging.WARNING]
+
+
+def test_a_file_that_gets_bad_is_told_once_and_not_used(tmp_path, caplog):
     path = tmp_path / "example.org.json"
     path.write_text(json.dumps(SPIRE))
-    with validator(path, refresh=0) as checks:
+    caplog.set_level(logging.INFO, "svid")
+    with validator(path, refresh=0.01) as checks:
         rewrite(path, "{")
-        with caplog.at_level(logging.WARNING, "svid"):
-            assert verdict(checks, token(jti="1")) == ACCEPTED
-            path.unlink()
-            assert verdict(checks, token(jti="2")) == ACCEPTED
-        assert [it.name for it in caplog.records] == ["svid"] * 2
+        until(lambda: len(told(caplog)) == 1)
+        path.unlink()
+        until(lambda: len(told(caplog)) == 2)
+        assert judged(checks, token()) == ACCEPTED
         rewrite(path, json.dumps({"keys": []}))
-        assert verdict(checks, token(jti="3")) == "refused NoKey"
+        soon(checks, "refused NoKey")
+    said = [it for it in caplog.records if str(path) in it.getMessage()]
+    assert [it.name for it in said] == ["svid"] * 3
+    assert [it.levelno for it in said] == [logging.WARNING] * 2 + [logging.INFO]
+
+
+def test_a_bad_file_of_a_folder_leaves_the_others(tmp_path, caplog):
+    """The others change meanwhile. What was told of a file that is gone is forgotten."""
+    good, bad = tmp_path / "example.org.json", tmp_path / "other.example.json"
+    good.write_text(json.dumps({"keys": []}))
+    bad.write_text(json.dumps({"keys": []}))
+    with validator(tmp_path, refresh=0.01) as checks:
+        other = token(sub="spiffe://other.example/a")
+        rewrite(bad, "[")
+        rewrite(good, json.dumps(SPIRE))
+        soon(checks, ACCEPTED)
+        assert judged(checks, other) == "refused NoKey"
+        until(lambda: len(told(caplog)) == 1)
+        bad.unlink()
+        soon(checks, "refused UnknownDomain", other)
+        rewrite(bad, "[")
+        until(lambda: len(told(caplog)) == 2)
+        assert str(bad) in told(caplog)[1]
+
+
+def test_a_folder_that_is_away_changes_nothing(tmp_path, caplog):
+    folder = tmp_path / "bundles"
+    folder.mkdir()
+    (folder / "example.org.json").write_text(json.dumps(SPIRE))
+    with validator(folder, refresh=0.01) as checks:
+        folder.rename(tmp_path / "away")
+        until(lambda: told(caplog))
+        assert judged(checks, token()) == ACCEPTED
+        (tmp_path / "away").rename(folder)
+        rewrite(folder / "example.org.json", json.dumps({"keys": []}))
+        soon(checks, "refused NoKey")
+
+
+def test_bundles_that_are_not_taken_are_handed_on_again(tmp_path, caplog, monkeypatch):
+    path = tmp_path / "example.org.json"
+    path.write_text(json.dumps({"keys": []}))
+    with validator(path, refresh=0.01) as checks:
+        renew = checks._handle.renew
+        monkeypatch.setattr(checks._handle, "renew", no_memory)
+        rewrite(path, json.dumps(SPIRE))
+        until(lambda: told(caplog))
+        monkeypatch.setattr(checks._handle, "renew", renew)
+        soon(checks, ACCEPTED)
+    assert len(told(caplog)) == 1
+
+
+def no_memory(_):
+    raise MemoryError
+
+
+def test_a_logger_that_fails_ends_no_following(tmp_path):
+    path = tmp_path / "example.org.json"
+    path.write_text(json.dumps({"keys": []}))
+    with no_logger(), validator(path, refresh=0.01) as checks:
+        rewrite(path, "{")
+        until(lambda: checks._followed._faults)
+        rewrite(path, json.dumps(SPIRE))
+        soon(checks, ACCEPTED)
+
+
+def threads():
+    return [it for it in threading.enumerate() if it.name == "svid-bundles"]
+
+
+def test_no_thread_stays(tmp_path):
+    """Of a validator that is closed, that has other bundles by now, or that nobody has."""
+    (tmp_path / "example.org.json").write_text(json.dumps(SPIRE))
+    checks = validator(tmp_path)
+    assert len(threads()) == 1
+    for _ in range(3):
+        checks.renew()
+        assert len(threads()) == 1
+    checks.renew(json.dumps({"example.org": SPIRE}).encode())
+    assert not threads()
+    checks.renew(tmp_path)
+    checks.close()
+    assert not threads()
+    checks = validator(tmp_path)
+    del checks
+    until(lambda: not threads())
+
+
+def test_a_fork_follows_nothing(tmp_path):
+    (tmp_path / "example.org.json").write_text(json.dumps(SPIRE))
+    with validator(tmp_path, refresh=0.01) as checks:
+
+        def child():
+            assert not threads()
+            checks.close()
+
+        forked(child)
+        rewrite(tmp_path / "example.org.json", json.dumps({"keys": []}))
+        soon(checks, "refused NoKey")
 
 
 def test_a_folder_of_links_that_change_at_once(tmp_path):
@@ -449,8 +550,8 @@ def test_a_folder_of_links_that_change_at_once(tmp_path):
     mount = tmp_path / "mount"
     mount.mkdir()
     (mount / "example.org.json").symlink_to("../data/example.org.json")
-    with validator(mount, refresh=0) as checks:
+    with validator(mount, refresh=0.01) as checks:
         assert verdict(checks, token()) == "refused NoKey"
         pathlib.Path(tmp_path / "new").symlink_to("2")
         os.replace(tmp_path / "new", data)
-        assert verdict(checks, token()) == ACCEPTED
+        soon(checks, ACCEPTED)

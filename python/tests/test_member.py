@@ -11,6 +11,7 @@ import weakref
 
 import pytest
 import svid
+import svid.testing
 from making import PATIENCE, SUBJECT, bundle, entry, fresh, private_key, until, validator
 from svid import _claims, _journal, _member
 from test_threads import forked
@@ -22,7 +23,7 @@ class Fickle:
     """A store whose calls do `before` what is put, and `after` it, as a test wants."""
 
     def __init__(self, **terms):
-        self.store = svid.MemoryStore(**terms)
+        self.store = svid.testing.MemoryStore(**terms)
         self.puts = []
         self.before = self.after = lambda: None
 
@@ -122,7 +123,12 @@ def test_a_token_that_may_come_again():
 
 @pytest.mark.parametrize(
     "terms",
-    [{"mode": "twice"}, {"mode": "strict"}, {"mode": "bound"}, {"store": svid.MemoryStore()}],
+    [
+        {"mode": "twice"},
+        {"mode": "strict"},
+        {"mode": "bound"},
+        {"store": Fickle()},
+    ],
     ids=str,
 )
 def test_a_mode_and_its_store(terms):
@@ -154,7 +160,7 @@ def test_one_of_many_threads_is_accepted():
 
 
 def test_validators_of_one_store():
-    store, tokens = svid.MemoryStore(), [fresh(jti=str(it)) for it in range(20)]
+    store, tokens = svid.testing.MemoryStore(), [fresh(jti=str(it)) for it in range(20)]
     with strict(store) as one, strict(store) as other:
         calls = [
             Soon(checks.check, token) for token in tokens for checks in (one, other, one, other)
@@ -194,23 +200,23 @@ def test_a_store_that_fails_now_and_then():
 
 def test_each_life_has_claims_of_its_own():
     """A restart does not take the claims of the life before for its own."""
-    store, token = svid.MemoryStore(), fresh()
+    store, token = svid.testing.MemoryStore(), fresh()
     for said in SUBJECT, "Replayed":
         with strict(store, validator_id=b"v" * 16) as checks:
             assert answer(checks.check, token) == said
 
 
 def test_a_store_and_a_state_folder(tmp_path):
-    store, one, two = svid.MemoryStore(), fresh(jti="1"), fresh(jti="2")
+    store, one, two = svid.testing.MemoryStore(), fresh(jti="1"), fresh(jti="2")
     with strict(store, state=tmp_path) as checks:
         assert answer(checks.check, one) == SUBJECT
         checks.withdraw(two)
-    with strict(svid.MemoryStore(), state=tmp_path) as checks:
+    with strict(svid.testing.MemoryStore(), state=tmp_path) as checks:
         assert answer(checks.check, two) == "Withdrawn"
 
 
 def test_a_token_is_bound_to_its_caller():
-    store, token = svid.MemoryStore(), fresh()
+    store, token = svid.testing.MemoryStore(), fresh()
     with bound(store) as one, bound(store) as other:
         for checks in one, other, one:
             assert answer(checks.check, token, caller=b"owner" * 9) == SUBJECT
@@ -221,7 +227,7 @@ def test_a_token_is_bound_to_its_caller():
 
 
 def test_a_caller_is_given_in_mode_bound_alone():
-    with bound(svid.MemoryStore()) as checks:
+    with bound(svid.testing.MemoryStore()) as checks:
         with pytest.raises(ValueError, match="caller"):
             checks.check(fresh())
         with pytest.raises(TypeError, match="bytes"):
@@ -298,7 +304,7 @@ def test_an_answer_that_comes_again():
 
 @pytest.mark.parametrize(("owner", "said"), [(b"o" * 32, "Replayed"), (bytes(32), "Withdrawn")])
 def test_an_entry_of_another_owner(owner, said):
-    class Theirs(svid.MemoryStore):
+    class Theirs(svid.testing.MemoryStore):
         def put(self, claims):
             return [it._replace(owner=owner) for it in super().put(claims)]
 
@@ -314,7 +320,7 @@ def test_an_entry_of_another_owner(owner, said):
 def test_an_answer_that_is_none(wrong):
     """It counts as no answer: the claim is put again."""
 
-    class Wrong(svid.MemoryStore):
+    class Wrong(svid.testing.MemoryStore):
         wrongs = 0
 
         def put(self, claims):
@@ -417,7 +423,7 @@ def test_a_claim_of_who_does_not_know_yet_that_it_is_late():
 
 
 def test_a_store_that_has_lost_entries():
-    store = svid.MemoryStore(lasts=3620)
+    store = svid.testing.MemoryStore(lasts=3620)
     with strict(store, longest=3600) as checks:
         assert Soon(checks.check, fresh(jti="1")).answer == SUBJECT
         assert checks.unready() is None
@@ -430,14 +436,14 @@ def test_a_store_that_has_lost_entries():
 
 def test_a_token_that_lives_longer_than_the_store_keeps_it():
     now = int(time.time())
-    with strict(svid.MemoryStore(now=lambda: now - 3600), longest=3600) as checks:
+    with strict(svid.testing.MemoryStore(now=lambda: now - 3600), longest=3600) as checks:
         with pytest.raises(svid.Unavailable, match="lasts seconds past the store's time"):
             checks.check(fresh())
 
 
 def test_the_memory_of_a_store():
     clock = [1000]
-    store = svid.MemoryStore(now=lambda: clock[0], margin=10, lasts=100)
+    store = svid.testing.MemoryStore(now=lambda: clock[0], margin=10, lasts=100)
     mine, theirs = (svid.Claim(b"k" * 32, it * 32, 1050) for it in (b"m", b"t"))
     assert store.put([]) == []
     assert store.put([mine, theirs, mine]) == [svid.Found(b"m" * 32, 1000, 0)] * 3
@@ -458,7 +464,7 @@ def test_the_memory_of_a_store():
 
 
 def test_a_withdrawal_reaches_the_other_validators():
-    store, token = svid.MemoryStore(), fresh()
+    store, token = svid.testing.MemoryStore(), fresh()
     with strict(store) as one, strict(store) as other:
         use = one.withdraw(token)
         assert use.withdrawn
@@ -501,7 +507,7 @@ OURS = ["spiffe://example.com", "spiffe://example.org/billing/*"]
 @pytest.mark.parametrize("terms", [{}, {"mode": "reuse"}, {"mode": "strict"}], ids=str)
 def test_callers(terms):
     if terms.get("mode") == "strict":
-        terms = {**terms, "store": svid.MemoryStore()}
+        terms = {**terms, "store": svid.testing.MemoryStore()}
     token = fresh()
     with validator(callers=OTHERS, **terms) as closed:
         for call in closed.check, closed.judge, closed.check:
@@ -624,7 +630,7 @@ def claiming():
 
 
 def test_a_validator_that_is_dropped_ends_its_threads():
-    checks = strict(svid.MemoryStore())
+    checks = strict(svid.testing.MemoryStore())
     gone = weakref.ref(checks._handle)
     assert Soon(checks.check, fresh()).answer == SUBJECT and claiming()
     del checks
@@ -772,3 +778,92 @@ def test_renewed_bundles_count_for_who_waits():
             until(lambda: store.puts)
             checks.renew(bundle(entry(private_key("ES256", 1), "k2")))
         assert {it.answer for it in calls} == {"NoKey"}
+
+
+# -- Withdrawals of the store
+
+
+class Pages(svid.testing.MemoryStore):
+    """A store that tells one withdrawal at a time, and what a test wants before that."""
+
+    def __init__(self, **terms):
+        super().__init__(**terms)
+        self.before, self.asked, self.forgets = lambda: None, 0, False
+
+    def withdrawals(self, after):
+        self.asked += 1
+        self.before()
+        if self.forgets:  # (the position is one that it does not know)
+            after, self.forgets = "", False
+        these, _ = super().withdrawals(after)
+        return these[:1], str(int(after or 0) + len(these[:1]) or "")
+
+
+@pytest.mark.parametrize("mode", ["once", "reuse", "bound"])
+def test_withdrawals_of_the_store_are_heard(mode, monkeypatch, tmp_path):
+    """Those that were there before, page by page, and those that come. Each is taken once."""
+    monkeypatch.setattr(_claims, "_HEARS", 0.01)
+    store, tokens, clock = Pages(), [fresh(jti=str(it)) for it in range(5)], svid.testing.Clock()
+    who = {"caller": b"a"} if mode == "bound" else {}
+    with strict(store) as other:
+        for it in tokens[:3]:
+            other.withdraw(it)
+        state = tmp_path if mode == "once" else None
+        with validator(mode=mode, store=store, state=state, clock=clock) as checks:
+            said = [answer(checks.check, it, **who) for it in tokens[:4]]
+            assert said == ["Withdrawn"] * 3 + [SUBJECT]
+            assert checks.ready
+            other.withdraw(tokens[4])
+            until(lambda: answer(checks.judge, tokens[4]) == "Withdrawn")
+            mine = checks.withdraw(tokens[3])
+            clock.advance(5)
+            store.forgets, asked = True, store.asked
+            until(lambda: store.asked > asked + 9)
+            heard = [it for it in checks.report().uses if it.withdrawn]
+            assert len(heard) == 5 and mine in heard
+    if mode == "once":
+        with validator(mode=mode, state=tmp_path) as checks:
+            assert len([it for it in checks.report().uses if it.withdrawn]) == 5
+
+
+def test_no_token_is_judged_before_withdrawals_are_read(monkeypatch, caplog):
+    monkeypatch.setattr(_claims, "_HEARS", 0.01)
+    store, token = Pages(), fresh()
+    store.before = away
+    with validator(mode="reuse", store=store, wait=0.05) as checks:
+        assert answer(checks.check, token) == "Unavailable" and "withdrawals" in checks.unready()
+        store.before = lambda: None
+        until(lambda: checks.ready)
+        checks._handle._wait = PATIENCE
+        assert in_time(checks.check, token) == SUBJECT
+    said = [it.getMessage() for it in caplog.records]
+    assert said.count("the group's store tells no withdrawals: the store is away") == 1
+
+
+def test_a_withdrawal_that_has_expired_is_passed_over(monkeypatch):
+    monkeypatch.setattr(_claims, "_HEARS", 0.01)
+    store = Pages()
+    store.withdraw(b"k" * 32, 1)
+    store.withdraw(b"l" * 32, int(time.time()) + 1000)
+    with validator(mode="reuse", store=store) as checks:
+        assert [it.key for it in checks.report().uses] == [b"l" * 32]
+
+
+def test_in_mode_strict_no_withdrawals_are_read():
+    store = Pages()
+    with strict(store) as checks:
+        assert answer(checks.check, fresh()) == SUBJECT
+    assert store.asked == 0
+
+
+def test_who_reads_withdrawals_ends():
+    def threads():
+        return [it for it in threading.enumerate() if it.name == "svid-withdrawals"]
+
+    with validator(mode="reuse", store=Pages()):
+        assert len(threads()) == 1
+    until(lambda: not threads())
+    checks = validator(mode="reuse", store=Pages())
+    del checks
+    gc.collect()
+    until(lambda: not threads())

@@ -12,7 +12,7 @@ import sys
 import threading
 
 import pytest
-from making import PATIENCE, bundle, entry, fresh, private_key, token, validator
+from making import NOW, PATIENCE, bundle, entry, fresh, private_key, token, validator
 from starlette.applications import Starlette
 from starlette.responses import PlainTextResponse
 from starlette.routing import Route, WebSocketRoute
@@ -35,9 +35,9 @@ def bundles(tmp_path, monkeypatch):
 
 
 REFUSED = [
-    ({}, "Bearer"),
-    ({"Authorization": ""}, "Bearer"),
-    ({"Authorization": "Basic YTpi"}, "Bearer"),
+    ({}, "NoToken"),
+    ({"Authorization": ""}, "NotBearer"),
+    ({"Authorization": "Basic YTpi"}, "NotBearer"),
     ({"Authorization": "Bearer"}, "NotBearer"),
     ({"Authorization": "Bearer a,Bearer b"}, "NotBearer"),
     ({"Authorization": "Bearer a"}, "NotThreeParts"),
@@ -48,12 +48,25 @@ REFUSED = [
 ]
 
 
-def challenge(name):
-    """What the header WWW-Authenticate says of a refusal, or of no token."""
-    if name == "Bearer":
+def challenge(name, tried=False):
+    """What the header WWW-Authenticate says of a refusal, or of no bearer token."""
+    if name in ("NoToken", "NotBearer") and not tried:
         return 'Bearer realm="svid"'
     error = "invalid_request" if name == "NotBearer" else "invalid_token"
     return f'Bearer error="{error}", error_description="{name}"'
+
+
+def refusal(name):
+    """The body of an answer that refuses."""
+    return f'{{"reason":"{name}","result":"refused"}}\n'
+
+
+UNAVAILABLE = [
+    ("Cache-Control", "no-store"),
+    ("Content-Type", "application/json"),
+    ("Content-Length", "44"),
+    ("Retry-After", "1"),
+]
 
 
 def load(name):
@@ -76,9 +89,10 @@ def test_starlette(bundles, keeps, tmp_path, monkeypatch):
         answer = client.get("/", headers={"Authorization": made})
         assert answer.headers["WWW-Authenticate"] == challenge("Replayed")
         for headers, name in REFUSED:
+            tried = headers.get("Authorization", "").startswith("Bearer")
             answer = client.get("/", headers={k: v.encode("latin-1") for k, v in headers.items()})
-            assert (answer.status_code, answer.text) == (401, "")
-            assert answer.headers["WWW-Authenticate"] == challenge(name)
+            assert (answer.status_code, answer.text) == (401, refusal(name))
+            assert answer.headers["WWW-Authenticate"] == challenge(name, tried)
 
 
 @pytest.fixture
@@ -101,9 +115,10 @@ def test_wsgiref(server):
 
     made = {"Authorization": "Bearer " + fresh(jti="1")}
     assert get(made) == (200, HELLO, None)
-    assert get(made) == (401, "", challenge("Replayed"))
+    assert get(made) == (401, refusal("Replayed"), challenge("Replayed"))
     for headers, name in REFUSED:
-        assert get(headers) == (401, "", challenge(name))
+        tried = headers.get("Authorization", "").startswith("Bearer")
+        assert get(headers) == (401, refusal(name), challenge(name, tried))
 
 
 def test_websockets():
@@ -201,10 +216,10 @@ def test_a_header_is_read_as_the_standards_say(made, name):
     with validator() as checks:
         headers = [(b"authorization", made.encode())]
         sent = run(SvidMiddleware(None, checks), {"type": "http", "headers": headers})
-        assert (b"www-authenticate", challenge(name).encode()) in sent[0]["headers"]
+        assert (b"www-authenticate", challenge(name, True).encode()) in sent[0]["headers"]
         said = []
         WsgiMiddleware(None, checks)({"HTTP_AUTHORIZATION": made}, lambda *it: said.append(it[1]))
-        assert ("WWW-Authenticate", challenge(name)) in said[0]
+        assert ("WWW-Authenticate", challenge(name, True)) in said[0]
 
 
 def test_a_name_of_a_header_has_any_case():
@@ -278,15 +293,63 @@ def test_a_check_that_is_unavailable_is_answered_503(tmp_path, monkeypatch):
             return "Bearer " + fresh(jti=os.urandom(8).hex())
 
         scope = {"type": "http", "headers": [(b"authorization", header().encode())]}
-        start, _ = run(SvidMiddleware(None, checks), scope)
-        assert (start["status"], start["headers"]) == (503, [(b"content-length", b"0")])
+        start, body = run(SvidMiddleware(None, checks), scope)
+        headers = [(name.lower().encode(), value.encode()) for name, value in UNAVAILABLE]
+        assert (start["status"], start["headers"]) == (503, headers)
+        assert body["body"] == b'{"reason":"NotKept","result":"unavailable"}\n'
         scope = {"type": "websocket", "headers": [(b"authorization", header().encode())]}
         assert run(SvidMiddleware(None, checks), scope) == [
             {"type": "websocket.close", "code": 1013}
         ]
         said = []
         WsgiMiddleware(None, checks)({"HTTP_AUTHORIZATION": header()}, lambda *it: said.append(it))
-        assert said == [("503 Service Unavailable", [("Content-Length", "0")])]
+        assert said == [("503 Service Unavailable", UNAVAILABLE)]
+
+
+def test_each_answer_says_what_svidd_says():
+    """And no cache keeps it."""
+    with validator(clock=lambda: NOW, step=10, callers=["spiffe://example.org/admin"]) as checks:
+        later = validator(clock=lambda: NOW, mode="strict", store=Away(), wait=0.01)
+        for it, made, status, reason, error in (
+            (checks, token(exp=NOW), 401, "Expired", "invalid_token"),
+            (checks, token(), 403, "NotAllowed", "insufficient_scope"),
+            (checks, "a b", 401, "NotBearer", "invalid_request"),
+            (later, token(), 503, "NotReady", ""),
+        ):
+            start, body = ask(it, made)
+            headers = dict(start["headers"])
+            said = f'Bearer error="{error}", error_description="{reason}"'.encode()
+            assert headers.get(b"www-authenticate", b"") == (said if error else b"")
+            assert (start["status"], headers[b"cache-control"]) == (status, b"no-store")
+            assert headers.get(b"retry-after") == (b"1" if status == 503 else None)
+            assert json.loads(body["body"])["reason"] == reason
+        checks.tick(NOW)
+        checks._seconds = lambda _: NOW + 11
+        assert json.loads(ask(checks, token())[1]["body"])["reason"] == "ClockJump"
+        later.close()
+
+
+class Away:
+    """A store that was never reached."""
+
+    def put(self, _claims):
+        raise ConnectionError("the store is away")
+
+
+def ask(checks, made):
+    """What the middleware sends to who has this token and may not come in."""
+    headers = [(b"authorization", f"Bearer {made}".encode())]
+    return run(SvidMiddleware(None, checks), {"type": "http", "headers": headers})
+
+
+def test_want_of_memory_is_an_answer(monkeypatch):
+    def want(*_, **__):
+        raise MemoryError
+
+    with validator() as checks:
+        monkeypatch.setattr(checks, "check", want)
+        start, body = ask(checks, fresh())
+        assert start["status"] == 503 and json.loads(body["body"])["reason"] == "NoMemory"
 
 
 def test_a_check_that_waits_does_not_hold_up_the_event_loop(tmp_path, monkeypatch):

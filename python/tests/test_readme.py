@@ -37,7 +37,7 @@ def checkout(tmp_path, monkeypatch):
 def test_the_page_has_blocks_of_three_kinds():
     kinds = [kind for kind, _ in BLOCKS]
     assert set(kinds) == {"python", "text", "console"}
-    assert kinds.count("python") >= 10
+    assert kinds.count("python") >= 4
 
 
 def test_python(checkout):
@@ -53,11 +53,8 @@ def test_python(checkout):
             printed = None
 
 
-def test_the_first_block_has_ten_lines():
-    first = next(text for kind, text in BLOCKS if kind == "python")
-    page = (PYTHON / "README.md").read_text()
-    explained = page.partition("Line by line:\n\n")[2].partition("\n\n")[0].splitlines()
-    assert len(first.splitlines()) == len(explained) == 10
+def test_the_page_is_short():
+    assert len((PYTHON / "README.md").read_text().split()) <= 1200
 
 
 @pytest.mark.parametrize(
@@ -82,7 +79,8 @@ def test_the_service_accepts_a_token_once(checkout):
     command = "gunicorn --threads 8 service:app"
     assert f"run `{command}`" in (PYTHON / "README.md").read_text()
     token = pathlib.Path("examples/token.txt").read_text().strip()
-    replayed = (401, "", 'Bearer error="invalid_token", error_description="Replayed"')
+    body = '{"reason":"Replayed","result":"refused"}\n'
+    replayed = (401, body, 'Bearer error="invalid_token", error_description="Replayed"')
     with served(command) as port:
         accepted = (200, "hello spiffe://example.org/billing/api", None)
         assert [answer(port, it) for it in (token, token)] == [accepted, replayed]

@@ -3,7 +3,6 @@
 import dataclasses
 import os
 import time
-import types
 
 import pytest
 import svid
@@ -69,13 +68,11 @@ def test_the_clock_of_the_system_is_the_default_of_each_call(tmp_path):
             assert soon <= checks.report().moment <= soon + 60
 
 
-def test_a_clock_before_1970(monkeypatch):
+def test_a_clock_before_1970():
     """It is no time far ahead, by which the record has forgotten all."""
-    with validator() as checks:
+    with validator(clock=lambda: -5.0) as checks:
         made = token()
         checks.check(made, NOW)
-        told = types.SimpleNamespace(time=lambda: -5.0, monotonic=time.monotonic)
-        monkeypatch.setattr(svid._validator, "time", told)
         for call in checks.tick, lambda: checks.check(made):
             with pytest.raises(ValueError, match="since 1970"):
                 call()

@@ -6,7 +6,7 @@ import pytest
 import svid
 import svid.asgi
 import vectors
-from making import verdict
+from making import PATIENCE, verdict
 from svid import _library as lib
 
 KEYS, SIGNATURES, TOKENS = vectors.read("keys"), vectors.read("signatures"), vectors.TOKENS
@@ -25,6 +25,7 @@ def each(file):
 def test_keys_and_signatures(vector):
     bundles = '{"example.org":{"keys":[' + ",".join(vector["keys"]) + "]}}"
     terms = {"rsa_bits": vector["rsa_bits"]} if "rsa_bits" in vector else {}
+    terms["wait"] = PATIENCE
     with svid.Validator(audiences="ledger", bundles=bundles.encode(), **terms) as checks:
         assert verdict(checks, vector["token"], NOW) == vector["answer"]
 

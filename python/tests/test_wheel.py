@@ -1,5 +1,6 @@
 """The wheel in a fresh virtual environment that has Debian's python3-cryptography alone."""
 
+import json
 import os
 import pathlib
 import shutil
@@ -10,7 +11,6 @@ import zipfile
 import pytest
 from making import LEFT, NOW, bundle, entry, private_key, token
 
-import svid
 
 PYTHON = pathlib.Path(__file__).parent.parent
 DEBIAN = pathlib.Path("/usr/lib/python3/dist-packages")
@@ -48,7 +48,7 @@ def wheel(tmp_path_factory):
 
 
 def test_what_is_in_it(wheel):
-    assert wheel.name == "svid-2.0.0-py3-none-linux_x86_64.whl"
+    assert wheel.name == "svid-3.0.0-py3-none-linux_x86_64.whl"
     with zipfile.ZipFile(wheel) as file:
         names = {name for name in file.namelist() if ".dist-info/" not in name}
         library = file.read("svid/libsvid.so")
@@ -94,7 +94,7 @@ def test_a_fresh_environment(wheel, tmp_path):
         for file in DEBIAN.glob(pattern):
             (packages / file.name).symlink_to(file)
     clean = {"PATH": "/usr/bin:/bin", "PYTHONDONTWRITEBYTECODE": "1"}
-    bundles = svid._bundles._joined(bundle(entry(private_key("ES256"), "k1"))).decode()
+    bundles = json.dumps(bundle(entry(private_key("ES256"), "k1")))
     words = [python, "-I", "-c", CHECK, bundles, str(NOW), token()]
     said = run(*words, env=clean, cwd=tmp_path).splitlines()
     assert said[:2] == ["spiffe://example.org/billing/api", "Replayed"]
@@ -105,8 +105,8 @@ def test_a_fresh_environment(wheel, tmp_path):
 def test_a_source_distribution_has_the_library_too(tmp_path):
     shutil.copytree(PYTHON, tmp_path / "python", ignore=shutil.ignore_patterns(*LEFT))
     run(sys.executable, "setup.py", "-q", "sdist", "--dist-dir", tmp_path, cwd=tmp_path / "python")
-    shutil.unpack_archive(tmp_path / "svid-2.0.0.tar.gz", tmp_path)
-    source = tmp_path / "svid-2.0.0"
+    shutil.unpack_archive(tmp_path / "svid-3.0.0.tar.gz", tmp_path)
+    source = tmp_path / "svid-3.0.0"
     library = (source / "svid" / "libsvid.so").read_bytes()
     assert library == pathlib.Path(os.environ["LIBSVID"]).read_bytes()
     environment = {it: value for it, value in os.environ.items() if it != "LIBSVID"}
@@ -119,7 +119,7 @@ def test_a_source_distribution_has_the_library_too(tmp_path):
 
 def test_the_library_of_the_system(tmp_path):
     """Where the package has none, as in a checkout, and ./install put one there."""
-    (tmp_path / "libsvid.so.2").symlink_to(os.environ["LIBSVID"])
+    (tmp_path / "libsvid.so.3").symlink_to(os.environ["LIBSVID"])
     environment = {**os.environ, "LIBSVID": "", "LD_LIBRARY_PATH": str(tmp_path)}
     said = run(sys.executable, "-c", "import svid; print(svid.Validator.__name__)", env=environment)
     assert said == "Validator\n"

@@ -32,13 +32,14 @@ NO_LIMIT = 2**64 - 1
 def opened(vector):
     """The validator that a vector of tokens.json calls."""
     given = TOKENS["setting"] | vector.get("setting", {})
-    limits = {it: None if given[it] is None else int(given[it]) for it in ("longest", "step")}
+    longest, step = given["longest"], given["step"]
     return svid.Validator(
         audiences=given["audiences"],
         bundles=TOKENS["bundles"][given["bundles"]].encode(),
         ahead=int(given["ahead"] or NO_LIMIT),
         validator_id=bytes.fromhex(given["validator_id"]),
-        **limits,
+        longest=svid.UNLIMITED if longest is None else int(longest),
+        step=None if step is None else int(step),
     )
 
 

@@ -62,12 +62,15 @@ MAYBE static uint32_t answered;
 static inline void fail(const char *why) { printf("%s: %s (answered %s, allocation %ld)\n", at, why, svid_strstatus(answered), refused_at); exit(1); }
 static inline void holds(int truth, const char *why) { if (!truth) fail(why); }
 
-/* The files of examples/, and the questions that its table says yes to. */
+/* The files of examples/, and the questions that its table says yes to; the key that made the token's signature, and that signature, over so many bytes
+ * of the token. */
 enum { FILE_MOST = 65536 };
 MAYBE static uint8_t bundles[FILE_MOST], token[FILE_MOST], table[FILE_MOST], uses[FILE_MOST];
 MAYBE static size_t bundles_len, token_len, table_len, uses_len;
 MAYBE static svid_question yes[64];
 MAYBE static size_t yes_len;
+MAYBE static uint8_t maker[FILE_MOST], signature[SVID_SIGNATURE_ROOM];
+MAYBE static size_t maker_len, signature_len, signed_len;
 MAYBE static const svid_terms TERMS = { UINT64_MAX, 10, 86400, { 1 } };
 
 static inline size_t read_file(const char *name, uint8_t *room) {
@@ -83,6 +86,38 @@ static inline size_t of_hex(const char *hex, size_t digits, uint8_t *to) {
     return digits / 2;
 }
 
+static inline size_t number_at(const uint8_t *from) { return (size_t)from[0] << 24 | (size_t)from[1] << 16 | (size_t)from[2] << 8 | from[3]; }
+
+/* The signature of `token`, and over how many of its bytes it is made; none of what can't be read. */
+static inline void find_signature(void) {
+    svid_signed over;
+    svid_told told;
+    signature_len = signed_len = 0;
+    if (svid_token_signature(token, token_len, &over, signature, sizeof signature, &told) == SVID_OK) signature_len = told.len, signed_len = over.len;
+}
+
+/* The key whose question about the token the table says yes to, and its signature. */
+static inline void find_maker(void) {
+    static uint8_t rows[FILE_MOST];
+    svid_bundles b = SVID_BUNDLES_CLOSED;
+    svid_told told;
+    svid_question asks;
+    at = "the key of the examples";
+    answered = svid_bundles_open(&b, bundles, bundles_len, &told);
+    if (answered == SVID_OK) answered = svid_bundles_ask(&b, token, token_len, SIZE_MAX, rows, sizeof rows, &told);
+    holds(answered == SVID_OK, "no key");
+    size_t len = told.len;
+    for (size_t from = 0, number = 0; from < len && !maker_len; number++) {
+        from += 4 + number_at(rows + from);
+        holds((answered = svid_bundles_question(&b, token, token_len, number, &asks, &told)) == SVID_OK, "no question");
+        if (!memcmp(&asks, &yes[0], sizeof asks)) memcpy(maker, rows + from + 4, maker_len = number_at(rows + from));
+        from += 4 + number_at(rows + from);
+    }
+    holds(maker_len > 0, "the table says yes to none");
+    svid_bundles_close(&b);
+    find_signature();
+}
+
 static inline void read_examples(void) {
     bundles_len = read_file("bundles.json", bundles);
     token_len = read_file("token.txt", token);
@@ -90,6 +125,33 @@ static inline void read_examples(void) {
     table_len = read_file("table.txt", table);
     uses_len = read_file("two-uses.batch", uses);
     for (size_t i = 0; i + 64 <= table_len && yes_len < COUNT(yes) - 1; i += 65, yes_len++) of_hex((const char *)table + i, 64, yes[yes_len].bytes);
+    find_maker();
+}
+
+/* Reads a token for one call that judges or checks it, with the signature of `token` and the key that made it, or with none. */
+typedef uint32_t token_call(svid_validator *, uint64_t, const uint8_t *, size_t, const uint8_t *, size_t, const uint8_t *, size_t, svid_token *, uint8_t *, size_t, svid_use *, svid_told *);
+static inline uint32_t read_for(token_call *call, int by_maker, svid_validator *v, uint64_t now, const uint8_t *text, size_t len, uint8_t *out, size_t room, svid_use *used, svid_told *told) {
+    svid_token t = SVID_TOKEN_CLOSED;
+    uint32_t status = svid_token_open(&t, text, len, told);
+    if (status == SVID_OK && by_maker) status = call(v, now, maker, maker_len, text, signed_len, signature, signature_len, &t, out, room, used, told);
+    else if (status == SVID_OK) status = call(v, now, NULL, 0, NULL, 0, NULL, 0, &t, out, room, used, told);
+    svid_token_close(&t);
+    return status;
+}
+static inline uint32_t check_token(svid_validator *v, uint64_t now, uint8_t *out, size_t room, svid_use *used, svid_told *told) {
+    return read_for(svid_validator_check_token, 1, v, now, token, token_len, out, room, used, told);
+}
+static inline uint32_t judge_token(svid_validator *v, uint64_t now, uint8_t *out, size_t room, svid_use *used, svid_told *told) {
+    return read_for(svid_validator_judge_token, 1, v, now, token, token_len, out, room, used, told);
+}
+
+/* The same for the call that lists its keys. */
+static inline uint32_t ask_token(svid_validator *v, const uint8_t *text, size_t len, size_t most, uint8_t *out, size_t room, svid_told *told) {
+    svid_token t = SVID_TOKEN_CLOSED;
+    uint32_t status = svid_token_open(&t, text, len, told);
+    if (status == SVID_OK) status = svid_validator_ask_token(v, &t, most, out, room, told);
+    svid_token_close(&t);
+    return status;
 }
 
 /* So many bytes between two pages that can't be touched, right behind the first or right before the second; which are these bytes, where some are

@@ -14,19 +14,19 @@ typedef struct { uint32_t status; svid_told told; svid_use used; svid_part part;
 
 static uint32_t open_it(svid_validator *v, svid_told *told) { return svid_validator_open(v, &TERMS, (const uint8_t *)"ledger\n\nother", 13, bundles, bundles_len, told); }
 
-enum { OPEN, OPEN_BY_LENGTHS, BUNDLES, ASK, CHECK, JUDGE, JUDGE_AGAIN, WITHDRAW, TICK, TAKE, TELL, PARTS, SUMMARY, ANSWER, CALLS };
-static const char *const NAMES[] = { "open", "open_by_lengths", "bundles", "ask", "check", "judge", "judge_again", "withdraw", "tick", "take", "tell", "parts", "summary", "answer" };
+enum { OPEN, OPEN_BY_LENGTHS, BUNDLES, ASK, CHECK, JUDGE, WITHDRAW, TICK, TAKE, TELL, PARTS, SUMMARY, ANSWER, CALLS };
+static const char *const NAMES[] = { "open", "open_by_lengths", "bundles", "ask", "check", "judge", "withdraw", "tick", "take", "tell", "parts", "summary", "answer" };
 static uint8_t summary[SVID_SUMMARY_LEN];
 
 /* What a call is lent: inputs with their lengths in bytes, and structures and a room that it may write. */
-enum { OWN, LENS, TEXT, TOKEN, YES, MESSAGES, ASKED, INPUTS };
+enum { OWN, LENS, TEXT, TOKEN, MESSAGES, ASKED, INPUTS };
 typedef struct { const void *bytes; size_t len; } input;
 typedef struct { input in[INPUTS]; const svid_terms *terms; const svid_key *key; svid_validator *v; uint8_t *out; size_t room; svid_told *told; svid_use *used; svid_part *part; } loan;
 
 static loan lent(svid_validator *v, answer *a) {
     static const svid_key key = { { 9 } };
     static const size_t lens[] = { 6, 5 };
-    loan l = { { { "ledgerother", 11 }, { lens, sizeof lens }, { bundles, bundles_len }, { token, token_len }, { yes, yes_len * sizeof *yes }, { uses, uses_len }, { summary, sizeof summary } },
+    loan l = { { { "ledgerother", 11 }, { lens, sizeof lens }, { bundles, bundles_len }, { token, token_len }, { uses, uses_len }, { summary, sizeof summary } },
                &TERMS, &key, v, a->out, sizeof a->out, &a->told, &a->used, &a->part };
     return l;
 }
@@ -37,10 +37,9 @@ static uint32_t call_with(int which, const loan *l) {
     case OPEN: return svid_validator_open(l->v, l->terms, in[OWN].bytes, in[OWN].len, in[TEXT].bytes, in[TEXT].len, l->told);
     case OPEN_BY_LENGTHS: return svid_validator_open_by_lengths(l->v, l->terms, in[OWN].bytes, in[OWN].len, in[LENS].bytes, in[LENS].len / sizeof(size_t), in[TEXT].bytes, in[TEXT].len, l->told);
     case BUNDLES: return svid_validator_bundles(l->v, in[TEXT].bytes, in[TEXT].len, l->told);
-    case ASK: return svid_validator_ask(l->v, in[TOKEN].bytes, in[TOKEN].len, SVID_MOST_CANDIDATES, l->out, l->room, l->told);
-    case CHECK: return svid_validator_check(l->v, NOW, in[YES].bytes, in[YES].len / 32, in[TOKEN].bytes, in[TOKEN].len, l->out, l->room, l->used, l->told);
-    case JUDGE: return svid_validator_judge(l->v, NOW, in[YES].bytes, in[YES].len / 32, in[TOKEN].bytes, in[TOKEN].len, l->out, l->room, l->used, l->told);
-    case JUDGE_AGAIN: return svid_validator_judge_again(l->v, NOW, l->key, NOW + 100, l->told);
+    case ASK: return ask_token(l->v, in[TOKEN].bytes, in[TOKEN].len, SVID_MOST_CANDIDATES, l->out, l->room, l->told);
+    case CHECK: return read_for(svid_validator_check_token, 1, l->v, NOW, in[TOKEN].bytes, in[TOKEN].len, l->out, l->room, l->used, l->told);
+    case JUDGE: return read_for(svid_validator_judge_token, 1, l->v, NOW, in[TOKEN].bytes, in[TOKEN].len, l->out, l->room, l->used, l->told);
     case WITHDRAW: return svid_validator_withdraw(l->v, NOW, l->key, NOW + 100, l->used, l->told);
     case TICK: return svid_validator_tick(l->v, NOW, l->told);
     case TAKE: return svid_validator_take(l->v, NOW, in[MESSAGES].bytes, in[MESSAGES].len, l->told);
@@ -144,7 +143,7 @@ static void refused(void) {
     size_t len = record(&v, before, sizeof before);
     void *held = v.held;
     holds(open_it(&v, &told) == SVID_IS_OPEN && v.held == held, "an open one opens");
-    holds(svid_validator_check(&v, NOW, yes, yes_len, token, token_len, small, sizeof small, &used, &told) == SVID_TOO_SHORT && told.len == SVID_ID_ROOM, "a small room");
+    holds(check_token(&v, NOW, small, sizeof small, &used, &told) == SVID_TOO_SHORT && told.len == SVID_ID_ROOM, "a small room");
     holds(svid_validator_tick(&v, NOW * 1000, &told) == SVID_JUMP && svid_validator_tick(&v, NOW + 86401, &told) == SVID_JUMP, "a moment too far");
     holds(record(&v, after, sizeof after) == len && !memcmp(after, before, len), "the record differs");
     holds(svid_validator_tick(&v, NOW + 86400, &told) == SVID_OK, "a moment that is near");
@@ -154,11 +153,11 @@ static void refused(void) {
     begin(TELL, &v);
     begin(TELL, &w);
     uint8_t batch[SVID_BATCH_OF_LEN], out[SVID_ID_ROOM];
-    holds(svid_validator_check(&v, NOW, yes, yes_len, token, token_len, out, sizeof out, &used, &told) == SVID_OK, "the token");
+    holds(check_token(&v, NOW, out, sizeof out, &used, &told) == SVID_OK, "the token");
     svid_batch_of(&used, batch);
     holds(record(&v, after, sizeof after) == sizeof batch && !memcmp(after, batch, sizeof batch), "the batch of a use");
     holds(svid_validator_take(&w, NOW, batch, sizeof batch, &told) == SVID_OK, "the batch is not taken");
-    holds(svid_validator_check(&w, NOW, yes, yes_len, token, token_len, out, sizeof out, &used, &told) == SVID_REPLAYED, "a token twice");
+    holds(check_token(&w, NOW, out, sizeof out, &used, &told) == SVID_REPLAYED, "a token twice");
     svid_validator_close(&v);
     svid_validator_close(&w);
     verified();
@@ -170,13 +169,13 @@ static void refused(void) {
     printf("%ld allocations refused", tried);
 }
 
-/* A verifier whose word is its context, and which sees that it is handed what svid_validator_ask wrote. */
+/* A verifier whose word is its context, and which sees that it is handed what svid_validator_ask_token wrote. */
 static int says(void *context, const uint8_t *alg, size_t alg_len, const uint8_t *jwk, size_t jwk_len, const uint8_t *text, size_t text_len) {
     holds(alg_len == 5 && !memcmp(alg, "ES256", 5) && jwk_len > 2 && jwk[0] == '{' && jwk[jwk_len - 1] == '}' && text == token && text_len == token_len, "what a verifier is handed");
     return *(int *)context;
 }
 
-/* The helper that asks and checks in one call answers as the two calls do. */
+/* The helper that reads, asks and checks in one call answers as the calls do. */
 static void verified(void) {
     static uint8_t rows[65536];
     uint8_t before[512], after[512], out[SVID_ID_ROOM];
@@ -220,19 +219,19 @@ static void offered(void) {
     strcat(many, "]}}");
     svid_validator v;
     svid_told told;
-    at = "svid_validator_ask";
+    at = "svid_validator_ask_token";
     begin(ASK, &v);
     holds(svid_validator_bundles(&v, (const uint8_t *)many, strlen(many), &told) == SVID_OK, "the bundles");
-    holds(svid_validator_ask(&v, (const uint8_t *)unnamed, sizeof unnamed - 1, SIZE_MAX, all, sizeof all, &told) == SVID_OK && told.more == 0 && told.len % KEYS == 0, "all keys");
-    size_t row = told.len / KEYS;
+    holds(ask_token(&v, (const uint8_t *)unnamed, sizeof unnamed - 1, SIZE_MAX, all, sizeof all, &told) == SVID_OK && told.more == 0, "all keys");
+    size_t front = 8 + number_at(all + 4), row = (told.len - front) / KEYS;
+    holds(number_at(all) == sizeof unnamed - 1 - 13 && front == 8 + 9 && told.len == front + KEYS * row, "what a verifier needs beside the keys");
     for (size_t most = 0; most <= KEYS + 1; most++) {
         size_t listed = most < KEYS ? most : KEYS;
         memset(some, 0, sizeof some);
-        answered = svid_validator_ask(&v, (const uint8_t *)unnamed, sizeof unnamed - 1, most, some, sizeof some, &told);
-        holds(answered == SVID_OK && told.len == listed * row && told.more == (most < KEYS) && !memcmp(some, all, told.len), "the first keys");
-        if (!listed) continue;
-        answered = svid_validator_ask(&v, (const uint8_t *)unnamed, sizeof unnamed - 1, most, some, listed * row - 1, &told);
-        holds(answered == SVID_TOO_SHORT && told.len == listed * row && told.more == (most < KEYS), "a room one byte too short");
+        answered = ask_token(&v, (const uint8_t *)unnamed, sizeof unnamed - 1, most, some, sizeof some, &told);
+        holds(answered == SVID_OK && told.len == front + listed * row && told.more == (most < KEYS) && !memcmp(some, all, told.len), "the first keys");
+        answered = ask_token(&v, (const uint8_t *)unnamed, sizeof unnamed - 1, most, some, front + listed * row - 1, &told);
+        holds(answered == SVID_TOO_SHORT && told.len == front + listed * row && told.more == (most < KEYS), "a room one byte too short");
     }
     svid_validator_close(&v);
 }
@@ -263,31 +262,33 @@ static void saved(void) {
     svid_validator_close(&v);
 }
 
-/* An accepted token is judged by its use as it is judged by itself: when it is new, when it was used or withdrawn, and about when it expires. */
+/* A token whose handle stays open is judged again: when it is new, when it was used or withdrawn, and about when it expires. */
 static void judged_again(void) {
+    static const uint32_t due[] = { SVID_OK, SVID_REPLAYED, SVID_WITHDRAWN };
     uint8_t out[SVID_ID_ROOM];
     svid_told told;
-    at = "svid_validator_judge_again";
+    at = "svid_validator_judge_token";
     for (int kind = 0; kind < 3; kind++) {
         svid_validator v;
+        svid_token t = SVID_TOKEN_CLOSED;
         svid_use used, other;
         svid_key key;
         begin(TELL, &v);
-        holds(svid_validator_judge(&v, NOW, yes, yes_len, token, token_len, out, sizeof out, &used, &told) == SVID_OK, "the token");
+        holds(svid_token_open(&t, token, token_len, &told) == SVID_OK, "the token does not open");
+        holds(judge_token(&v, NOW, out, sizeof out, &used, &told) == SVID_OK, "the token");
         memcpy(key.bytes, used.key, sizeof key.bytes);
-        if (kind == 1) holds(svid_validator_check(&v, NOW, yes, yes_len, token, token_len, out, sizeof out, &other, &told) == SVID_OK, "its check");
+        if (kind == 1) holds(check_token(&v, NOW, out, sizeof out, &other, &told) == SVID_OK, "its check");
         if (kind == 2) holds(svid_validator_withdraw(&v, NOW, &key, used.exp, &other, &told) == SVID_OK, "its withdrawal");
-        static const uint32_t due[] = { SVID_OK, SVID_REPLAYED, SVID_WITHDRAWN };
         uint64_t moments[] = { NOW, NOW + 86400, used.exp - 1, used.exp }, moment = NOW, step;
         for (size_t i = 0; i < sizeof moments / sizeof *moments; i++) {
             for (; moment < moments[i]; moment += step) {
                 step = moments[i] - moment < TERMS.step ? moments[i] - moment : TERMS.step;
                 holds(svid_validator_tick(&v, moment + step, &told) == SVID_OK, "a step of the clock");
             }
-            answered = svid_validator_judge_again(&v, moments[i], &key, used.exp, &told);
-            holds(answered == (moments[i] < used.exp ? due[kind] : SVID_EXPIRED) && told.len == 0, "what it answers");
-            holds(answered == svid_validator_judge(&v, moments[i], yes, yes_len, token, token_len, out, sizeof out, &other, &told), "a judgment of the token answers otherwise");
+            answered = svid_validator_judge_token(&v, moments[i], maker, maker_len, token, signed_len, signature, signature_len, &t, out, sizeof out, &other, &told);
+            holds(answered == (moments[i] < used.exp ? due[kind] : SVID_EXPIRED), "what it answers");
         }
+        svid_token_close(&t);
         svid_validator_close(&v);
     }
 }
@@ -397,12 +398,11 @@ static void same_without(int which, int input_of, const void *nothing) {
 }
 
 /* The stateless calls, with NULL for all inputs, or as in the folder examples/. */
-enum { ID, JOIN, REPORT, SUMMARY_OF, ANSWER_OF, QUESTIONS, CHECK_OF, CHECK_OF_LENGTHS, STATELESS };
-static const char *const STATELESS_NAMES[] = { "svid_id_parse", "svid_join", "svid_report", "svid_summary", "svid_answer", "svid_questions", "svid_check", "svid_check_by_lengths" };
+enum { ID, JOIN, REPORT, SUMMARY_OF, ANSWER_OF, STATELESS };
+static const char *const STATELESS_NAMES[] = { "svid_id_parse", "svid_join", "svid_report", "svid_summary", "svid_answer" };
 
 static uint32_t stateless(int which, const loan *l, svid_id *id) {
-    static const svid_setting setting = { NOW, UINT64_MAX, { 1 } };
-    const input *in = l->in, lines = { in[OWN].bytes ? "ledger" : NULL, in[OWN].bytes ? 6 : 0 }, answers = { in[YES].bytes ? table : NULL, in[YES].bytes ? table_len : 0 };
+    const input *in = l->in;
     const uint8_t *m = in[MESSAGES].bytes;
     size_t m_len = in[MESSAGES].len;
     switch (which) {
@@ -410,17 +410,13 @@ static uint32_t stateless(int which, const loan *l, svid_id *id) {
     case JOIN: return svid_join(m, m_len, m, m_len, 0, l->out, l->room, l->told);
     case REPORT: return svid_report(m, m_len, 0, l->out, l->room, l->told);
     case SUMMARY_OF: return svid_summary(m, m_len, 0, l->out, l->room, l->told);
-    case ANSWER_OF: return svid_answer(in[ASKED].bytes, in[ASKED].len, m, m_len, 0, l->out, l->room, l->told);
-    case QUESTIONS: return svid_questions(in[TEXT].bytes, in[TEXT].len, in[TOKEN].bytes, in[TOKEN].len, l->out, l->room, l->told);
-    case CHECK_OF: return svid_check(&setting, lines.bytes, lines.len, in[TEXT].bytes, in[TEXT].len, answers.bytes, answers.len, m, m_len, in[TOKEN].bytes, in[TOKEN].len, l->out, l->room, l->used, l->told);
-    default: return svid_check_by_lengths(&setting, in[OWN].bytes, in[OWN].len, in[LENS].bytes, in[LENS].len / sizeof(size_t), in[TEXT].bytes, in[TEXT].len, answers.bytes, answers.len, m, m_len,
-                                          in[TOKEN].bytes, in[TOKEN].len, l->out, l->room, l->used, l->told);
+    default: return svid_answer(in[ASKED].bytes, in[ASKED].len, m, m_len, 0, l->out, l->room, l->told);
     }
 }
 
 static void nulls(void) {
     static const uint64_t nothing = 0;
-    static const uint32_t due[] = { SVID_ID_SCHEME, SVID_TOO_SHORT, SVID_TOO_SHORT, SVID_TOO_SHORT, SVID_NOT_SUMMARY, SVID_BUNDLES_NOT_OBJECT, SVID_BUNDLES_NOT_OBJECT, SVID_BUNDLES_NOT_OBJECT };
+    static const uint32_t due[] = { SVID_ID_SCHEME, SVID_TOO_SHORT, SVID_TOO_SHORT, SVID_TOO_SHORT, SVID_NOT_SUMMARY };
     static answer a;
     for (int which = 0; which < CALLS; which++) {
         at = NAMES[which];
@@ -447,11 +443,13 @@ static uint32_t checked_with(const char *own, size_t own_len, const size_t *lens
     if (status) holds(v.word == 0 && v.held == NULL, "what does not open is open");
     else status = call_with(CHECK, &l);
     svid_validator_close(&v);
-    /* The stateless call answers the same. */
-    clear(&a);
-    l.in[OWN].bytes = own, l.in[OWN].len = own_len, l.in[LENS].bytes = lens, l.in[LENS].len = count * sizeof *lens, l.in[MESSAGES].len = 0;
-    answered = status;
-    holds(stateless(CHECK_OF_LENGTHS, &l, NULL) == status, "the stateless call answers otherwise");
+    /* The call that keeps no record answers the same. */
+    static const svid_setting setting = { NOW, UINT64_MAX, { 1 } };
+    svid_bundles b = SVID_BUNDLES_CLOSED;
+    holds(svid_bundles_open(&b, bundles, bundles_len, &told) == SVID_OK, "bundles do not open");
+    answered = svid_bundles_judge(&b, &setting, (const uint8_t *)own, own_len, lens, count, yes, 1, token, token_len, a.out, sizeof a.out, &a.used, &told);
+    holds(answered == status, "a judgment without a record answers otherwise");
+    svid_bundles_close(&b);
     return status;
 }
 
@@ -477,28 +475,21 @@ static void edges(void) {
         answered = status;
         holds(status == rows[i].due, rows[i].own);
     }
-    uint8_t *long_bundles = malloc(SVID_INPUT_MOST + 1), *long_table = malloc(SVID_INPUT_MOST + 1);
-    holds(long_bundles && long_table, "no memory for the test");
+    uint8_t *long_bundles = malloc(SVID_INPUT_MOST + 1);
+    holds(long_bundles != NULL, "no memory for the test");
     memset(long_bundles, ' ', SVID_INPUT_MOST + 1);
     memcpy(long_bundles, bundles, bundles_len);
-    memset(long_table, '\n', SVID_INPUT_MOST + 1);
-    memcpy(long_table, table, table_len);
     for (size_t more = 0; more < 2; more++) {
-        static const svid_setting setting = { NOW, UINT64_MAX, { 1 } };
         svid_validator v = SVID_VALIDATOR_CLOSED;
         size_t len = SVID_INPUT_MOST + more;
-        at = "bundles and tables of many bytes";
+        at = "bundles of many bytes";
         is_too_much(svid_validator_open(&v, &TERMS, (const uint8_t *)"ledger", 6, long_bundles, len, &a.told), &a.told, more, 1);
         svid_validator_close(&v);
         begin(TELL, &v);
         is_too_much(svid_validator_bundles(&v, long_bundles, len, &a.told), &a.told, more, 1);
         svid_validator_close(&v);
-        is_too_much(svid_questions(long_bundles, len, token, token_len, a.out, sizeof a.out, &a.told), &a.told, more, 1);
-        is_too_much(svid_check(&setting, (const uint8_t *)"ledger", 6, long_bundles, len, table, table_len, NULL, 0, token, token_len, a.out, sizeof a.out, &a.used, &a.told), &a.told, more, 1);
-        is_too_much(svid_check(&setting, (const uint8_t *)"ledger", 6, bundles, bundles_len, long_table, len, NULL, 0, token, token_len, a.out, sizeof a.out, &a.used, &a.told), &a.told, more, 2);
     }
     free(long_bundles);
-    free(long_table);
     printf("%zu lists of audiences, and inputs of %d bytes and one more", sizeof rows / sizeof *rows, SVID_INPUT_MOST);
 }
 
@@ -564,7 +555,7 @@ static void *run_job(void *given) {
 static void stack(void) {
     static answer a;
     static const size_t depths[] = { 0, 100, 127, 20000 };
-    static const struct { int which, is_stateless; } hostile[] = { { CHECK, 0 }, { ASK, 0 }, { QUESTIONS, 1 }, { CHECK_OF, 1 } };
+    static const struct { int which, is_stateless; } hostile[] = { { CHECK, 0 }, { ASK, 0 } };
     size_t most = 0, count = sizeof hostile / sizeof *hostile, others = CALLS + STATELESS;
     for (size_t turn = 0; turn < others + 4 * count; turn++) {
         svid_validator v;

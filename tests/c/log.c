@@ -245,27 +245,22 @@ static void statuses(void) {
     }
     /* A validator that reads a log checks no token: it judges, and its claim decides. */
     at = "a token";
-    holds((answered = svid_validator_check(&v, NOW, yes, yes_len, token, token_len, out, sizeof out, &used, &told)) == SVID_HAS_LOG && tells_nothing(&told), "a check");
-    holds((answered = svid_validator_judge(&v, NOW, yes, yes_len, token, token_len, out, sizeof out, &used, &told)) == SVID_OK, "a judgment");
+    holds((answered = check_token(&v, NOW, out, sizeof out, &used, &told)) == SVID_HAS_LOG && tells_nothing(&told), "a check");
+    holds((answered = judge_token(&v, NOW, out, sizeof out, &used, &told)) == SVID_OK, "a judgment");
     svid_batch_of(&used, value);
-    svid_key key;
-    memcpy(key.bytes, used.key, sizeof key.bytes);
     svid_reading reading;
-    holds((answered = svid_validator_judge_again(&v, NOW, &key, used.exp, &told)) == SVID_OK, "it is judged again");
     holds((answered = svid_validator_read(&v, NOW, 1, value, sizeof value, &fate, 1, &reading, &told)) == SVID_OK && fate.fate == SVID_FATE_ACCEPTED && !memcmp(&fate.used, &used, sizeof used), "its claim");
-    holds((answered = svid_validator_judge(&v, NOW, yes, yes_len, token, token_len, out, sizeof out, &used, &told)) == SVID_REPLAYED, "a token that is in the record");
+    holds((answered = judge_token(&v, NOW, out, sizeof out, &used, &told)) == SVID_REPLAYED, "a token that is in the record");
     svid_validator_close(&v);
     /* One that is claimed beside the record is refused as well, until the claim expires. */
     begin_to_read(&v, OWN_ID);
     fate.used.at = NOW + 50, fate.used.exp = NOW + 60, fate.used.validator_id[0] = OTHER_ID;
     svid_batch_of(&fate.used, value);
     holds((answered = svid_validator_read(&v, NOW, 1, value, sizeof value, &fate, 1, &reading, &told)) == SVID_OK && fate.fate == SVID_FATE_TOO_FAR_AHEAD, "a claim beside the record");
-    uint64_t exp = used.exp;
     for (int later = 0; later < 2; later++) {
         uint32_t due = later ? SVID_OK : SVID_REPLAYED;
         uint64_t now = NOW + (later ? 60 : 59);
-        holds((answered = svid_validator_judge(&v, now, yes, yes_len, token, token_len, out, sizeof out, &used, &told)) == due, "the judgment of a claimed token");
-        holds((answered = svid_validator_judge_again(&v, now, &key, exp, &told)) == due, "it is judged again");
+        holds((answered = judge_token(&v, now, out, sizeof out, &used, &told)) == due, "the judgment of a claimed token");
     }
     svid_validator_close(&v);
 }

@@ -56,7 +56,6 @@ static void write_card(card *c, const char *sub, const char *aud, uint64_t exp, 
 static uint8_t jwk[FILE_MOST];
 static size_t jwk_len;
 
-static size_t number_at(const uint8_t *from) { return (size_t)from[0] << 24 | (size_t)from[1] << 16 | (size_t)from[2] << 8 | from[3]; }
 
 static void open_card(svid_token *t, const card *c) {
     static const svid_token closed = SVID_TOKEN_CLOSED;

@@ -47,23 +47,21 @@ static text file(const char *name) {
 static text first(text t, size_t len) { return lent(t.bytes, len); }
 
 /* A call: its name, the inputs, and what it is to answer. */
-enum kind { ID, ALLOWS, JOIN, REPORT, SUMMARY, ANSWER, QUESTIONS, CHECK, CHECK_BY_LENGTHS };
-#define INPUTS 6
+enum kind { ID, ALLOWS, JOIN, REPORT, SUMMARY, ANSWER };
+#define INPUTS 2
 typedef struct {
     const char *name;
     enum kind kind;
     text in[INPUTS];
-    uint64_t now, longest;
+    uint64_t now;
     uint32_t status;
     size_t input, message, offset;
 } row;
 
-typedef struct { svid_id id; svid_told told; svid_use used; } answer;
-
-static const uint8_t ID_OF_THIS[16] = { 1, 2, 3, 4, 5, 6, 7, 8, 9, 10, 11, 12, 13, 14, 15, 16 };
+typedef struct { svid_id id; svid_told told; } answer;
 
 /* What a call is lent. */
-typedef struct { text in[INPUTS], setting, out, id, told, used; } loan;
+typedef struct { text in[INPUTS], out, id, told; } loan;
 
 static uint32_t call(enum kind kind, uint64_t now, const loan *l) {
     const text *in = l->in, out = l->out;
@@ -74,14 +72,7 @@ static uint32_t call(enum kind kind, uint64_t now, const loan *l) {
     case JOIN: return svid_join(in[0].bytes, in[0].len, in[1].bytes, in[1].len, now, out.bytes, out.len, told);
     case REPORT: return svid_report(in[0].bytes, in[0].len, now, out.bytes, out.len, told);
     case SUMMARY: return svid_summary(in[0].bytes, in[0].len, now, out.bytes, out.len, told);
-    case ANSWER: return svid_answer(in[0].bytes, in[0].len, in[1].bytes, in[1].len, now, out.bytes, out.len, told);
-    case QUESTIONS: return svid_questions(in[0].bytes, in[0].len, in[1].bytes, in[1].len, out.bytes, out.len, told);
-    case CHECK_BY_LENGTHS: return svid_check_by_lengths((const svid_setting *)l->setting.bytes, in[0].bytes, in[0].len, (const size_t *)(const void *)in[5].bytes, in[5].len / sizeof(size_t),
-                               in[1].bytes, in[1].len, in[2].bytes, in[2].len, in[3].bytes, in[3].len, in[4].bytes, in[4].len,
-                               out.bytes, out.len, (svid_use *)l->used.bytes, told);
-    default: return svid_check((const svid_setting *)l->setting.bytes, in[0].bytes, in[0].len, in[1].bytes, in[1].len,
-                               in[2].bytes, in[2].len, in[3].bytes, in[3].len, in[4].bytes, in[4].len,
-                               out.bytes, out.len, (svid_use *)l->used.bytes, told);
+    default: return svid_answer(in[0].bytes, in[0].len, in[1].bytes, in[1].len, now, out.bytes, out.len, told);
     }
 }
 
@@ -100,11 +91,8 @@ static void taken(text t, void *to) {
 /* Calls with room for `len` bytes, while some allocations are refused: nothing stands afterwards, and no input has
  * changed. What is behind the text, or all of the room where there is none, is as it was. */
 static text called(const row *r, size_t len, long from, long to, answer *a) {
-    svid_setting setting = { r->now, r->longest, { 0 } };
-    memcpy(setting.validator_id, ID_OF_THIS, sizeof setting.validator_id);
     memset(a, 0xA5, sizeof *a);
-    loan l = { .setting = lent(&setting, sizeof setting), .out = room(len), .id = lent(&a->id, sizeof a->id),
-               .told = lent(&a->told, sizeof a->told), .used = lent(&a->used, sizeof a->used) };
+    loan l = { .out = room(len), .id = lent(&a->id, sizeof a->id), .told = lent(&a->told, sizeof a->told) };
     memset(l.out.bytes, 0x5A, len);
     for (int i = 0; i < INPUTS; i++) l.in[i] = lent(r->in[i].bytes, r->in[i].len);
     asked = 0, refused_at = from, refused_to = to;
@@ -112,12 +100,10 @@ static text called(const row *r, size_t len, long from, long to, answer *a) {
     refused_at = 0;
     holds(standing == 0, "memory was not given back");
     for (int i = 0; i < INPUTS; i++) unchanged(l.in[i], r->in[i].bytes, "an input was changed");
-    unchanged(l.setting, &setting, "the setting was changed");
-    taken(l.id, &a->id), taken(l.told, &a->told), taken(l.used, &a->used);
+    taken(l.id, &a->id), taken(l.told, &a->told);
     size_t text_len = answered == SVID_OK && r->kind > ALLOWS ? a->told.len : 0;
     holds(text_len <= len, "the text is longer than the room");
     for (size_t i = text_len; i < len; i++) holds(l.out.bytes[i] == 0x5A, "the room was changed behind the text");
-    for (size_t i = 0; answered != SVID_OK && i < sizeof a->used; i++) holds(((uint8_t *)&a->used)[i] == 0xA5, "the use was changed");
     return l.out;
 }
 
@@ -141,8 +127,6 @@ static void try_row(const row *r) {
     text whole = called(r, len, 0, 0, &a);
     long takes = asked;
     holds(is_answer(r, &a, len), "not what is due");
-    if (r->kind >= CHECK && r->status == SVID_OK)
-        holds(a.used.at == r->now && a.used.exp == 4102444800 && !memcmp(a.used.validator_id, ID_OF_THIS, 16), "the use");
     /* too short by all, by half and by one, as long as the text, and longer */
     size_t lens[] = { 0, len / 2, len ? len - 1 : 0, len, len + 1, len + 4096 };
     for (int i = 0; i < 6; i++) {
@@ -172,91 +156,57 @@ static void try_row(const row *r) {
     give_back(none), give_back(whole), give_back(again);
 }
 
-static void put_number(uint8_t *to, uint64_t number) {
-    for (int i = 7; i >= 0; i--, number >>= 8) to[i] = (uint8_t)number;
-}
-
-/* The batch that tells of a use (docs/FORMATS.md). */
-static text batch_of(const svid_use *used) {
-    text t = room(17 + 65);
-    memcpy(t.bytes, "JSR\2\1", 5);
-    put_number(t.bytes + 5, used->at);
-    memcpy(t.bytes + 13, "\0\0\0\1", 4);
-    put_number(t.bytes + 17, used->exp);
-    memcpy(t.bytes + 25, used->key, 32);
-    memcpy(t.bytes + 57, used->validator_id, 16);
-    put_number(t.bytes + 73, used->at);
-    t.bytes[81] = 0;
+/* The batch that tells of a use of the examples' token, by an acceptance at this moment. */
+static text batch_of_acceptance(uint64_t now) {
+    static uint8_t id[SVID_ID_ROOM];
+    svid_validator v = SVID_VALIDATOR_CLOSED;
+    svid_told told;
+    svid_use used;
+    text t = room(SVID_BATCH_OF_LEN);
+    holds(svid_validator_open(&v, &TERMS, (const uint8_t *)"ledger", 6, bundles, bundles_len, &told) == SVID_OK, "a validator does not open");
+    answered = check_token(&v, now, id, sizeof id, &used, &told);
+    holds(answered == SVID_OK, "the token is not accepted");
+    svid_validator_close(&v);
+    svid_batch_of(&used, t.bytes);
     return t;
 }
 
 int main(void) {
     const uint64_t now = 1767225600;
     text o = said(""), two = file("two-uses.batch"), summary = room(8205), kept;
-    text bundles = file("bundles.json"), table = file("table.txt"), token = file("token.txt"), ledger = said("\nledger\n");
-    const size_t lengths[] = { 3, 6 };
-    text lens = lent(lengths, sizeof lengths);
-    /* a record with the token's use, and its summary */
     answer a;
-    row accepting = { "a check", CHECK, { ledger, bundles, table, o, token }, now, UINT64_MAX, SVID_OK, 0, 0, 0 };
-    give_back(called(&accepting, 2048, 0, 0, &a));
-    holds(answered == SVID_OK, "the token is not accepted");
-    kept = batch_of(&a.used);
-    row summing = { "a summary", SUMMARY, { kept, o, o, o, o }, now, 0, SVID_OK, 0, 0, 0 };
+    read_examples();
+    /* a record with the token's use, and its summary */
+    kept = batch_of_acceptance(now);
+    row summing = { "a summary", SUMMARY, { kept, o }, now, SVID_OK, 0, 0, 0 };
     text made = called(&summing, 8205, 0, 0, &a);
     holds(answered == SVID_OK && a.told.len == 8205, "the summary is not made");
     memcpy(summary.bytes, made.bytes, 8205);
     row rows[] = {
-        { "an ID", ID, { said("spiffe://example.org/web"), o, o, o, o }, 0, 0, SVID_OK, 11, 4, 0 },
-        { "an ID with dots", ID, { said("spiffe://a/.."), o, o, o, o }, 0, 0, SVID_ID_SEGMENT_DOTS, 0, 0, 11 },
-        { "no ID", ID, { o, o, o, o, o }, 0, 0, SVID_ID_SCHEME, 0, 0, 0 },
-        { "an allowed ID", ALLOWS, { said("spiffe://example.org/web"), said("spiffe://example.org/web"), o, o, o }, 0, 0, SVID_OK, 11, 4, 0 },
-        { "an ID below a path", ALLOWS, { said("spiffe://example.org/*"), said("spiffe://example.org/web"), o, o, o }, 0, 0, SVID_OK, 11, 4, 0 },
-        { "an ID of a trust domain", ALLOWS, { said("spiffe://example.org"), said("spiffe://example.org/web"), o, o, o }, 0, 0, SVID_OK, 11, 4, 0 },
-        { "an ID that is not allowed", ALLOWS, { said("spiffe://example.org/web/*"), said("spiffe://example.org/web"), o, o, o }, 0, 0, SVID_NOT_ALLOWED, 11, 4, 0 },
-        { "no pattern", ALLOWS, { o, said("spiffe://a"), o, o, o }, 0, 0, SVID_PATTERN_SCHEME, 0, 0, 0 },
-        { "a pattern with a star inside", ALLOWS, { said("spiffe://a/*/b"), said("spiffe://a"), o, o, o }, 0, 0, SVID_PATTERN_PATH_BYTE, 0, 0, 11 },
-        { "a pattern and no ID", ALLOWS, { said("spiffe://a/*"), said("spiffe://a/b/"), o, o, o }, 0, 0, SVID_ID_SEGMENT_EMPTY, 0, 0, 13 },
-        { "neither a pattern nor an ID", ALLOWS, { said("spiffe://A"), said("spiffe://a/."), o, o, o }, 0, 0, SVID_PATTERN_DOMAIN_BYTE, 0, 0, 9 },
-        { "a join", JOIN, { two, kept, o, o, o }, 0, 0, SVID_OK, 0, 0, 0 },
-        { "a join of nothing", JOIN, { o, o, o, o, o }, 0, 0, SVID_OK, 0, 0, 0 },
-        { "a join with a cut batch", JOIN, { two, first(two, 40), o, o, o }, 0, 0, SVID_TRUNCATED, 2, 1, 40 },
-        { "a join with other bytes", JOIN, { said("{}..."), two, o, o, o }, 0, 0, SVID_MAGIC, 1, 1, 0 },
-        { "a join of two bad inputs", JOIN, { first(two, 40), said("{}..."), o, o, o }, 0, 0, SVID_TRUNCATED, 1, 1, 40 },
-        { "a report", REPORT, { two, o, o, o, o }, 0, 0, SVID_OK, 0, 0, 0 },
-        { "a report when all has expired", REPORT, { kept, o, o, o, o }, UINT64_MAX, 0, SVID_OK, 0, 0, 0 },
-        { "a summary", SUMMARY, { kept, o, o, o, o }, now, 0, SVID_OK, 0, 0, 0 },
-        { "an answer", ANSWER, { summary, two, o, o, o }, 0, 0, SVID_OK, 0, 0, 0 },
-        { "an answer to a batch", ANSWER, { two, two, o, o, o }, 0, 0, SVID_NOT_SUMMARY, 0, 0, 0 },
-        { "an answer of a cut batch", ANSWER, { summary, first(two, 40), o, o, o }, 0, 0, SVID_TRUNCATED, 2, 1, 40 },
-        { "an answer to a batch, of a cut batch", ANSWER, { two, first(two, 40), o, o, o }, 0, 0, SVID_NOT_SUMMARY, 0, 0, 0 },
-        { "an answer to a cut summary, of a cut batch", ANSWER, { first(summary, 50), first(two, 40), o, o, o }, 0, 0, SVID_TRUNCATED, 1, 1, 50 },
-        { "questions", QUESTIONS, { bundles, token, o, o, o }, 0, 0, SVID_OK, 0, 0, 0 },
-        { "questions over no object", QUESTIONS, { said("[]"), token, o, o, o }, 0, 0, SVID_BUNDLES_NOT_OBJECT, 0, 0, 0 },
-        { "questions of no token", QUESTIONS, { bundles, o, o, o, o }, 0, 0, SVID_NOT_THREE_PARTS, 0, 0, 0 },
-        { "questions over no object, of no token", QUESTIONS, { said("[]"), o, o, o, o }, 0, 0, SVID_BUNDLES_NOT_OBJECT, 0, 0, 0 },
-        { "a check", CHECK, { ledger, bundles, table, two, token }, now, UINT64_MAX, SVID_OK, 0, 0, 0 },
-        { "a check of a used token", CHECK, { ledger, bundles, table, kept, token }, now, UINT64_MAX, SVID_REPLAYED, 0, 0, 0 },
-        { "a check by no name", CHECK, { o, bundles, table, o, token }, now, UINT64_MAX, SVID_NOT_AUDIENCE, 0, 0, 0 },
-        { "a check by a name of other bytes", CHECK, { lent("\xFF", 1), bundles, table, o, token }, now, UINT64_MAX, SVID_OWN_NOT_UTF8, 0, 0, 0 },
-        { "a check too late", CHECK, { ledger, bundles, table, o, token }, 4102444800, UINT64_MAX, SVID_EXPIRED, 0, 0, 0 },
-        { "a check of a long life", CHECK, { ledger, bundles, table, o, token }, now, 60, SVID_TOO_LONG_LIVED, 0, 0, 0 },
-        { "a check with no keys", CHECK, { ledger, said("{}"), table, o, token }, now, UINT64_MAX, SVID_UNKNOWN_DOMAIN, 0, 0, 0 },
-        { "a check with a bad name of keys", CHECK, { ledger, said("{\"A\": {\"keys\": []}}"), table, o, token }, now, UINT64_MAX, SVID_BUNDLES_DOMAIN, 0, 0, 0 },
-        { "a check with no answer", CHECK, { ledger, bundles, o, o, token }, now, UINT64_MAX, SVID_BAD_SIGNATURE, 0, 0, 0 },
-        { "a check with a bad table", CHECK, { ledger, bundles, said("\nx\n"), o, token }, now, UINT64_MAX, SVID_TABLE_LINE, 0, 0, 2 },
-        { "a check over cut messages", CHECK, { ledger, bundles, table, first(two, 40), token }, now, UINT64_MAX, SVID_TRUNCATED, 4, 1, 40 },
-        { "a check of no token", CHECK, { ledger, bundles, table, o, o }, now, UINT64_MAX, SVID_NOT_THREE_PARTS, 0, 0, 0 },
-        /* two inputs next to each other are bad, and then all */
-        { "a check with a bad name and bad keys", CHECK, { lent("\xFF", 1), said("[]"), table, o, token }, now, UINT64_MAX, SVID_OWN_NOT_UTF8, 0, 0, 0 },
-        { "a check with bad keys and a bad table", CHECK, { ledger, said("[]"), said("x"), o, token }, now, UINT64_MAX, SVID_BUNDLES_NOT_OBJECT, 0, 0, 0 },
-        { "a check with a bad table and cut messages", CHECK, { ledger, bundles, said("x"), first(two, 40), token }, now, UINT64_MAX, SVID_TABLE_LINE, 0, 0, 1 },
-        { "a check over cut messages, of no token", CHECK, { ledger, bundles, table, first(two, 40), o }, now, UINT64_MAX, SVID_TRUNCATED, 4, 1, 40 },
-        { "a check by a name with a line feed", CHECK_BY_LENGTHS, { said("a\nbledger"), bundles, table, two, token, lens }, now, UINT64_MAX, SVID_OK, 0, 0, 0 },
-        { "a check by a name that ends with one", CHECK_BY_LENGTHS, { said("abledger\n"), bundles, table, two, token, lens }, now, UINT64_MAX, SVID_NOT_AUDIENCE, 0, 0, 0 },
-        { "a check by names that are too short, with bad keys", CHECK_BY_LENGTHS, { said("ledger"), said("[]"), table, o, token, lens }, now, UINT64_MAX, SVID_OWN_LENGTHS, 0, 0, 0 },
-        { "a check by a cut character", CHECK_BY_LENGTHS, { lent("ab\303\251ledge", 9), bundles, table, o, token, lens }, now, UINT64_MAX, SVID_OWN_NOT_UTF8, 0, 0, 0 },
-        { "a check of nothing that is good", CHECK, { lent("\xFF", 1), said("[]"), said("x"), first(two, 40), o }, now, UINT64_MAX, SVID_OWN_NOT_UTF8, 0, 0, 0 },
+        { "an ID", ID, { said("spiffe://example.org/web"), o }, 0, SVID_OK, 11, 4, 0 },
+        { "an ID with dots", ID, { said("spiffe://a/.."), o }, 0, SVID_ID_SEGMENT_DOTS, 0, 0, 11 },
+        { "no ID", ID, { o, o }, 0, SVID_ID_SCHEME, 0, 0, 0 },
+        { "an allowed ID", ALLOWS, { said("spiffe://example.org/web"), said("spiffe://example.org/web") }, 0, SVID_OK, 11, 4, 0 },
+        { "an ID below a path", ALLOWS, { said("spiffe://example.org/*"), said("spiffe://example.org/web") }, 0, SVID_OK, 11, 4, 0 },
+        { "an ID of a trust domain", ALLOWS, { said("spiffe://example.org"), said("spiffe://example.org/web") }, 0, SVID_OK, 11, 4, 0 },
+        { "an ID that is not allowed", ALLOWS, { said("spiffe://example.org/web/*"), said("spiffe://example.org/web") }, 0, SVID_NOT_ALLOWED, 11, 4, 0 },
+        { "no pattern", ALLOWS, { o, said("spiffe://a") }, 0, SVID_PATTERN_SCHEME, 0, 0, 0 },
+        { "a pattern with a star inside", ALLOWS, { said("spiffe://a/*/b"), said("spiffe://a") }, 0, SVID_PATTERN_PATH_BYTE, 0, 0, 11 },
+        { "a pattern and no ID", ALLOWS, { said("spiffe://a/*"), said("spiffe://a/b/") }, 0, SVID_ID_SEGMENT_EMPTY, 0, 0, 13 },
+        { "neither a pattern nor an ID", ALLOWS, { said("spiffe://A"), said("spiffe://a/.") }, 0, SVID_PATTERN_DOMAIN_BYTE, 0, 0, 9 },
+        { "a join", JOIN, { two, kept }, 0, SVID_OK, 0, 0, 0 },
+        { "a join of nothing", JOIN, { o, o }, 0, SVID_OK, 0, 0, 0 },
+        { "a join with a cut batch", JOIN, { two, first(two, 40) }, 0, SVID_TRUNCATED, 2, 1, 40 },
+        { "a join with other bytes", JOIN, { said("{}..."), two }, 0, SVID_MAGIC, 1, 1, 0 },
+        { "a join of two bad inputs", JOIN, { first(two, 40), said("{}...") }, 0, SVID_TRUNCATED, 1, 1, 40 },
+        { "a report", REPORT, { two, o }, 0, SVID_OK, 0, 0, 0 },
+        { "a report when all has expired", REPORT, { kept, o }, UINT64_MAX, SVID_OK, 0, 0, 0 },
+        { "a summary", SUMMARY, { kept, o }, now, SVID_OK, 0, 0, 0 },
+        { "an answer", ANSWER, { summary, two }, 0, SVID_OK, 0, 0, 0 },
+        { "an answer to a batch", ANSWER, { two, two }, 0, SVID_NOT_SUMMARY, 0, 0, 0 },
+        { "an answer of a cut batch", ANSWER, { summary, first(two, 40) }, 0, SVID_TRUNCATED, 2, 1, 40 },
+        { "an answer to a batch, of a cut batch", ANSWER, { two, first(two, 40) }, 0, SVID_NOT_SUMMARY, 0, 0, 0 },
+        { "an answer to a cut summary, of a cut batch", ANSWER, { first(summary, 50), first(two, 40) }, 0, SVID_TRUNCATED, 1, 1, 50 },
     };
     size_t count = sizeof rows / sizeof *rows;
     for (lies_first = 0; lies_first < 2; lies_first++)

@@ -86,7 +86,7 @@ static void begin(svid_bundles *b, svid_validator *v) {
     holds((answered = svid_bundles_open(b, bundles, bundles_len, &told)) == SVID_OK, "bundles");
     holds((answered = svid_bundles_question(b, token, token_len, 0, &question, &told)) == SVID_OK, "a question");
     holds((answered = svid_validator_open(v, &terms, (const uint8_t *)"ledger", 6, bundles, bundles_len, &told)) == SVID_OK, "a validator");
-    holds((answered = svid_validator_check(v, NOW, &question, 1, token, token_len, id, sizeof id, &used, &told)) == SVID_OK, "a check");
+    holds((answered = check_token(v, NOW, id, sizeof id, &used, &told)) == SVID_OK, "a check");
 }
 
 static void end(svid_bundles *b, svid_validator *v) {
@@ -261,7 +261,7 @@ static void judgments(svid_bundles *b, svid_validator *v) {
     holds(a.status == SVID_OK && !memcmp(a.used.key, KEY, 32) && a.used.exp == 4102444800 && a.used.at == NOW && !memcmp(a.used.validator_id, SETTING.validator_id, 16), "the use");
     holds(a.told.len == 32 && !memcmp(a.out, "spiffe://example.org/billing/api", 32) && untouched(a.out + 32, sizeof a.out - 32), "the ID");
     /* The validator that accepted the token refuses it, and these bundles do not, however often. */
-    holds((answered = svid_validator_judge(v, NOW, &question, 1, token, token_len, c.out, sizeof c.out, &c.used, &c.told)) == SVID_REPLAYED, "the validator forgot it");
+    holds((answered = judge_token(v, NOW, c.out, sizeof c.out, &c.used, &c.told)) == SVID_REPLAYED, "the validator forgot it");
     call(JUDGE, b, v, &c);
     holds(!memcmp(&a, &c, sizeof a), "a second judgment differs");
     static const struct { svid_setting setting; int own, yes; size_t room; uint32_t due; } rows[] = {

@@ -3,7 +3,7 @@
  *   tokens refused    each call with each of its allocations refused in turn; linked with --wrap for malloc, realloc and free
  *   tokens guarded    all that a call is lent between pages that can't be touched, right before the one and right behind the other
  *   tokens nulls      NULL for each input of no bytes, and for a room of none: the answer is that of another pointer
- *   tokens answers    what is read once is answered as what each call reads, good or not, and a closed handle does nothing
+ *   tokens answers    a token is answered as by trust bundles without a record, good or not, and a closed handle does nothing
  *   tokens renewed    a token at two validators, whose keys of one name differ
  *   tokens mixed      what was verified of one token is no answer for another, in whole or in part
  *   tokens stack      each call on a painted stack, which tells how much of it the call needs */
@@ -15,31 +15,17 @@ static const char *const NAMES[] = { "svid_token_open", "svid_validator_ask_toke
 /* What a call wrote: its status, and all that it may write. */
 typedef struct { uint32_t status; svid_told told; svid_use used; uint8_t out[8192]; } answer;
 
-/* The key that made the signature of the examples' token, to which its table says yes. */
-static uint8_t key[FILE_MOST];
-static size_t key_len;
-
-/* The signature of a token, and over how many of its bytes it is made; none of what can't be read. */
-static uint8_t signature[SVID_SIGNATURE_ROOM];
-static size_t signature_len, input_len;
-static void find_signature(void) {
-    svid_signed over;
-    svid_told told;
-    signature_len = input_len = 0;
-    if (svid_token_signature(token, token_len, &over, signature, sizeof signature, &told) == SVID_OK) signature_len = told.len, input_len = over.len;
-}
-
 /* What a call is lent. */
 typedef struct {
     const uint8_t *token; size_t token_len;
     const uint8_t *key; size_t key_len;
     const uint8_t *input; size_t input_len;
     const uint8_t *signature; size_t signature_len;
-    svid_token *t; svid_validator *v; uint8_t *out; size_t room; svid_use *used; svid_told *told;
+    svid_token *t; svid_validator *v; svid_bundles *b; uint8_t *out; size_t room; svid_use *used; svid_told *told;
 } loan;
 
 static loan lent(svid_token *t, svid_validator *v, answer *a) {
-    loan l = { token, token_len, key, key_len, token, input_len, signature, signature_len, t, v, a->out, sizeof a->out, &a->used, &a->told };
+    loan l = { token, token_len, maker, maker_len, token, signed_len, signature, signature_len, t, v, NULL, a->out, sizeof a->out, &a->used, &a->told };
     return l;
 }
 
@@ -52,77 +38,43 @@ static uint32_t call_with(int which, const loan *l) {
     }
 }
 
-static size_t number_at(const uint8_t *from) { return (size_t)from[0] << 24 | (size_t)from[1] << 16 | (size_t)from[2] << 8 | from[3]; }
 static size_t put_number(uint8_t *to, size_t n) { to[0] = (uint8_t)(n >> 24), to[1] = (uint8_t)(n >> 16), to[2] = (uint8_t)(n >> 8), to[3] = (uint8_t)n; return 4; }
 
-/* The rows of svid_validator_ask. */
-static struct { uint8_t text[8192]; size_t len, more; } rows;
-static uint32_t list_rows(const loan *l) {
-    svid_told told;
-    uint32_t status = svid_validator_ask(l->v, l->token, l->token_len, SVID_MOST_CANDIDATES, rows.text, sizeof rows.text, &told);
-    rows.len = status == SVID_OK ? told.len : 0, rows.more = told.more;
-    return status;
-}
-
-/* The row at `*at_row` without its question, and its key. */
-static const uint8_t *row_of(size_t *at_row, size_t *len, const uint8_t **its_key, size_t *its_len) {
-    const uint8_t *row = rows.text + *at_row + 32;
-    size_t named = 4 + number_at(row);
-    *its_len = number_at(row + named), *its_key = row + named + 4, *len = named + 4 + *its_len, *at_row += 32 + *len;
-    return row;
-}
-
-/* What svid_validator_ask_token is to answer, by what svid_token_signature and svid_validator_ask do. */
+/* What svid_validator_ask_token is to answer, by what svid_token_signature and svid_bundles_ask do. */
 static uint32_t ask_by_text(const loan *l) {
-    static uint8_t made[SVID_SIGNATURE_ROOM];
+    static uint8_t made[SVID_SIGNATURE_ROOM], rows[8192];
     svid_signed over;
-    svid_told told;
-    uint32_t status = list_rows(l);
+    svid_told told, listed;
+    uint32_t status = svid_bundles_ask(l->b, l->token, l->token_len, SVID_MOST_CANDIDATES, rows, sizeof rows, &listed);
     memset(l->told, 0, sizeof *l->told);
     if (status != SVID_OK) return status;
     holds(svid_token_signature(l->token, l->token_len, &over, made, sizeof made, &told) == SVID_OK, "a token that is read has no signature");
     size_t len = put_number(l->out, over.len);
     len += put_number(l->out + len, told.len);
     memcpy(l->out + len, made, told.len);
-    len += told.len;
-    for (size_t from = 0, more, its_len; from < rows.len; len += more) {
-        const uint8_t *its_key, *row = row_of(&from, &more, &its_key, &its_len);
-        memcpy(l->out + len, row, more);
-    }
-    l->told->len = len, l->told->more = rows.more;
+    memcpy(l->out + len + told.len, rows, listed.len);
+    l->told->len = len + told.len + listed.len, l->told->more = listed.more;
     return SVID_OK;
 }
 
-/* The same of a token that the call reads itself, where yes is the answer to the questions of the key that is lent. */
+/* What the other calls are to answer of a validator that has accepted nothing, by what svid_bundles_judge does, where yes is the answer to the question
+ * of the key that is lent. */
 static uint32_t call_by_text(int which, const loan *l) {
-    static svid_question asked_of[SVID_MOST_CANDIDATES];
-    size_t count = 0, before = 0;
+    static const svid_setting setting = { NOW, UINT64_MAX, { 1 } };
+    static const size_t lens[] = { 6 };
+    static uint8_t rows[8192];
+    svid_question asked_of;
+    svid_told listed, told;
+    size_t count = 0;
     if (which == ASK) return ask_by_text(l);
-    list_rows(l);
-    for (size_t from = 0, len, its_len; from < rows.len; before = from) {
-        const uint8_t *its_key;
-        row_of(&from, &len, &its_key, &its_len);
-        if (its_len == l->key_len && !memcmp(its_key, l->key, its_len)) memcpy(&asked_of[count++], rows.text + before, 32);
+    if (svid_bundles_ask(l->b, l->token, l->token_len, SVID_MOST_CANDIDATES, rows, sizeof rows, &listed) != SVID_OK) listed.len = 0;
+    for (size_t from = 0, number = 0; from < listed.len && !count; number++) {
+        from += 4 + number_at(rows + from);
+        size_t len = number_at(rows + from);
+        if (len == l->key_len && !memcmp(rows + from + 4, l->key, len)) count += svid_bundles_question(l->b, l->token, l->token_len, number, &asked_of, &told) == SVID_OK;
+        from += 4 + len;
     }
-    if (which == JUDGE) return svid_validator_judge(l->v, NOW, asked_of, count, l->token, l->token_len, l->out, l->room, l->used, l->told);
-    return svid_validator_check(l->v, NOW, asked_of, count, l->token, l->token_len, l->out, l->room, l->used, l->told);
-}
-
-/* The key of the first row whose question the table says yes to. */
-static void find_key(void) {
-    svid_validator v = SVID_VALIDATOR_CLOSED;
-    svid_told told;
-    loan l = { token, token_len, NULL, 0, NULL, 0, NULL, 0, NULL, &v, NULL, 0, NULL, &told };
-    at = "the key of the examples";
-    answered = svid_validator_open(&v, &TERMS, (const uint8_t *)"ledger", 6, bundles, bundles_len, &told);
-    holds(answered == SVID_OK && list_rows(&l) == SVID_OK, "no key");
-    for (size_t from = 0, before = 0, len, its_len; from < rows.len && key_len == 0; before = from) {
-        const uint8_t *its_key;
-        row_of(&from, &len, &its_key, &its_len);
-        if (!memcmp(rows.text + before, &yes[0], 32)) memcpy(key, its_key, key_len = its_len);
-    }
-    holds(key_len > 0, "the table says yes to none");
-    svid_validator_close(&v);
+    return svid_bundles_judge(l->b, &setting, (const uint8_t *)"ledger", 6, lens, 1, &asked_of, count, l->token, l->token_len, l->out, l->room, l->used, l->told);
 }
 
 static void call(int which, svid_token *t, svid_validator *v, answer *a) {
@@ -214,8 +166,8 @@ static void guarded(void) {
             clear(&got);
             loan l = lent(&s, &w, &got);
             l.token = between(token, token_len, first);
-            l.key = between(key, key_len, first);
-            l.input = between(token, input_len, first);
+            l.key = between(maker, maker_len, first);
+            l.input = between(token, signed_len, first);
             l.signature = between(signature, signature_len, first);
             l.t = between(&s, sizeof s, first);
             l.v = between(&w, sizeof w, first);
@@ -250,7 +202,7 @@ static void nulls(void) {
                 clear(both[i]);
                 loan l = lent(&t, &v, both[i]);
                 if (input_of == 0) l.token = i ? NULL : nothing, l.token_len = 0;
-                else if (input_of == 1) l.key = i ? NULL : key, l.key_len = 0;
+                else if (input_of == 1) l.key = i ? NULL : maker, l.key_len = 0;
                 else if (input_of == 2) l.input = i ? NULL : nothing, l.input_len = 0;
                 else if (input_of == 3) l.signature = i ? NULL : nothing, l.signature_len = 0;
                 else l.out = i ? NULL : l.out, l.room = 0;
@@ -313,15 +265,16 @@ static void answers(void) {
     memcpy(text, token, sizeof text);
     size_t text_len = token_len;
     for (size_t i = 0; i < COUNT(rows) + 3; i++) {
-        svid_token t, s;
-        svid_validator v, w;
+        svid_token t;
+        svid_validator v;
+        svid_bundles b = SVID_BUNDLES_CLOSED;
         svid_told told;
         if (i < COUNT(rows)) make_token(rows[i][0], rows[i][1]);
         else if (i == COUNT(rows)) token_len = 1;
         else if (i == COUNT(rows) + 1) memset(token, '.', sizeof token), token_len = sizeof token;
         else memcpy(token, text, sizeof text), token_len = text_len;
         begin(OPEN, &t, &v);
-        begin(OPEN, &s, &w);
+        holds(svid_bundles_open(&b, bundles, bundles_len, &told) == SVID_OK, "bundles do not open");
         at = NAMES[OPEN];
         answered = svid_token_open(&t, token, token_len, &told);
         uint32_t opened = answered;
@@ -332,9 +285,10 @@ static void answers(void) {
                 at = NAMES[which];
                 clear(&due);
                 clear(&got);
-                loan l = lent(&s, &w, &due), read = lent(&t, &v, &got);
+                loan l = lent(NULL, NULL, &due), read = lent(&t, &v, &got);
+                l.b = &b;
                 /* (the key; and before that a part of it, and none) */
-                l.key_len = read.key_len = turn % 3 == 0 ? 0 : turn % 3 == 1 ? key_len - 1 : key_len;
+                l.key_len = read.key_len = turn % 3 == 0 ? 0 : turn % 3 == 1 ? maker_len - 1 : maker_len;
                 due.status = call_by_text(which, &l);
                 if (opened != SVID_OK) {
                     answered = due.status;
@@ -342,14 +296,15 @@ static void answers(void) {
                     continue;
                 }
                 answered = got.status = call_with(which, &read);
-                holds(!memcmp(&got, &due, sizeof got), "the answer differs");
+                if (which == CHECK && again && due.status == SVID_OK) holds(answered == SVID_REPLAYED, "a token twice");
+                else holds(!memcmp(&got, &due, sizeof got), "the answer differs");
                 holds(t.word != 0, "the token is closed");
             }
         }
+        svid_bundles_close(&b);
         end(&t, &v);
-        end(&s, &w);
     }
-    printf("%zu tokens, read once and each time", COUNT(rows) + 3);
+    printf("%zu tokens, by a validator and by bundles alone", COUNT(rows) + 3);
 }
 
 /* Two validators, whose keys of one name differ: each accepts the token by its own key, and not by that of the other one. */
@@ -357,8 +312,8 @@ static void renewed(void) {
     static answer got;
     static uint8_t others[FILE_MOST], other_key[FILE_MOST];
     memcpy(others, bundles, bundles_len);
-    memcpy(other_key, key, key_len);
-    uint8_t *curve = memmem(others, bundles_len, "P-256", 5), *of_key = memmem(other_key, key_len, "P-256", 5);
+    memcpy(other_key, maker, maker_len);
+    uint8_t *curve = memmem(others, bundles_len, "P-256", 5), *of_key = memmem(other_key, maker_len, "P-256", 5);
     holds(curve != NULL && of_key != NULL, "there is no curve");
     curve[4] = of_key[4] = '7';
     for (int turn = 0; turn < 4; turn++) {
@@ -373,10 +328,10 @@ static void renewed(void) {
             at = NAMES[which];
             clear(&got);
             loan l = lent(&t, &v[whose], &got);
-            l.key = by ? other_key : key;
+            l.key = by ? other_key : maker;
             answered = call_with(which, &l);
             holds(answered == (which == ASK || by == whose ? SVID_OK : SVID_BAD_SIGNATURE), "another answer");
-            holds(which != ASK || (memmem(got.out, got.told.len, other_key, key_len) != NULL) == (whose == 1), "the key that is listed");
+            holds(which != ASK || (memmem(got.out, got.told.len, other_key, maker_len) != NULL) == (whose == 1), "the key that is listed");
         }
         svid_validator_close(&v[1]);
         end(&t, &v[0]);
@@ -392,7 +347,7 @@ static void mixed(void) {
     memcpy(other, token, token_len);
     find_signature();
     memcpy(other_signature, signature, signature_len);
-    other[input_len - 1] ^= 1, other_signature[0] ^= 1;
+    other[signed_len - 1] ^= 1, other_signature[0] ^= 1;
     for (int which = JUDGE; which < CALLS; which++) {
         for (int turn = 0; turn < 8; turn++) {
             svid_token t;
@@ -405,7 +360,7 @@ static void mixed(void) {
             if (turn == 2 || turn == 3) l.signature = other_signature;
             if (turn == 4) l.input_len--;
             if (turn == 5) l.signature_len--;
-            if (turn == 6) l.input = signature, l.input_len = signature_len, l.signature = token, l.signature_len = input_len;
+            if (turn == 6) l.input = signature, l.input_len = signature_len, l.signature = token, l.signature_len = signed_len;
             if (turn == 7) l.input_len = l.signature_len = 0;
             answered = call_with(which, &l);
             holds(answered == (turn == 0 ? SVID_OK : SVID_BAD_SIGNATURE), "another answer");
@@ -450,6 +405,5 @@ static void stack(void) {
 int main(int count, char **words) {
     static const part parts[] = { { "refused", refused }, { "guarded", guarded }, { "nulls", nulls }, { "answers", answers }, { "renewed", renewed }, { "mixed", mixed }, { "stack", stack } };
     read_examples();
-    find_key();
     return run_part(count, words, parts, COUNT(parts));
 }

@@ -45,8 +45,8 @@ def beside(*uses):
 
 def row(name, *calls, **log):
     made = {"name": name, "from": RULES, "log": {**START, **log}, "calls": list(calls)}
-    # (the crate for Rust always has room for all uses, begins with whole values, and checks no token where it reads a log)
-    is_part = log.get("begun") or any(it.get("room", ROOM) < ROOM or it["call"] == "check" for it in calls)
+    # (the crate for Rust always has room for all uses, and checks no token where it reads a log)
+    is_part = any(it.get("room", ROOM) < ROOM or it["call"] == "check" for it in calls)
     return made | ({"readers": ["c", "go"]} if is_part else {})
 
 

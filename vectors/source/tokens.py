@@ -473,7 +473,7 @@ def records():
     )
     yield row(
         "a judgment adds nothing",
-        "include/svid.h, svid_validator_judge",
+        "include/svid.h, svid_validator_judge_token",
         judge(named, accepted()),
         judge(named, accepted()),
         check(named, accepted()),

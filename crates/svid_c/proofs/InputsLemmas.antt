@@ -1,11 +1,8 @@
 use Rattle.std.proofs.Common.{◌≡◌, ◌≤◌, ℕ, List, [], ◌∷◌, ◌++◌, length, Some, sym, ◌∙◌, ap, subst, arith, append-nil, length-append}
 use Rattle.std.proofs.lemmas.List.{append_assoc}
 use Rattle.svid_keys.specs.Bundles.{IsRefusal, bundles_fault}
-use Rattle.svid_keys.specs.Table.{IsTableRefusal, table_fault}
 use Rattle.svid_keys.specs.declared.bundle_fault.BundleFault.{BundleFault}
 use Rattle.svid_keys.specs.declared.bundle_fault.BundleFault.TheVariants as bundles
-use Rattle.svid_keys.specs.declared.table_fault.TableFault.{TableFault}
-use Rattle.svid_keys.specs.declared.table_fault.TableFault.TheVariants as table
 use Rattle.svid_replay.specs.Records.{State}
 use Rattle.svid_replay.specs.Summary.{SummaryData}
 use Rattle.svid_wire.specs.Faults.{raised}
@@ -16,11 +13,11 @@ use Rattle.svid_wire.specs.declared.reason.Reason.{Reason}
 use Rattle.svid_wire.specs.declared.reason.Reason.TheVariants as wire
 use Rattle.svid_share.specs.declared.tool_fault.ToolFault.{ToolFault}
 use Rattle.svid_share.specs.declared.tool_fault.ToolFault.TheVariants as tool
-use Rattle.svid_share.specs.Faults.{bundle_fault_of, table_fault_of}
+use Rattle.svid_share.specs.Faults.{bundle_fault_of}
 use Rattle.svid_share.specs.Answer.{IsOneSummary, IsSummaryFault}
 use Rattle.svid_share.specs.Inputs.{EndsWithin, HasBadField, IsBroken, IsInputFault, IsTooLong, IsWhole, StopsWithin, most_bytes}
 use Rattle.svid_share.specs.Joined.{Joins}
-use Rattle.svid_c.specs.Inputs.{AreMessages, AreNoBundles, IsBadMessage, IsNoTable, IsRefused, IsTooMuch, Tells}
+use Rattle.svid_c.specs.Inputs.{AreMessages, AreNoBundles, IsBadMessage, IsRefused, IsTooMuch, Tells}
 use Rattle.svid_c.specs.Joined.{IsSummaryRefused}
 
 -- what was done to a source of bytes that a caller lent
@@ -114,8 +111,3 @@ not_one old new tool.Write f = refused 1 old new tool.Write f
 pub no_bundles : (bytes : List ℕ) (given : BundleFault) → length bytes ≤ most_bytes → IsRefusal (bundles_fault bytes) given → AreNoBundles bytes (bundle_fault_of given)
 no_bundles bytes bundles.OutOfMemory few why = tt
 no_bundles bytes _ few why = (few, why)
-
--- bytes that are not too many are refused as a table
-pub no_table : (bytes : List ℕ) (given : TableFault) → length bytes ≤ most_bytes → IsTableRefusal (table_fault bytes) given → IsNoTable bytes (table_fault_of given)
-no_table bytes (table.Line line) few why = (few, why)
-no_table bytes table.OutOfMemory few why = tt

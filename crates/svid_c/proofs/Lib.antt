@@ -16,6 +16,5 @@ pub mod NamesLemmas
 pub mod OfferLemmas
 pub mod SaysLemmas
 pub mod SpkiLemmas
-pub mod SubjectLemmas
 mod TextsLemmas
 pub mod TrustLemmas

@@ -1,5 +1,6 @@
 use Rattle.std.proofs.Common.{◌≡◌, ℕ, List, Option, Some, sym, subst}
 use Rattle.svid_keys.specs.Bundles.{Bundle}
+use Rattle.svid_check.specs.Said.{Said}
 use Rattle.svid_c.specs.Live.{Kept}
 use Rattle.svid_c.specs.Own.{Named, named}
 use Rattle.svid_c.specs.Trust.{Exchanges, ExchangesHeld, ReadsHeld, none_read, reads, trusted}
@@ -22,6 +23,11 @@ held_exchanges status told old new a b x y was is does =
 pub held_reads : (B : Type 0) (D : List Bundle → Type 0) (status : ℕ) (told : SvidTold) (old : Option Trust) (a : Trust)
     → old ≡ Some a → ReadsHeld B D status told a.bundles → ReadsHeld B D status told (trusted old)
 held_reads B D status told old a was does = subst (λ (o : Option Trust). ReadsHeld B D status told (trusted o)) (sym was) does
+
+-- and so of a handle of a token
+pub held_token : (B : Type 0) (D : Said → Type 0) (status : ℕ) (told : SvidTold) (old : Option Said) (t : Said)
+    → old ≡ Some t → D t → ReadsHeld B D status told old
+held_token B D status told old t was does = reads t was does
 
 -- what a call does by audiences that were read, it does by those that a text has
 pub held_named : (AreOwn : List (List ℕ) → Type 0) (IsOwnFault : OwnFault → Type 0) (B : Type 0) (D : List (List ℕ) → List Bundle → Type 0) (status : ℕ) (told : SvidTold)

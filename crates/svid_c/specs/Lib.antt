@@ -19,11 +19,9 @@ pub mod Peers
 pub mod Live
 pub mod Log
 pub mod Nobody
-pub mod Offers
 pub mod Own
 pub mod Paces
 pub mod Parts
-pub mod Questions
 pub mod Rules
 pub mod Says
 pub mod Signs
@@ -31,7 +29,6 @@ pub mod Size
 pub mod Spki
 pub mod Status
 pub mod Statuses
-pub mod Subject
 pub mod Texts
 pub mod Token
 pub mod TokenHandle

@@ -2,7 +2,7 @@
 use Rattle.std.specs.Prelude.{◌≡◌, ◌&&◌, IsTrue, ◌-◌, ℕ, Bool, true, false, ◌<◌, ◌≤◌, nat_lt, List, [], ◌∷◌, length, Option, None, Some, Result, Ok}
 use Rattle.std.specs.List.{flat_map}
 use Rattle.svid_id.specs.Id.{id_text}
-use Rattle.svid_token.specs.Rows.{Refuses, first_row}
+use Rattle.svid_token.specs.Rows.{Refuses}
 use Rattle.svid_token.specs.declared.refusal.Refusal.{Refusal}
 use Rattle.svid_keys.specs.Bundles.{Bundle}
 use Rattle.svid_replay.specs.Buckets.{answer_to, raised_to}
@@ -14,9 +14,10 @@ use Rattle.svid_wire.specs.BatchText.{batch_text}
 use Rattle.svid_wire.specs.declared.message.Message.TheVariants.{Summary}
 use Rattle.svid_log.specs.Members.{MemberState}
 use Rattle.svid_check.specs.Changes.{gains, horizon, withdrawal}
-use Rattle.svid_check.specs.Claiming.{IsLooked, is_claimed, or_claimed, unless_claimed}
+use Rattle.svid_check.specs.Claiming.{IsLooked, is_claimed, unless_claimed}
+use Rattle.svid_check.specs.Said.{Said}
 use Rattle.svid_check.specs.Setting.{Held, Says, setting_by, with_bundles, with_state}
-use Rattle.svid_check.specs.Verdict.{again_rows}
+use Rattle.svid_check.specs.Verdict.{verdict_on}
 use Rattle.svid_check.specs.declared.accepted.Accepted.{Accepted}
 use Rattle.svid_share.specs.declared.tool_fault.ToolFault.{ToolFault}
 use Rattle.svid_c.specs.Checked.{refusal_number, use_seen}
@@ -24,13 +25,12 @@ use Rattle.svid_c.specs.Inputs.{AreBundles, AreMessages, AreNoBundles, IsRefused
 use Rattle.svid_c.specs.Joined.{IsSummaryRefused}
 use Rattle.svid_c.specs.Own.{Named}
 use Rattle.svid_c.specs.Status.{fault_number, told_fault, told_length}
-use Rattle.svid_c.specs.Subject.{RefusesAbout, Subject, verdict_about}
 use Rattle.svid_c.specs.Written.{HasFirst, IsPut}
 use Rattle.svid_c.specs.declared.check.SvidUse.{SvidUse}
 use Rattle.svid_c.specs.declared.live.Live.{Live}
 use Rattle.svid_c.specs.declared.live.Nobody.{Nobody}
-use Rattle.svid_c.specs.declared.validator_check.Gain.{Gain}
-use Rattle.svid_c.specs.declared.validator_check.Gain.TheVariants as gain
+use Rattle.svid_c.specs.declared.validator_check_token.Gain.{Gain}
+use Rattle.svid_c.specs.declared.validator_check_token.Gain.TheVariants as gain
 use Rattle.svid_c.specs.declared.validator_open.SvidTerms.{SvidTerms}
 use Rattle.svid_c.specs.declared.own_fault.OwnFault.{OwnFault}
 use Rattle.svid_c.specs.declared.told.SvidTold.{SvidTold}
@@ -106,12 +106,12 @@ abbrev pub claimed_by : Option MemberState → ℕ → List ℕ → Bool
 claimed_by None moment key = false
 claimed_by (Some m) moment key = is_claimed m moment key
 
--- the verdict of a validator on a token, or on what one says, at a moment, by what a verifier says; one that reads a log refuses a token
--- that is claimed there
-abbrev pub verdict_at : Live → Says → ℕ → Subject → Result (Option Accepted) Refusal
-verdict_at live says now about =
+-- the verdict of a validator on what a token says, at a moment, by what a verifier says; one that reads a log refuses a token that is
+-- claimed there
+abbrev pub verdict_at : Live → Says → ℕ → Said → Result (Option Accepted) Refusal
+verdict_at live says now t =
     let x = raised_to live.validator.state now in
-    unless_claimed (claimed_by live.member x.moment) (verdict_about (setting_by says live.validator) x.moment x.uses about)
+    unless_claimed (claimed_by live.member x.moment) (verdict_on (setting_by says live.validator) x.moment x.uses t)
 
 -- after a look at the claims beside the record, where there is a log
 abbrev pub IsLookedBy : ℕ → Option MemberState → Option MemberState → Type 0
@@ -136,35 +136,23 @@ adds_nothing r used = r
 -- What a check does: there is too little room for an ID, and nothing happens; or the record is raised, and the token is refused or
 -- accepted, as is its verdict at the raised record. The text of an accepted token's ID is put, its use is told, and the record gains
 -- this of it.
-pub data Checks (gained : State → Use → State) (now : ℕ) (says : Says) (about : Subject) (status : ℕ) (told : SvidTold) (old_out new_out : List ℕ) (old_use new_use : SvidUse) (old new : Live) : Type 0 where
-  no_room : length old_out < 2048 → status ≡ 1 → told ≡ told_length 2048 → new_out ≡ old_out → new_use ≡ old_use → new ≡ old → Checks gained now says about status told old_out new_out old_use new_use old new
-  refused : (why : Refusal) → 2048 ≤ length old_out → Refuses why (verdict_at old says now about) → RefusesAbout about why
-      → status ≡ refusal_number why → told ≡ told_length 0 → new_out ≡ old_out → new_use ≡ old_use → IsLeft now (raised_to old.validator.state now) old new → Checks gained now says about status told old_out new_out old_use new_use old new
-  accepted : (a : Accepted) → 2048 ≤ length old_out → verdict_at old says now about ≡ Ok (Some a)
+pub data Checks (gained : State → Use → State) (now : ℕ) (says : Says) (t : Said) (status : ℕ) (told : SvidTold) (old_out new_out : List ℕ) (old_use new_use : SvidUse) (old new : Live) : Type 0 where
+  no_room : length old_out < 2048 → status ≡ 1 → told ≡ told_length 2048 → new_out ≡ old_out → new_use ≡ old_use → new ≡ old → Checks gained now says t status told old_out new_out old_use new_use old new
+  refused : (why : Refusal) → 2048 ≤ length old_out → Refuses why (verdict_at old says now t)
+      → status ≡ refusal_number why → told ≡ told_length 0 → new_out ≡ old_out → new_use ≡ old_use → IsLeft now (raised_to old.validator.state now) old new → Checks gained now says t status told old_out new_out old_use new_use old new
+  accepted : (a : Accepted) → 2048 ≤ length old_out → verdict_at old says now t ≡ Ok (Some a)
       → status ≡ 0 → told ≡ told_length (length (id_text a.id)) → HasFirst (id_text a.id) old_out new_out
-      → new_use ≡ use_seen a.used → IsLeft now (gained (raised_to old.validator.state now) a.used) old new → Checks gained now says about status told old_out new_out old_use new_use old new
+      → new_use ≡ use_seen a.used → IsLeft now (gained (raised_to old.validator.state now) a.used) old new → Checks gained now says t status told old_out new_out old_use new_use old new
 
 -- What a check by itself does: where the validator reads a log, this is told, and nothing happens; else it is a check that adds the use that it accepts.
-pub data ChecksAlone (now : ℕ) (says : Says) (about : Subject) (status : ℕ) (told : SvidTold) (old_out new_out : List ℕ) (old_use new_use : SvidUse) (old new : Live) : Type 0 where
-  reads_log : (m : MemberState) → old.member ≡ Some m → status ≡ 10 → told ≡ told_length 0 → new_out ≡ old_out → new_use ≡ old_use → new ≡ old → ChecksAlone now says about status told old_out new_out old_use new_use old new
-  alone : old.member ≡ None → Checks adds now says about status told old_out new_out old_use new_use old new → ChecksAlone now says about status told old_out new_out old_use new_use old new
+pub data ChecksAlone (now : ℕ) (says : Says) (t : Said) (status : ℕ) (told : SvidTold) (old_out new_out : List ℕ) (old_use new_use : SvidUse) (old new : Live) : Type 0 where
+  reads_log : (m : MemberState) → old.member ≡ Some m → status ≡ 10 → told ≡ told_length 0 → new_out ≡ old_out → new_use ≡ old_use → new ≡ old → ChecksAlone now says t status told old_out new_out old_use new_use old new
+  alone : old.member ≡ None → Checks adds now says t status told old_out new_out old_use new_use old new → ChecksAlone now says t status told old_out new_out old_use new_use old new
 
 -- what the record gains of a token that is accepted
 abbrev pub gained_by : Gain → State → Use → State
 gained_by gain.ItsUse = adds
 gained_by gain.Nothing = adds_nothing
-
--- the number of what refuses a token, or 0
-abbrev pub number_if_refused : Option Refusal → ℕ
-number_if_refused None = 0
-number_if_refused (Some why) = refusal_number why
-
--- what judging an accepted token again does: the record is raised, and the answer is what refuses the token there, if something does
-pub record JudgesAgain (now : ℕ) (key : List ℕ) (exp status : ℕ) (told : SvidTold) (old new : Live) : Type 0 where
-  pub answer : let x = raised_to old.validator.state now in
-      status ≡ number_if_refused (or_claimed (claimed_by old.member x.moment key) (first_row (again_rows x.moment x.uses key exp)))
-  pub length : told ≡ told_length 0
-  pub left : IsLeft now (raised_to old.validator.state now) old new
 
 -- what renewing the bundles does: other bundles stand in the place of those that there were; or they are refused, and nothing happens
 pub data Renews (text : List ℕ) (status : ℕ) (told : SvidTold) (old new : Kept) : Type 0 where

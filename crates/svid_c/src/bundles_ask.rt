@@ -4,10 +4,10 @@ ghost use Rattle.svid_keys.specs.Candidates.{candidates_left};
 ghost use Rattle.svid_c.specs.Trust.{ListsKeys, Reads, ReadsHeld, key_row};
 
 use crate::bundles::SvidBundles;
+use crate::rows::{push_field, put_rows, refuse_token};
 use crate::told::SvidTold;
 use crate::trust::Trust;
 use crate::validator::only;
-use crate::validator_ask::{push_field, put_rows, refuse_token};
 use std::alloc::{AllocError, Global};
 use svid_check::Reading;
 use svid_keys::{Bundles, Candidates, JwtKey};

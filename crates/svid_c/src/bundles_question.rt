@@ -4,10 +4,10 @@ ghost use Rattle.svid_keys.specs.Candidates.{candidates_left};
 ghost use Rattle.svid_c.specs.Trust.{AsksOne, Reads, ReadsHeld};
 
 use crate::bundles::SvidBundles;
+use crate::rows::refuse_token;
 use crate::told::SvidTold;
 use crate::trust::Trust;
 use crate::validator::only;
-use crate::validator_ask::refuse_token;
 use std::alloc::Global;
 use svid_check::Reading;
 use svid_keys::{Bundles, Candidates, JwtKey, question};

@@ -1,12 +1,11 @@
-ghost use Rattle.std.specs.Prelude.{◌≡◌, [], ◌∷◌, ℕ, List, OnOk, IfOk, IfErr};
+ghost use Rattle.std.specs.Prelude.{◌≡◌, [], ◌∷◌, OnOk, IfOk, IfErr};
 ghost use Rattle.svid_wire.specs.declared.message.Message.TheVariants.{Summary as SummaryTold};
-ghost use Rattle.svid_keys.specs.Table.{is_among, questions_in};
-ghost use Rattle.svid_c.specs.Inputs.{AreBundles, AreMessages, AreNoBundles, IsNoTable, IsRefused, IsTable, Tells};
+ghost use Rattle.svid_c.specs.Inputs.{AreBundles, AreMessages, AreNoBundles, IsRefused, Tells};
 ghost use Rattle.svid_c.specs.Joined.{IsRecordOf, IsSummaryRefused};
 
 use crate::lent::Lent;
 use std::alloc::Global;
-use svid_keys::{Bundles, TableVerifier};
+use svid_keys::Bundles;
 use svid_replay::{Record, RunUses, Summary, UseStore};
 use svid_share::{MOST_BYTES, ToolFault, join_input, read_summary};
 
@@ -21,20 +20,6 @@ pub(crate) fn bundles_of(alloc: Global, text: &[u8]) -> Result<Bundles, ToolFaul
     }
     let bundles = Bundles::read(alloc, text)?;
     Ok(bundles)
-}
-
-// The table of questions that the second input is.
-#[tactic(auto, using(crate::proofs::InputsLemmas::no_table))]
-pub(crate) fn table_of(alloc: Global, text: &[u8]) -> Result<TableVerifier, ToolFault>
-    ensures ok { OnOk result (IsTable text.now) }
-    ensures value { IfOk result (λ table. (question : List ℕ) → is_among question table ≡ is_among question (questions_in text.now)) }
-    ensures fault { IfErr result (IsNoTable text.now) }
-{
-    if text.len() > MOST_BYTES {
-        return Err(ToolFault::TooMuch { input: 2 });
-    }
-    let table = TableVerifier::read(alloc, text)?;
-    Ok(table)
 }
 
 // Joins the batches of the messages that the input with this number is.

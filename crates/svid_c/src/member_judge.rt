@@ -169,7 +169,7 @@ fn judge_held(
 }
 
 /// Lets a validator judge the token of a request of its member: that of an open handle, which stays as it is. `key`, `input` and `signature` are as
-/// for [`svid_validator_check_token`](crate::validator_check::svid_validator_check_token). `deed` says what is to be done. In mode once the record
+/// for [`svid_validator_check_token`](crate::validator_check_token::svid_validator_check_token). `deed` says what is to be done. In mode once the record
 /// gains the use of an accepted token.
 ///
 /// 0 where the token is accepted: `out`, which has room for 2,048 bytes, has the SPIFFE ID of its subject, and `used` is its use. 101 to 125 and 2

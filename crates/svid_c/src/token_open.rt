@@ -4,11 +4,11 @@ ghost use Rattle.svid_check.specs.Said.{reading_of};
 ghost use Rattle.svid_c.specs.Checked.{RefusesAs};
 ghost use Rattle.svid_c.specs.Token.{OpensToken};
 
+use crate::rows::refuse_token;
 use crate::token::SvidToken;
 use crate::token_read::TokenRead;
 use crate::told::SvidTold;
 use crate::validator::only;
-use crate::validator_ask::refuse_token;
 use std::alloc::Global;
 use svid_check::Reading;
 use svid_token::Refusal;

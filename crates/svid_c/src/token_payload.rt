@@ -3,8 +3,8 @@ ghost use Rattle.svid_token.specs.Part.{bytes_due};
 ghost use Rattle.svid_token.specs.Rows.{Answers};
 ghost use Rattle.svid_c.specs.TokenPayload.{PutsPayload};
 
+use crate::rows::refuse_token;
 use crate::told::SvidTold;
-use crate::validator_ask::refuse_token;
 use crate::writing::put;
 use std::alloc::Global;
 use svid_token::{Compact, PartFault, Refusal, decode_part};

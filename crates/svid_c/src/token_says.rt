@@ -4,8 +4,8 @@ ghost use Rattle.svid_check.specs.Said.{said_in};
 ghost use Rattle.svid_c.specs.Says.{ArePut, Says, said_seen, texts_of};
 ghost use Rattle.svid_c.specs.Status.{told_length};
 
+use crate::rows::refuse_token;
 use crate::told::{SvidTold, told_length};
-use crate::validator_ask::refuse_token;
 use std::alloc::{AllocError, Global};
 use svid_check::Reading;
 use svid_token::Refusal;

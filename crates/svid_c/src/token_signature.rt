@@ -1,7 +1,7 @@
 ghost use Rattle.svid_c.specs.Signs.{Signs};
 
+use crate::rows::refuse_token;
 use crate::told::SvidTold;
-use crate::validator_ask::refuse_token;
 use crate::writing::put;
 use std::alloc::Global;
 use svid_token::{Compact, read_signature};

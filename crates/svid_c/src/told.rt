@@ -12,14 +12,14 @@ pub struct SvidTold {
     /// How many bytes the text has that was written, or that has no room.
     pub len: usize,
     /// The number of the refused input of messages, counted from 1 in the order of the call's inputs; of bundles that are
-    /// too long 1, and of a table that is too long 2; 0 for any other fault.
+    /// too long 1; 0 for any other fault.
     pub input: usize,
     /// The number of its message that is refused, counted from 1.
     pub message: usize,
     /// The offset in that message, in bytes from its first; of bundles, the offset of the refused name among all
     /// names in rising order of their bytes, from 0; of a table, the number of the line, counted from 1.
     pub offset: usize,
-    /// Of [`svid_validator_ask`](crate::validator_ask::svid_validator_ask) and [`svid_bundles_ask`](crate::bundles_ask::svid_bundles_ask), 1 where
+    /// Of [`svid_validator_ask_token`](crate::validator_ask_token::svid_validator_ask_token) and [`svid_bundles_ask`](crate::bundles_ask::svid_bundles_ask), 1 where
     /// more keys may have signed the token than it lists, and else 0. Of [`svid_validator_differs`](crate::validator_differs::svid_validator_differs), 1
     /// where the bucket differs, and else 0. Of [`svid_status_sentence`](crate::status_sentence::svid_status_sentence), the length of the text
     /// before any advice.

@@ -8,10 +8,10 @@ ghost use Rattle.svid_c.specs.Trust.{Lists, key_row, signing_of};
 
 use crate::bundles_ask::push_keys;
 use crate::live::Live;
+use crate::rows::{push_field, put_rows, refuse_token};
 use crate::token::SvidToken;
 use crate::told::SvidTold;
 use crate::validator::{SvidValidator, only};
-use crate::validator_ask::{push_field, put_rows, refuse_token};
 use std::alloc::{AllocError, Global};
 use svid_check::Reading;
 use svid_keys::Candidates;

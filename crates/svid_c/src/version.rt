@@ -3,7 +3,7 @@ ghost use Rattle.std.specs.Prelude.{◌≡◌};
 /// The version of the library: 10,000 times its major number, 100 times its minor one, and its patch.
 #[unsafe(no_mangle)]
 pub extern "C" fn svid_version() -> u32
-    ensures { result ≡ 20000 }
+    ensures { result ≡ 30000 }
 {
-    20_000
+    30_000
 }

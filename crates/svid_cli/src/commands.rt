@@ -7,7 +7,7 @@ use clap::Command;
 use std::alloc::{AllocError, Global};
 
 // The version of the program, and the kit that proves and builds it.
-const VERSION: &str = "2.0.0 (rattle-kit-13b logic dac8208d650f15bf)";
+const VERSION: &str = "3.0.0 (rattle-kit-13f logic dac8208d650f15bf)";
 
 const TEXT: Argument = Argument {
     name: "text",

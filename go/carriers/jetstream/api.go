@@ -9,7 +9,7 @@ import (
 
 	"github.com/nats-io/nats.go"
 
-	"svid.example/go/v2/internal/brief"
+	"svid.example/go/v3/internal/brief"
 )
 
 // The API of JetStream, as far as the client's own calls would leave out what matters: a setting that the client does not

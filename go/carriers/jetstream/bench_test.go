@@ -7,7 +7,7 @@ import (
 
 	"github.com/nats-io/nats.go"
 
-	"svid.example/go/v2/internal/natstest"
+	"svid.example/go/v3/internal/natstest"
 )
 
 // A counter is a sink that does nothing, so that the bucket alone is measured.

@@ -12,7 +12,7 @@ import (
 
 	"github.com/nats-io/nats.go"
 
-	"svid.example/go/v2/carriers"
+	"svid.example/go/v3/carriers"
 )
 
 // A bucket is what a member knows of the group's bucket when it begins to read it.

@@ -10,8 +10,8 @@ import (
 
 	"github.com/nats-io/nats.go"
 
-	"svid.example/go/v2/internal/natstest"
-	"svid.example/go/v2/internal/patience"
+	"svid.example/go/v3/internal/natstest"
+	"svid.example/go/v3/internal/patience"
 )
 
 // oldBucket is the bucket as members made it once: a key-value bucket, whose values whoever may publish to it can remove.

@@ -36,8 +36,8 @@ import (
 
 	"github.com/nats-io/nats.go"
 
-	"svid.example/go/v2/carriers"
-	"svid.example/go/v2/internal/brief"
+	"svid.example/go/v3/carriers"
+	"svid.example/go/v3/internal/brief"
 )
 
 const (

@@ -12,9 +12,9 @@ import (
 
 	"github.com/nats-io/nats.go"
 
-	"svid.example/go/v2/internal/broker"
-	"svid.example/go/v2/internal/natstest"
-	"svid.example/go/v2/internal/patience"
+	"svid.example/go/v3/internal/broker"
+	"svid.example/go/v3/internal/natstest"
+	"svid.example/go/v3/internal/patience"
 )
 
 // A liar is who may publish to the bucket, and wants others to lose or miss values.

@@ -9,9 +9,9 @@ import (
 
 	"github.com/nats-io/nats.go"
 
-	"svid.example/go/v2/carriers"
-	"svid.example/go/v2/internal/broker"
-	"svid.example/go/v2/internal/logtest"
+	"svid.example/go/v3/carriers"
+	"svid.example/go/v3/internal/broker"
+	"svid.example/go/v3/internal/logtest"
 )
 
 // A machine is a NATS server of a test that all carriers pass.

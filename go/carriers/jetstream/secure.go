@@ -11,7 +11,7 @@ import (
 	"github.com/nats-io/nats.go"
 	"github.com/nats-io/nkeys"
 
-	"svid.example/go/v2/internal/regular"
+	"svid.example/go/v3/internal/regular"
 )
 
 const (

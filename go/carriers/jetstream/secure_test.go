@@ -25,11 +25,11 @@ import (
 	"github.com/nats-io/nats.go"
 	"github.com/nats-io/nkeys"
 
-	"svid.example/go/v2/claims"
-	claimstore "svid.example/go/v2/claims/nats"
-	"svid.example/go/v2/internal/broker"
-	"svid.example/go/v2/internal/natstest"
-	"svid.example/go/v2/internal/patience"
+	"svid.example/go/v3/claims"
+	claimstore "svid.example/go/v3/claims/nats"
+	"svid.example/go/v3/internal/broker"
+	"svid.example/go/v3/internal/natstest"
+	"svid.example/go/v3/internal/patience"
 )
 
 // An authority makes certificates.

@@ -8,7 +8,7 @@ import (
 
 	"github.com/nats-io/nats.go"
 
-	"svid.example/go/v2/carriers"
+	"svid.example/go/v3/carriers"
 )
 
 const (

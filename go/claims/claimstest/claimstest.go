@@ -14,10 +14,10 @@ import (
 	"testing"
 	"time"
 
-	"svid.example/go/v2/claims"
-	"svid.example/go/v2/internal/logtest"
-	"svid.example/go/v2/internal/patience"
-	"svid.example/go/v2/svid"
+	"svid.example/go/v3/claims"
+	"svid.example/go/v3/internal/logtest"
+	"svid.example/go/v3/internal/patience"
+	"svid.example/go/v3/svid"
 )
 
 // Options say which store a member has.

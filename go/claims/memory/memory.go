@@ -9,8 +9,8 @@ import (
 	"sync"
 	"time"
 
-	"svid.example/go/v2/claims"
-	"svid.example/go/v2/svid"
+	"svid.example/go/v3/claims"
+	"svid.example/go/v3/svid"
 )
 
 // A Store is in memory. Its fields may be set before it is used.

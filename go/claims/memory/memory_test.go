@@ -4,9 +4,9 @@ import (
 	"sync"
 	"testing"
 
-	"svid.example/go/v2/claims"
-	"svid.example/go/v2/claims/claimstest"
-	"svid.example/go/v2/claims/memory"
+	"svid.example/go/v3/claims"
+	"svid.example/go/v3/claims/claimstest"
+	"svid.example/go/v3/claims/memory"
 )
 
 // A server has one store for each group.

@@ -10,8 +10,8 @@ import (
 	"strings"
 	"testing"
 
-	"svid.example/go/v2/claims"
-	"svid.example/go/v2/claims/claimstest"
+	"svid.example/go/v3/claims"
+	"svid.example/go/v3/claims/claimstest"
 )
 
 // shift sets the clock of a process, which is a program of Go, to so many seconds past the machine's. Such a program reads the clock by the

@@ -10,11 +10,11 @@ import (
 	"testing"
 	"time"
 
-	"svid.example/go/v2/claims"
-	"svid.example/go/v2/claims/claimstest"
-	"svid.example/go/v2/internal/broker"
-	"svid.example/go/v2/internal/natstest"
-	"svid.example/go/v2/internal/patience"
+	"svid.example/go/v3/claims"
+	"svid.example/go/v3/claims/claimstest"
+	"svid.example/go/v3/internal/broker"
+	"svid.example/go/v3/internal/natstest"
+	"svid.example/go/v3/internal/patience"
 )
 
 // electing is more time than three servers need to elect the leaders of all streams: up to nine seconds for a vote, and again where a vote

@@ -7,8 +7,8 @@ import (
 	"encoding/json"
 	"time"
 
-	"svid.example/go/v2/claims"
-	"svid.example/go/v2/svid"
+	"svid.example/go/v3/claims"
+	"svid.example/go/v3/svid"
 )
 
 // first is the link that the first record of a store follows.

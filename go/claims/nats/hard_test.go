@@ -15,11 +15,11 @@ import (
 
 	client "github.com/nats-io/nats.go"
 
-	"svid.example/go/v2/claims"
-	"svid.example/go/v2/claims/claimstest"
-	"svid.example/go/v2/internal/logtest"
-	"svid.example/go/v2/internal/natstest"
-	"svid.example/go/v2/internal/patience"
+	"svid.example/go/v3/claims"
+	"svid.example/go/v3/claims/claimstest"
+	"svid.example/go/v3/internal/logtest"
+	"svid.example/go/v3/internal/natstest"
+	"svid.example/go/v3/internal/patience"
 )
 
 // open opens a member's store, and closes it when the test ends.

@@ -13,12 +13,12 @@ import (
 
 	client "github.com/nats-io/nats.go"
 
-	"svid.example/go/v2/claims"
-	"svid.example/go/v2/claims/claimstest"
-	"svid.example/go/v2/internal/broker"
-	"svid.example/go/v2/internal/natstest"
-	"svid.example/go/v2/internal/patience"
-	"svid.example/go/v2/svid"
+	"svid.example/go/v3/claims"
+	"svid.example/go/v3/claims/claimstest"
+	"svid.example/go/v3/internal/broker"
+	"svid.example/go/v3/internal/natstest"
+	"svid.example/go/v3/internal/patience"
+	"svid.example/go/v3/svid"
 )
 
 func TestMain(m *testing.M) {

@@ -9,8 +9,8 @@ import (
 
 	client "github.com/nats-io/nats.go"
 
-	"svid.example/go/v2/claims"
-	"svid.example/go/v2/svid"
+	"svid.example/go/v3/claims"
+	"svid.example/go/v3/svid"
 )
 
 // A look is the store's time, read after it was asked for, and what is known of the store then. Who asks while one is under way shares the

@@ -11,9 +11,9 @@ import (
 
 	client "github.com/nats-io/nats.go"
 
-	"svid.example/go/v2/claims"
-	"svid.example/go/v2/claims/claimstest"
-	"svid.example/go/v2/internal/natstest"
+	"svid.example/go/v3/claims"
+	"svid.example/go/v3/claims/claimstest"
+	"svid.example/go/v3/internal/natstest"
 )
 
 // permitted is a server where a member has the rights of permissions.conf, and who shows no password is an administrator.

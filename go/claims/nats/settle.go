@@ -10,7 +10,7 @@ import (
 
 	client "github.com/nats-io/nats.go"
 
-	"svid.example/go/v2/claims"
+	"svid.example/go/v3/claims"
 )
 
 // A settling finds out what the store is.

@@ -12,7 +12,7 @@ import (
 
 	client "github.com/nats-io/nats.go"
 
-	"svid.example/go/v2/claims"
+	"svid.example/go/v3/claims"
 )
 
 // A kind is one of the group's streams.

@@ -13,9 +13,9 @@ import (
 	"testing"
 	"time"
 
-	"svid.example/go/v2/claims"
-	"svid.example/go/v2/claims/claimstest"
-	"svid.example/go/v2/svid"
+	"svid.example/go/v3/claims"
+	"svid.example/go/v3/claims/claimstest"
+	"svid.example/go/v3/svid"
 )
 
 // spent is the processor time of a server with all its processes, those that have ended too.
@@ -109,9 +109,9 @@ func BenchmarkPut(b *testing.B) {
 						Put(context.Context, []claims.Claim, []claims.Found)
 					} = store
 					if name == "plain" {
-						p := &plainMember{store, make(chan *conn, members)}
+						p := &plainMember{store.(*Store), make(chan *conn, members)}
 						for i := 0; i < members; i++ {
-							c, err := store.take(context.Background())
+							c, err := p.take(context.Background())
 							if err != nil {
 								b.Fatal(err)
 							}
@@ -119,7 +119,7 @@ func BenchmarkPut(b *testing.B) {
 						}
 						putter = p
 					}
-					defer look(store)()
+					defer look(store.(*Store))()
 					run := func(n int) {
 						var running sync.WaitGroup
 						for m := 0; m < members; m++ {

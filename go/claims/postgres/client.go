@@ -13,7 +13,7 @@ import (
 
 	"github.com/lib/pq"
 
-	"svid.example/go/v2/internal/brief"
+	"svid.example/go/v3/internal/brief"
 )
 
 const (

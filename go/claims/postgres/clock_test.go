@@ -7,11 +7,11 @@ import (
 	"path/filepath"
 	"testing"
 
-	"svid.example/go/v2/claims"
-	"svid.example/go/v2/claims/claimstest"
-	"svid.example/go/v2/internal/broker"
-	"svid.example/go/v2/internal/logtest"
-	"svid.example/go/v2/internal/patience"
+	"svid.example/go/v3/claims"
+	"svid.example/go/v3/claims/claimstest"
+	"svid.example/go/v3/internal/broker"
+	"svid.example/go/v3/internal/logtest"
+	"svid.example/go/v3/internal/patience"
 )
 
 // faketime is where Debian has the library that gives a program another clock.

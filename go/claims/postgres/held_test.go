@@ -7,8 +7,8 @@ import (
 
 	"github.com/lib/pq"
 
-	"svid.example/go/v2/claims"
-	"svid.example/go/v2/claims/claimstest"
+	"svid.example/go/v3/claims"
+	"svid.example/go/v3/claims/claimstest"
 )
 
 // A member that claims a token and does not commit that holds up nobody who claims another one, also in a call that has both.

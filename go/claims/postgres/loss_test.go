@@ -10,15 +10,15 @@ import (
 	"testing"
 	"time"
 
-	"svid.example/go/v2/claims"
-	"svid.example/go/v2/claims/claimstest"
-	"svid.example/go/v2/internal/logtest"
-	"svid.example/go/v2/internal/patience"
-	"svid.example/go/v2/svid"
+	"svid.example/go/v3/claims"
+	"svid.example/go/v3/claims/claimstest"
+	"svid.example/go/v3/internal/logtest"
+	"svid.example/go/v3/internal/patience"
+	"svid.example/go/v3/svid"
 )
 
 // open is an open store of a member.
-func open(t testing.TB, o Options) *Store {
+func open(t testing.TB, o Options) claims.Store {
 	t.Helper()
 	store := newStore(t, o)
 	claimstest.Open(t, store)
@@ -467,15 +467,8 @@ func TestQuarantine(t *testing.T) {
 	if state, err := a.Open(ctx); err == nil || ctx.Err() == nil {
 		t.Errorf("%+v %v", state, err)
 	}
-	if f := claimstest.Try(a, patience.Long, claim(1))[0]; !errors.Is(f.Err, errRun) {
-		t.Errorf("%+v", f)
-	}
-	s.do(t, "UPDATE svid.epoch SET ready = clock_timestamp()")
-	c := claim(1)
-	mine(t, a, c)
-	s.Postgres.Kill()
-	s.start(t)
-	for again := 0; again < 3; again++ {
+	quarantined := func(c claims.Claim) {
+		t.Helper()
 		logtest.Await(t, "an answer", func() bool {
 			f := claimstest.Try(a, patience.Long, c)[0]
 			if f.Err == nil {
@@ -483,6 +476,15 @@ func TestQuarantine(t *testing.T) {
 			}
 			return errors.Is(f.Err, errRun)
 		})
+	}
+	quarantined(claim(1))
+	s.do(t, "UPDATE svid.epoch SET ready = clock_timestamp()")
+	c := claim(1)
+	mine(t, a, c)
+	s.Postgres.Kill()
+	s.start(t)
+	for again := 0; again < 3; again++ {
+		quarantined(c)
 	}
 	s.do(t, "UPDATE svid.epoch SET ready = clock_timestamp()")
 	mine(t, a, c)

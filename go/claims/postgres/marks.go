@@ -1,6 +1,6 @@
 package postgres
 
-import "svid.example/go/v2/claims"
+import "svid.example/go/v3/claims"
 
 const (
 	recent    = 4  // marks of the last calls, whose order at the server may be another one

@@ -7,9 +7,9 @@ import (
 	"testing"
 	"time"
 
-	"svid.example/go/v2/claims"
-	"svid.example/go/v2/claims/claimstest"
-	"svid.example/go/v2/internal/broker"
+	"svid.example/go/v3/claims"
+	"svid.example/go/v3/claims/claimstest"
+	"svid.example/go/v3/internal/broker"
 )
 
 // A machine is a server of PostgreSQL of a test.
@@ -64,7 +64,7 @@ func (s *suite) Store(t testing.TB, o claimstest.Options) claims.Store {
 	return newStore(t, Options{URLs: []string{address}, Name: o.Name, Terms: o.Terms})
 }
 
-func newStore(t testing.TB, o Options) *Store {
+func newStore(t testing.TB, o Options) claims.Store {
 	t.Helper()
 	if o.Name == "" {
 		o.Name = "svid"
@@ -72,7 +72,11 @@ func newStore(t testing.TB, o Options) *Store {
 	if o.Terms == (claims.Terms{}) {
 		o.Terms = claimstest.Usual
 	}
-	store, err := New(o)
+	make := func(o Options) (claims.Store, error) { return New(o) }
+	if ofOthers() {
+		make = newRemote
+	}
+	store, err := make(o)
 	if err != nil {
 		t.Fatal(err)
 	}
@@ -110,7 +114,16 @@ func copyAll(t testing.TB, from, to string) {
 	}
 }
 
-func (s *suite) Empty(t testing.TB, name string) { s.do(t, `DROP SCHEMA "`+name+`" CASCADE`) }
+// Empty drops the schema, again where a member that looks at it holds what the server wants at the moment, and waits for what it holds.
+func (s *suite) Empty(t testing.TB, name string) {
+	t.Helper()
+	query := `DROP SCHEMA "` + name + `" CASCADE`
+	for err := s.Do(query); err != nil; err = s.Do(query) {
+		if !strings.Contains(err.Error(), "deadlock detected") {
+			t.Fatal(query, err)
+		}
+	}
+}
 
 func TestMain(m *testing.M) {
 	quarantine = time.Second

@@ -5,7 +5,7 @@ import (
 	"strings"
 	"time"
 
-	"svid.example/go/v2/claims"
+	"svid.example/go/v3/claims"
 )
 
 const (

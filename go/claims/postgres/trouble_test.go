@@ -5,10 +5,10 @@ import (
 	"testing"
 	"time"
 
-	"svid.example/go/v2/claims"
-	"svid.example/go/v2/claims/claimstest"
-	"svid.example/go/v2/internal/broker"
-	"svid.example/go/v2/internal/logtest"
+	"svid.example/go/v3/claims"
+	"svid.example/go/v3/claims/claimstest"
+	"svid.example/go/v3/internal/broker"
+	"svid.example/go/v3/internal/logtest"
 )
 
 // A server whose disk is full answers no claim, or ends. It goes on once there is room, and has lost nothing.

@@ -4,7 +4,7 @@ import (
 	"database/sql/driver"
 	"encoding/binary"
 
-	"svid.example/go/v2/claims"
+	"svid.example/go/v3/claims"
 )
 
 // What a server takes and answers, as bytes.

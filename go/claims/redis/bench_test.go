@@ -12,8 +12,8 @@ import (
 
 	"github.com/gomodule/redigo/redis"
 
-	"svid.example/go/v2/claims"
-	"svid.example/go/v2/claims/claimstest"
+	"svid.example/go/v3/claims"
+	"svid.example/go/v3/claims/claimstest"
 )
 
 // processorTime is what a process has taken of the processors.

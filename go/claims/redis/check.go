@@ -10,7 +10,7 @@ import (
 
 	"github.com/gomodule/redigo/redis"
 
-	"svid.example/go/v2/claims"
+	"svid.example/go/v3/claims"
 )
 
 const leastVersion = 7

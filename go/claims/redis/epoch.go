@@ -10,8 +10,8 @@ import (
 
 	"github.com/gomodule/redigo/redis"
 
-	"svid.example/go/v2/claims"
-	"svid.example/go/v2/svid"
+	"svid.example/go/v3/claims"
+	"svid.example/go/v3/svid"
 )
 
 // errCompares: members compare what they know with what a server has, or the group's store was just made.

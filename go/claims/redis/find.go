@@ -10,7 +10,7 @@ import (
 	"sync"
 	"time"
 
-	"svid.example/go/v2/claims"
+	"svid.example/go/v3/claims"
 )
 
 // askWait is for how long one server of several is waited for, where another one may answer.

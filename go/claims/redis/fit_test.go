@@ -10,10 +10,10 @@ import (
 	"testing"
 	"time"
 
-	"svid.example/go/v2/claims"
-	"svid.example/go/v2/claims/claimstest"
-	"svid.example/go/v2/internal/broker"
-	"svid.example/go/v2/internal/logtest"
+	"svid.example/go/v3/claims"
+	"svid.example/go/v3/claims/claimstest"
+	"svid.example/go/v3/internal/broker"
+	"svid.example/go/v3/internal/logtest"
 )
 
 // tryOpen opens a store, and says why it can't be.

@@ -14,11 +14,11 @@ import (
 	"time"
 	"unsafe"
 
-	"svid.example/go/v2/claims"
-	"svid.example/go/v2/claims/claimstest"
-	"svid.example/go/v2/internal/broker"
-	"svid.example/go/v2/internal/logtest"
-	"svid.example/go/v2/internal/patience"
+	"svid.example/go/v3/claims"
+	"svid.example/go/v3/claims/claimstest"
+	"svid.example/go/v3/internal/broker"
+	"svid.example/go/v3/internal/logtest"
+	"svid.example/go/v3/internal/patience"
 )
 
 // ended looks that the epoch ended for all members, and for one that starts now: all have the same one, and it is deaf.

@@ -10,8 +10,8 @@ import (
 
 	"github.com/gomodule/redigo/redis"
 
-	"svid.example/go/v2/claims"
-	"svid.example/go/v2/svid"
+	"svid.example/go/v3/claims"
+	"svid.example/go/v3/svid"
 )
 
 // aheadOfStore is by how many seconds the store's time is known, at the least, before it is asked.

@@ -8,8 +8,8 @@ import (
 	"strconv"
 	"strings"
 
-	"svid.example/go/v2/claims"
-	"svid.example/go/v2/svid"
+	"svid.example/go/v3/claims"
+	"svid.example/go/v3/svid"
 )
 
 const (

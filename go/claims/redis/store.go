@@ -23,7 +23,7 @@ import (
 	"sync"
 	"time"
 
-	"svid.example/go/v2/claims"
+	"svid.example/go/v3/claims"
 )
 
 const (

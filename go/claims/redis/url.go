@@ -11,7 +11,7 @@ import (
 	"strconv"
 	"strings"
 
-	"svid.example/go/v2/internal/regular"
+	"svid.example/go/v3/internal/regular"
 )
 
 const (

@@ -9,7 +9,7 @@ import (
 	"strconv"
 	"strings"
 
-	"svid.example/go/v2/claims"
+	"svid.example/go/v3/claims"
 )
 
 // A list is a string of withdrawals, one after the other, each of which has withdrawalLength bytes: the letters svw1, the token's key,

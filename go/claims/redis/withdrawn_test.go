@@ -7,8 +7,8 @@ import (
 	"strings"
 	"testing"
 
-	"svid.example/go/v2/claims"
-	"svid.example/go/v2/claims/claimstest"
+	"svid.example/go/v3/claims"
+	"svid.example/go/v3/claims/claimstest"
 )
 
 func withdrawal() claims.Withdrawal {

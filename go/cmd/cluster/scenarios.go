@@ -15,8 +15,8 @@ import (
 
 	"github.com/nats-io/nats.go"
 
-	"svid.example/go/v2/internal/broker"
-	"svid.example/go/v2/svid"
+	"svid.example/go/v3/internal/broker"
+	"svid.example/go/v3/svid"
 )
 
 // How much the scenarios do.

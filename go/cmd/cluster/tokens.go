@@ -12,7 +12,7 @@ import (
 	"sync"
 	"time"
 
-	"svid.example/go/v2/svid"
+	"svid.example/go/v3/svid"
 )
 
 // A token is one that nobody has seen yet, with the key by which records name it.

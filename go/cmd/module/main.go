@@ -20,13 +20,13 @@ import (
 )
 
 // usual is the version where the checkout has no file VERSION.
-const usual = "2.0.0"
+const usual = "3.0.0"
 
 // left are the folders of the module that only its own tests and measurements have a use for.
-var left = regexp.MustCompile(`^(vendor|wrong|deploy|cmd/(cluster|module|svidbench|vendored)|internal/(agenttest|broker|goroutines|issuer|natstest|refusing|scarce|sim|vectors))(/|$)`)
+var left = regexp.MustCompile(`^(vendor|wrong|deploy|cmd/(cluster|module|svidbench|vendored)|internal/(agenttest|broker|goroutines|natstest|refusing|scarce|sim|vectors))(/|$)`)
 
 // taken are the files that are code, or part of it.
-var taken = regexp.MustCompile(`^go\.mod$|^README\.md$|\.go$`)
+var taken = regexp.MustCompile(`^go\.mod$|^README\.md$|\.go$|^internal/dev/page\.(css|html|js)$`)
 
 // The library and its header are beside go/ in the checkout. In the module they are in the folder of the package that links them: `go mod
 // vendor` copies no folder without Go files.

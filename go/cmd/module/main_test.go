@@ -16,13 +16,13 @@ func TestTheModule(t *testing.T) {
 	if err != nil {
 		t.Fatal(err)
 	}
-	for _, path := range append([]string{"go.mod", "README.md", "claims/redis/store.go", "claims/postgres/schema.go", "claims/nats/put.go", "cmd/svidd/main.go"}, "svid/svid.h", "svid/libsvid_amd64.a", "svid/libsvid_arm64.a") {
+	for _, path := range append([]string{"go.mod", "README.md", "claims/redis/store.go", "claims/postgres/schema.go", "claims/nats/put.go", "cmd/svidd/main.go", "internal/dev/page.html", "svidtest/svidtest.go"}, "svid/svid.h", "svid/libsvid_amd64.a", "svid/libsvid_arm64.a") {
 		if _, ok := files[path]; !ok {
 			t.Errorf("%s is not there", path)
 		}
 	}
 	for path := range files {
-		if strings.HasSuffix(path, "_test.go") || strings.HasPrefix(path, "vendor/") || strings.HasPrefix(path, "wrong/") || strings.HasPrefix(path, "internal/issuer/") || path == checkout {
+		if strings.HasSuffix(path, "_test.go") || strings.HasPrefix(path, "vendor/") || strings.HasPrefix(path, "wrong/") || strings.HasPrefix(path, "internal/sim/") || path == checkout {
 			t.Errorf("%s is there", path)
 		}
 	}
@@ -49,11 +49,11 @@ func TestTheModule(t *testing.T) {
 // The version is that of the file VERSION, and the module's path ends in its major number.
 func TestVersions(t *testing.T) {
 	for _, row := range []struct{ text, path, version, fault string }{
-		{"", "example.com/m/v2", "v2.0.0", ""}, // no file
-		{"2.1.0\n", "example.com/m/v2", "v2.1.0", ""},
-		{"3.0.0\n", "example.com/m/v2", "", "must end in /v3"},
-		{"2.1\n", "example.com/m/v2", "", "not three numbers"},
-		{"2.1.0-rc1\n", "example.com/m/v2", "", "not three numbers"},
+		{"", "example.com/m/v3", "v3.0.0", ""}, // no file
+		{"3.1.0\n", "example.com/m/v3", "v3.1.0", ""},
+		{"4.0.0\n", "example.com/m/v3", "", "must end in /v4"},
+		{"3.1\n", "example.com/m/v3", "", "not three numbers"},
+		{"3.1.0-rc1\n", "example.com/m/v3", "", "not three numbers"},
 	} {
 		top := t.TempDir()
 		if row.text != "" {

@@ -9,9 +9,9 @@ import (
 
 	"github.com/nats-io/nats.go"
 
-	"svid.example/go/v2/carriers"
-	"svid.example/go/v2/carriers/jetstream"
-	"svid.example/go/v2/svid"
+	"svid.example/go/v3/carriers"
+	"svid.example/go/v3/carriers/jetstream"
+	"svid.example/go/v3/svid"
 )
 
 // A deaf sink takes nothing, so that a bucket can be made and filled without a record.

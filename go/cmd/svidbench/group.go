@@ -21,11 +21,11 @@ import (
 	_ "github.com/lib/pq" // the peer's driver
 	"github.com/nats-io/nats.go"
 
-	"svid.example/go/v2/bundles"
-	"svid.example/go/v2/guard"
-	"svid.example/go/v2/internal/broker"
-	"svid.example/go/v2/internal/issuer"
-	"svid.example/go/v2/svid"
+	"svid.example/go/v3/bundles"
+	"svid.example/go/v3/guard"
+	"svid.example/go/v3/internal/broker"
+	"svid.example/go/v3/internal/issuer"
+	"svid.example/go/v3/svid"
 )
 
 // processTime is the processor time of a process.

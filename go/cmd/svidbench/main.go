@@ -27,8 +27,8 @@ import (
 	"sync"
 	"time"
 
-	"svid.example/go/v2/internal/issuer"
-	"svid.example/go/v2/svid"
+	"svid.example/go/v3/internal/issuer"
+	"svid.example/go/v3/svid"
 )
 
 const (

@@ -17,8 +17,8 @@ import (
 	"sync/atomic"
 	"time"
 
-	"svid.example/go/v2/internal/broker"
-	"svid.example/go/v2/internal/issuer"
+	"svid.example/go/v3/internal/broker"
+	"svid.example/go/v3/internal/issuer"
 )
 
 const (

@@ -14,13 +14,13 @@ import (
 	redigo "github.com/gomodule/redigo/redis"
 	client "github.com/nats-io/nats.go"
 
-	"svid.example/go/v2/claims"
-	"svid.example/go/v2/claims/nats"
-	"svid.example/go/v2/claims/postgres"
-	"svid.example/go/v2/claims/redis"
-	"svid.example/go/v2/guard"
-	"svid.example/go/v2/internal/broker"
-	"svid.example/go/v2/svid"
+	"svid.example/go/v3/claims"
+	"svid.example/go/v3/claims/nats"
+	"svid.example/go/v3/claims/postgres"
+	"svid.example/go/v3/claims/redis"
+	"svid.example/go/v3/guard"
+	"svid.example/go/v3/internal/broker"
+	"svid.example/go/v3/svid"
 )
 
 // ahead is what svidd has where nothing is said of --ahead.

@@ -17,28 +17,38 @@ import (
 	"syscall"
 	"time"
 
-	"svid.example/go/v2/internal/server"
-	"svid.example/go/v2/svid"
+	"svid.example/go/v3/guard"
+	"svid.example/go/v3/internal/server"
+	"svid.example/go/v3/svid"
 )
 
 // adminWait is how long the sidecar may take to answer on its admin socket.
 const adminWait = time.Minute
 
+// giveAdmin is what a command wants that asks a sidecar on its admin socket.
+const giveAdmin = "--admin, the path that serve has as --admin, or --config, the file of serve that has it"
+
+// addAdmin adds the options by which such a command finds the socket.
+func addAdmin(f *flag.FlagSet, socket, config *string) {
+	f.StringVar(socket, "admin", "", "")
+	f.StringVar(config, "config", "", "")
+}
+
 // withdraw withdraws a token at a running sidecar, and in its group.
 func withdraw(args []string, std stdio) int {
-	var socket, key string
+	var socket, config, key string
 	var exp moment
 	f := flagsOf("withdraw", func(f *flag.FlagSet) {
-		f.StringVar(&socket, "admin", "", "")
+		addAdmin(f, &socket, &config)
 		f.StringVar(&key, "key", "", "")
 		f.Var(&exp, "exp", "")
 	})
-	if err := parse(f, &options{}, args); err != nil {
+	if err := parse(f, &config, args); err != nil {
 		return fail(std, err)
 	}
 	asked := server.Withdrawal{Token: f.Arg(0), Key: key, Exp: exp.value}
 	if socket == "" || f.NArg() > 1 || (asked.Token == "") == (key == "") || (key != "") != exp.given {
-		return fail(std, errors.New("withdraw wants --admin, and one of - (it reads the token from standard input), a TOKEN, or --key and --exp"))
+		return fail(std, errors.New("withdraw wants "+giveAdmin+", and one of - (it reads the token from standard input), a TOKEN, or --key and --exp"))
 	}
 	if asked.Token == "-" {
 		var err error
@@ -46,7 +56,7 @@ func withdraw(args []string, std stdio) int {
 			return fail(std, err)
 		}
 		if asked.Token == "" {
-			return fail(std, errors.New("standard input has no token"))
+			return fail(std, errNoToken)
 		}
 	}
 	body, err := json.Marshal(asked)
@@ -78,20 +88,20 @@ func withdraw(args []string, std stdio) int {
 
 // report prints the record of a running sidecar, as the program svid prints it.
 func report(args []string, std stdio) int {
-	var socket string
+	var socket, config string
 	var asJSON bool
 	f := flagsOf("report", func(f *flag.FlagSet) {
-		f.StringVar(&socket, "admin", "", "")
+		addAdmin(f, &socket, &config)
 		f.BoolVar(&asJSON, "json", false, "")
 	})
-	if err := parse(f, &options{}, args); err != nil {
+	if err := parse(f, &config, args); err != nil {
 		return fail(std, err)
 	}
 	if f.NArg() > 0 {
 		return fail(std, fmt.Errorf("report takes no argument, and got %.20q: give --admin, the path that serve has as --admin", f.Arg(0)))
 	}
 	if socket == "" {
-		return fail(std, errors.New("report wants --admin, the path that serve has as --admin"))
+		return fail(std, errors.New("report wants "+giveAdmin))
 	}
 	messages, err := adminOf(socket).ask(http.MethodGet, "/messages", nil)
 	if err != nil {
@@ -110,12 +120,43 @@ func report(args []string, std stdio) int {
 	return exitYes
 }
 
+// reloadOf lets a running sidecar read its options and its bundles again, waits for that, and says what became of it.
+func reloadOf(args []string, std stdio) int {
+	var socket, config string
+	f := flagsOf("reload", func(f *flag.FlagSet) { addAdmin(f, &socket, &config) })
+	if err := parse(f, &config, args); err != nil {
+		return fail(std, err)
+	}
+	if f.NArg() > 0 || socket == "" {
+		return fail(std, errors.New("reload takes no argument, and wants "+giveAdmin))
+	}
+	answer, err := adminOf(socket).ask(http.MethodPost, "/reload", nil)
+	if err != nil {
+		return fail(std, err)
+	}
+	var done guard.Reloaded
+	if err := json.Unmarshal(answer, &done); err != nil {
+		return fail(std, err)
+	}
+	if len(done.Restart) > 0 {
+		fmt.Fprintf(std.err, "svidd: warning: --%s counts only after a restart\n", strings.Join(done.Restart, ", --"))
+	}
+	said := "reloaded"
+	if len(done.Changed) > 0 {
+		said += ": other values of --" + strings.Join(done.Changed, ", --")
+	}
+	return show(std, said+"\n")
+}
+
 // ready says by its exit status whether a sidecar is ready: for a container's probe, which can't reach an address of
 // loopback in another way.
 func ready(args []string, std stdio) int {
-	var at string
-	f := flagsOf("ready", func(f *flag.FlagSet) { f.StringVar(&at, "listen", "", "") })
-	if err := parse(f, &options{}, args); err != nil {
+	var at, config string
+	f := flagsOf("ready", func(f *flag.FlagSet) {
+		f.StringVar(&at, "listen", "", "")
+		f.StringVar(&config, "config", "", "")
+	})
+	if err := parse(f, &config, args); err != nil {
 		return fail(std, err)
 	}
 	if f.NArg() > 0 {

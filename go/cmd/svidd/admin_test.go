@@ -86,7 +86,7 @@ func TestNobodyAnswers(t *testing.T) {
 		{[]string{"ready", "--listen", "unix:" + long}, "--listen: the path of a unix socket has at most 107 bytes"},
 		{[]string{"ready", "9901"}, `ready takes no argument, and got "9901": give the address as --listen`},
 		{[]string{"report", "x"}, `report takes no argument, and got "x": give --admin, ` + admin},
-		{[]string{"report"}, "report wants --admin, " + admin},
+		{[]string{"report"}, "report wants --admin, " + admin + ", or --config, the file of serve that has it"},
 	} {
 		if status, out, err := here("", row.args...); status != 2 || out != "" || err != "svidd: "+row.want+"\n" {
 			t.Errorf("%q: %d %q %q\nis due: %q", row.args, status, out, err, row.want)

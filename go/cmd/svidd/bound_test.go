@@ -10,7 +10,7 @@ import (
 	"sync/atomic"
 	"testing"
 
-	"svid.example/go/v2/internal/envoytest"
+	"svid.example/go/v3/internal/envoytest"
 )
 
 // inBound starts n sidecars of mode bound that share a store, whose callers a header names.
@@ -225,5 +225,38 @@ func TestNoHeaderNamesACallerToEnvoy(t *testing.T) {
 		if line["reason"] != says {
 			t.Error(line)
 		}
+	}
+}
+
+// A single sidecar has whose a token is in its state folder, over a kill too: what it answered 200 it refuses to all but the owner.
+func TestBoundWithoutAStore(t *testing.T) {
+	t.Parallel()
+	state := filepath.Join(t.TempDir(), "state")
+	bundle := bundleOption(bundleFile(t, example))
+	begin := func() *process {
+		return start(t, bundle, "--replay", "bound", "--caller", "address:X-Real-Ip", "--state", state, "--wait", "20s")
+	}
+	sent := tokens(t, "bound alone", 30)
+	refuses := func(p *process, client, token string) {
+		t.Helper()
+		if status, body := p.sendsFrom(client, token); status != 401 || !strings.Contains(body, `"Replayed"`) {
+			t.Errorf("a thief: %d %s", status, body)
+		}
+	}
+	for life := 0; life < 3; life++ {
+		p := begin()
+		for i, one := range sent[:10*(life+1)] { // ten more in each life
+			owner, thief := fmt.Sprintf("192.0.2.%d", i), fmt.Sprintf("198.51.100.%d", i)
+			if i < 10*life { // The thief is the first one to come after the restart.
+				refuses(p, thief, one)
+			}
+			for k := 0; k < 3; k++ {
+				if status, body := p.sendsFrom(owner, one); status != 200 {
+					t.Errorf("life %d, token %d: its owner: %d %s", life, i, status, body)
+				}
+			}
+			refuses(p, thief, one)
+		}
+		p.kill()
 	}
 }

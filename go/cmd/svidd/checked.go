@@ -14,9 +14,10 @@ import (
 	"syscall"
 	"time"
 
-	"svid.example/go/v2/bundles"
-	"svid.example/go/v2/guard"
-	"svid.example/go/v2/journal"
+	"svid.example/go/v3/bundles"
+	"svid.example/go/v3/carriers/jetstream"
+	"svid.example/go/v3/guard"
+	"svid.example/go/v3/journal"
 )
 
 // bundleProblems reads the trust bundles that are files, and says what is wrong with them. faults say which can't be used,
@@ -34,19 +35,28 @@ func (o *options) bundleProblems() (faults, warnings problems) {
 		err := s.CheckAuthorities()
 		faults.wrong(err != nil, "--bundle-ca: the authorities of the server of %s can't be used: %v", s.Source, err)
 	}
-	read := 0
+	read, usable := 0, 0
 	ctx, cancel := context.WithCancel(context.Background())
 	defer cancel()
-	_, err = bundles.Watch(ctx, files, func(domains map[string]json.RawMessage) error { read = len(domains); return nil }, bundles.Options{
+	_, err = bundles.Watch(ctx, files, func(domains map[string]json.RawMessage) error {
+		read, usable = len(domains), 0
+		for _, bundle := range domains {
+			keys, _ := bundles.Usable(bundle, guard.Unusable(o.rsaBits))
+			usable += keys
+		}
+		return nil
+	}, bundles.Options{
 		Check: guard.CheckBundle, Unusable: guard.Unusable(o.rsaBits),
 		Log: func(event string, fields ...any) {
-			sentence := fmt.Sprintf("the trust bundle can't be used: %v", unread(fields))
-			faults.wrong(event == "bundle not read", "%s", sentence)
-			warnings.wrong(event == "bundle has no key", "%s", unread(fields).Error())
+			faults.wrong(event == "bundle not read", "the trust bundle can't be used: %v", unread(fields))
+			warnings.wrong(event == "bundle has no key" || event == "bundle has a private key", "%v", unread(fields))
+			over := passedOver(event, fields)
+			warnings.wrong(over != nil, "%v", over)
 		},
 	})
 	faults.wrong(err != nil, "%v", err)
 	faults.wrong(len(faults) == 0 && read == 0 && len(files) == len(specs), "%s has no file DOMAIN.json, so no token can be accepted", o.bundleFolder)
+	faults.wrong(len(faults) == 0 && read > 0 && usable == 0 && len(files) == len(specs), "no key of a trust bundle can be used, so no token can be accepted")
 	return faults, warnings
 }
 
@@ -103,15 +113,47 @@ func usable(dir string) error {
 	return nil
 }
 
-// serverWait is how long --check-config waits for the servers of the group.
+// serverWait is how long --check-config waits for a server of the group.
 const serverWait = 2 * time.Second
 
 // usualPorts are those of servers whose addresses name none.
 var usualPorts = map[string]string{"NATS": "4222", "Redis": "6379", "PostgreSQL": "5432"}
 
-// serverWarnings says which servers of the group can't be reached now. They may come later.
-func (o *options) serverWarnings() (warnings problems) {
-	addresses := append(o.servers(), o.stores...)
+// serverProblems asks the servers of the group. warnings say which gave no answer, since one may come later. faults say why a store, or a log, that
+// answers is of no use to this sidecar: what a start would find out.
+func (o *options) serverProblems() (faults, warnings problems) {
+	store, err := o.store(nil)
+	if err == nil && store != nil {
+		defer store.Close()
+		if is, can := store.(interface{ Check(context.Context) error }); can {
+			o.ask("--store", o.stores, is.Check, &faults, &warnings)
+		}
+	}
+	if log, ok := o.groupLog().(jetstream.Options); ok {
+		o.ask("--group-log", o.servers(), func(ctx context.Context) error {
+			return log.Check(ctx, guard.Keep(o.longest.value, o.ahead.value))
+		}, &faults, &warnings)
+	}
+	return faults, warnings
+}
+
+// ask makes a check of what stands at some addresses.
+func (o *options) ask(option string, addresses []string, check func(context.Context) error, faults, warnings *problems) {
+	away, isAny := reachable(addresses)
+	if *warnings = append(*warnings, away...); !isAny {
+		return
+	}
+	ctx, cancel := context.WithTimeout(context.Background(), serverWait)
+	defer cancel()
+	from := time.Now()
+	err := check(ctx)
+	isLate := time.Since(from) > serverWait*9/10 // It may answer a start, which waits for it.
+	warnings.wrong(err != nil && isLate, "%s: no good answer within %v, as of a server that hangs, or speaks no TLS where the address asks for it: %v", option, serverWait, err)
+	faults.wrong(err != nil && !isLate, "%s: %v", option, err)
+}
+
+// reachable says which of some addresses nothing answers at, and whether anything may answer at one of them.
+func reachable(addresses []string) (warnings problems, reached bool) {
 	faults := make([]error, len(addresses))
 	at := make([]string, len(addresses))
 	ctx, cancel := context.WithTimeout(context.Background(), serverWait)
@@ -143,6 +185,7 @@ func (o *options) serverWarnings() (warnings problems) {
 	all.Wait()
 	for i, err := range faults {
 		warnings.wrong(err != nil, "nothing answers at %s, a server of the group: %v", at[i], err)
+		reached = reached || err == nil
 	}
-	return warnings
+	return warnings, reached
 }

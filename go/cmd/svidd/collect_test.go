@@ -7,9 +7,9 @@ import (
 	"testing"
 	"time"
 
-	"svid.example/go/v2/bundles"
-	"svid.example/go/v2/guard"
-	"svid.example/go/v2/internal/patience"
+	"svid.example/go/v3/bundles"
+	"svid.example/go/v3/guard"
+	"svid.example/go/v3/internal/patience"
 )
 
 // Garbage is collected early until the sidecar is ready, or ends, and as usual from then on; and as GOGC says where that is given. (How much

@@ -20,8 +20,8 @@ import (
 	"testing"
 	"time"
 
-	"svid.example/go/v2/internal/natstest"
-	"svid.example/go/v2/internal/patience"
+	"svid.example/go/v3/internal/natstest"
+	"svid.example/go/v3/internal/patience"
 )
 
 // readYAML reads a file of deploy/ with Debian's python3-yaml.

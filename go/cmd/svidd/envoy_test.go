@@ -20,10 +20,10 @@ import (
 	"golang.org/x/net/http2/hpack"
 	"google.golang.org/protobuf/encoding/protowire"
 
-	"svid.example/go/v2/internal/envoytest"
-	"svid.example/go/v2/internal/extauthz"
-	"svid.example/go/v2/internal/patience"
-	"svid.example/go/v2/internal/server"
+	"svid.example/go/v3/internal/envoytest"
+	"svid.example/go/v3/internal/extauthz"
+	"svid.example/go/v3/internal/patience"
+	"svid.example/go/v3/internal/server"
 )
 
 // startEnvoy starts svidd with an address for Envoy: a port, or a socket.

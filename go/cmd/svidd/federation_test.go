@@ -17,7 +17,7 @@ import (
 	"syscall"
 	"testing"
 
-	"svid.example/go/v2/internal/logtest"
+	"svid.example/go/v3/internal/logtest"
 )
 
 // federated is a server of a bundle with a certificate for 127.0.0.1 and for an ID. It returns its address, its authority as PEM,

@@ -17,10 +17,10 @@ import (
 
 	"github.com/nats-io/nats.go"
 
-	"svid.example/go/v2/internal/broker"
-	"svid.example/go/v2/internal/natstest"
-	"svid.example/go/v2/internal/patience"
-	"svid.example/go/v2/svid"
+	"svid.example/go/v3/internal/broker"
+	"svid.example/go/v3/internal/natstest"
+	"svid.example/go/v3/internal/patience"
+	"svid.example/go/v3/svid"
 )
 
 // several starts n sidecars of a group: of mode once with a log in NATS, and else with a store.
@@ -186,18 +186,36 @@ func TestOnceReportsWhatTwoAccepted(t *testing.T) {
 	server := natstest.Start(t)
 	all := several(t, 3, "once", server.URL)
 	accepted, unjudged := storm(all, tokens(t, "once", n), 16)
-	more := 0
+	more, due := 0, 0 // tokens that several accepted, and how often each of these is to say so
 	for i, a := range accepted {
 		if a < 1 || unjudged[i] != 0 {
 			t.Fatalf("token %d: %d accepted it, %d did not judge it", i, a, unjudged[i])
 		}
 		if a > 1 {
-			more++
+			more, due = more+1, due+int(a)
 		}
 	}
 	text := equalRecords(t, all)
 	if !strings.Contains(text, fmt.Sprintf("\ntwice %d\n", more)) {
 		t.Errorf("%d tokens were accepted more than once, and the report says %s", more, text[strings.Index(text, "\ntwice ")+1:])
+	}
+	all[0].await("each sidecar to say which of its tokens another one accepted", func() bool {
+		said := 0
+		for _, p := range all {
+			var own int
+			if _, err := fmt.Sscan(p.metric("svidd_accepted_twice_total"), &own); err != nil {
+				t.Fatal(err)
+			}
+			said += own
+		}
+		return said == due
+	})
+	lines := 0
+	for _, p := range all {
+		lines += len(p.events("accepted twice"))
+	}
+	if lines != due {
+		t.Errorf("%d lines of the log say so, and %d are due", lines, due)
 	}
 	t.Logf("%d tokens to 3 sidecars at once: accepted %s", n, count(accepted))
 }

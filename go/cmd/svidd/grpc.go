@@ -12,7 +12,7 @@ import (
 
 	"golang.org/x/net/http2"
 
-	"svid.example/go/v2/svidhttp"
+	"svid.example/go/v3/svidhttp"
 )
 
 const (

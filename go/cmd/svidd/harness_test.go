@@ -18,10 +18,10 @@ import (
 	"testing"
 	"time"
 
-	"svid.example/go/v2/internal/broker"
-	"svid.example/go/v2/internal/issuer"
-	"svid.example/go/v2/internal/patience"
-	"svid.example/go/v2/svid"
+	"svid.example/go/v3/internal/broker"
+	"svid.example/go/v3/internal/issuer"
+	"svid.example/go/v3/internal/patience"
+	"svid.example/go/v3/svid"
 )
 
 // asSvidd, in the environment, lets the test's own binary be the program svidd.

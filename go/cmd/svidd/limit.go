@@ -11,8 +11,8 @@ import (
 	"syscall"
 	"time"
 
-	"svid.example/go/v2/internal/server"
-	"svid.example/go/v2/svidhttp"
+	"svid.example/go/v3/internal/server"
+	"svid.example/go/v3/svidhttp"
 )
 
 // mostUnanswered is how many bytes a client may send until something is written to it: headers of full length, the body that

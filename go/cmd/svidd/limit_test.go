@@ -16,9 +16,9 @@ import (
 	"testing"
 	"time"
 
-	"svid.example/go/v2/internal/broker"
-	"svid.example/go/v2/internal/natstest"
-	"svid.example/go/v2/internal/patience"
+	"svid.example/go/v3/internal/broker"
+	"svid.example/go/v3/internal/natstest"
+	"svid.example/go/v3/internal/patience"
 )
 
 // hasRead says whether svidd has read all that a connection over IPv4 has sent: neither end has a byte that waits (proc(5), /proc/net/tcp).

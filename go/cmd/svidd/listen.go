@@ -12,7 +12,7 @@ import (
 	"syscall"
 	"time"
 
-	"svid.example/go/v2/svidhttp"
+	"svid.example/go/v3/svidhttp"
 )
 
 // An answerer is a server of one listener.
@@ -83,7 +83,7 @@ func (s *sidecar) addresses() []answering {
 		all = append(all, answering{"metrics", s.metrics, public, s.server(s.guard.Watched()), false})
 	}
 	if s.admin != "" {
-		all = append(all, answering{"admin", "unix:" + s.admin, private, s.server(s.guard.Admin(s.reload)), false})
+		all = append(all, answering{"admin", "unix:" + s.admin, private, s.server(s.guard.AdminWith(s.reloaded)), false})
 	}
 	return all
 }

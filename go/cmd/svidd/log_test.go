@@ -10,7 +10,7 @@ import (
 	"testing"
 	"time"
 
-	"svid.example/go/v2/internal/patience"
+	"svid.example/go/v3/internal/patience"
 )
 
 // piped starts svidd serve with a pipe as standard error, and returns the end that nobody reads yet. The pipe takes one page.

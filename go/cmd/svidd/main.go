@@ -17,8 +17,8 @@ import (
 	"runtime"
 	"sort"
 
-	"svid.example/go/v2/internal/version"
-	"svid.example/go/v2/svid"
+	"svid.example/go/v3/internal/version"
+	"svid.example/go/v3/svid"
 )
 
 // The exit statuses, which are those of the program svid.
@@ -31,8 +31,8 @@ const (
 
 // commands by name. Each returns the exit status.
 var commands = map[string]func(args []string, std stdio) int{
-	"serve": serve, "verify": verify, "withdraw": withdraw, "report": report, "ready": ready,
-	"check-state": checkState, "schema": schema, "version": printVersion,
+	"serve": serve, "verify": verify, "withdraw": withdraw, "report": report, "reload": reloadOf, "ready": ready,
+	"check-state": checkState, "schema": schema, "dev": devServe, "mint": mint, "version": printVersion,
 }
 
 // stdio is what a command reads and writes.
@@ -101,6 +101,10 @@ func fail(std stdio, err error) int {
 	var help *helpAsked
 	if errors.As(err, &help) {
 		return show(std, help.text())
+	}
+	var all problems
+	if errors.As(err, &all) {
+		return all.tell(std)
 	}
 	fmt.Fprintf(std.err, "svidd: %s\n", hideTokens(err.Error()))
 	return exitFailed

@@ -12,8 +12,8 @@ import (
 	"testing"
 	"time"
 
-	"svid.example/go/v2/internal/natstest"
-	"svid.example/go/v2/internal/server"
+	"svid.example/go/v3/internal/natstest"
+	"svid.example/go/v3/internal/server"
 )
 
 // BenchmarkModes sends tokens to a sidecar within this process, 32 at a time, without the network: new ones, or a few again and again.

@@ -17,13 +17,13 @@ import (
 
 	"github.com/BurntSushi/toml"
 
-	"svid.example/go/v2/bundles"
-	"svid.example/go/v2/carriers/jetstream"
-	"svid.example/go/v2/claims"
-	"svid.example/go/v2/internal/regular"
-	"svid.example/go/v2/internal/server"
-	"svid.example/go/v2/svid"
-	"svid.example/go/v2/workload"
+	"svid.example/go/v3/bundles"
+	"svid.example/go/v3/carriers/jetstream"
+	"svid.example/go/v3/claims"
+	"svid.example/go/v3/internal/regular"
+	"svid.example/go/v3/internal/server"
+	"svid.example/go/v3/svid"
+	"svid.example/go/v3/workload"
 )
 
 // options are those of serve, and of verify, which has fewer.
@@ -51,6 +51,7 @@ type options struct {
 	summaries     period
 	state         string
 	log           string
+	logAddresses  string
 	config        string
 	check         bool
 }
@@ -99,33 +100,37 @@ func (o *options) addServe(f *flag.FlagSet) {
 	f.Var(&o.summaries, "summaries", "")
 	f.StringVar(&o.state, "state", "", "")
 	f.StringVar(&o.log, "log", "", "")
+	f.StringVar(&o.logAddresses, "log-addresses", "", "")
 	f.BoolVar(&o.check, "check-config", false, "")
 }
 
 // parse reads the options of the command line, then those that are not given there
 // from the environment (SVIDD_AUDIENCE, SVIDD_NATS, ..), then from the file of --config.
-func parse(f *flag.FlagSet, o *options, args []string) error {
+func parse(f *flag.FlagSet, config *string, args []string) error {
 	if err := parseWords(f, args); err != nil {
 		return err
 	}
 	given := make(map[string]bool)
 	f.Visit(func(option *flag.Flag) { given[option.Name] = true })
-	var problem error
+	var all problems
 	f.VisitAll(func(option *flag.Flag) {
 		name := "SVIDD_" + strings.ToUpper(strings.ReplaceAll(option.Name, "-", "_"))
 		text, ok := os.LookupEnv(name)
-		if !ok || given[option.Name] || problem != nil {
+		if !ok || given[option.Name] {
 			return
 		}
 		given[option.Name] = true
 		if err := setAll(f, option, text); err != nil {
-			problem = fmt.Errorf("%s: %w", name, err)
+			all.wrong(true, "%s: %v", name, err)
 		}
 	})
-	if problem != nil || o.config == "" {
-		return problem
+	if *config != "" {
+		all = append(all, parseFile(f, *config, given)...)
 	}
-	return parseFile(f, o.config, given)
+	if len(all) > 0 {
+		return all
+	}
+	return nil
 }
 
 // setAll sets an option from one text. Commas part the values of a list.
@@ -141,50 +146,60 @@ func setAll(f *flag.FlagSet, option *flag.Flag, text string) error {
 	return nil
 }
 
-// parseFile sets what is not given yet from a file of options: TOML, or a JSON object.
-func parseFile(f *flag.FlagSet, name string, given map[string]bool) error {
+// parseFile sets what is not given yet from a file of options: TOML, or a JSON object. It says all that is wrong with the file.
+func parseFile(f *flag.FlagSet, name string, given map[string]bool) (all problems) {
 	members, err := readFile(name)
 	if err != nil {
-		return err
+		return problems{err.Error()}
 	}
 	names := make([]string, 0, len(members))
 	for option := range members {
 		names = append(names, option)
 	}
-	sort.Strings(names) // so of several faults it is always the same one
+	sort.Strings(names)
+	judges := f.Lookup("audience") != nil // The other commands look for their own options: of a bad file a running sidecar can say what is wrong.
 	for _, option := range names {
 		known := f.Lookup(option)
-		if known == nil && isOfServe(option) {
+		if known == nil && (!judges || isOfServe(option)) {
 			continue // verify has the same file as serve
 		}
 		if option == "config" || known == nil {
-			return fmt.Errorf("%s: no option is named %q%s", name, option, meant(f, option))
+			all.wrong(true, "%s: no option is named %q%s", name, option, meant(f, option))
+			continue
 		}
-		values, isList := members[option].([]any)
-		if !isList {
-			values = []any{members[option]}
-		} else if _, ok := known.Value.(*list); !ok {
-			return fmt.Errorf("%s: %s has one value, not a list", name, option)
+		if err := setFrom(f, known, members[option], given[option]); err != nil {
+			all.wrong(true, "%s: %s %v", name, option, err)
 		}
-		if option == "allow" && len(values) == 0 {
-			return fmt.Errorf("%s: allow is an empty list, by which all might call: say who may call, or leave it out to let all", name)
+	}
+	return all
+}
+
+// setFrom sets an option from its value in a file, unless it is given already. The error goes on behind the option's name.
+func setFrom(f *flag.FlagSet, option *flag.Flag, value any, isGiven bool) error {
+	values, isList := value.([]any)
+	if !isList {
+		values = []any{value}
+	} else if _, ok := option.Value.(*list); !ok {
+		return errors.New("has one value, not a list")
+	}
+	if option.Name == "allow" && len(values) == 0 {
+		return errors.New("is an empty list, by which all might call: say who may call, or leave it out to let all")
+	}
+	for _, v := range values {
+		text, err := plain(option, v)
+		if err != nil || isGiven {
+			return err
 		}
-		for _, v := range values {
-			text, err := plain(v)
-			if err == nil && !given[option] {
-				err = f.Set(option, text)
-			}
-			if err != nil {
-				return fmt.Errorf("%s: %s: %w", name, option, err)
-			}
+		if err := f.Set(option.Name, text); err != nil {
+			return fmt.Errorf("= %q: %w", text, err)
 		}
 	}
 	return nil
 }
 
-// isOfServe says whether serve alone has an option of this name.
+// isOfServe says whether serve has an option of this name.
 func isOfServe(name string) bool {
-	return flagsOf("serve", new(options).addServe).Lookup(name) != nil
+	return new(options).flags().Lookup(name) != nil
 }
 
 // readFile reads a file of options: JSON if it begins with a brace, and TOML if not.
@@ -210,15 +225,34 @@ func readFile(name string) (members map[string]any, err error) {
 	return members, nil
 }
 
-// plain is the text of a value, as the command line has it.
-func plain(value any) (string, error) {
-	switch v := value.(type) {
-	case string:
-		return v, nil
-	case bool, int64, json.Number:
-		return fmt.Sprint(v), nil
+// plain is the text of a value, as the command line has it. The error says that the option has values of another type.
+func plain(option *flag.Flag, value any) (string, error) {
+	_, isText := value.(string)
+	_, isTruth := value.(bool)
+	_, isNumber := value.(int64)
+	if !isNumber {
+		_, isNumber = value.(json.Number)
 	}
-	return "", errors.New("is neither text, nor a whole number, nor true or false")
+	due, fits := "text, in quotes", isText
+	switch v := option.Value.(type) {
+	case *period, *seconds:
+		due, fits = `a time, as "1h", or a whole number of seconds`, isText || isNumber
+	case flag.Getter:
+		switch v.Get().(type) {
+		case int:
+			due, fits = "a whole number", isText || isNumber
+		case bool:
+			due, fits = "true or false", isText || isTruth
+		}
+	}
+	if !fits {
+		shown, err := json.Marshal(value)
+		if err != nil {
+			shown = []byte(fmt.Sprint(value)) // (a number that JSON does not have)
+		}
+		return "", fmt.Errorf("= %s: it is to be %s", shown, due)
+	}
+	return fmt.Sprint(value), nil
 }
 
 // problems are sentences that say what is wrong with options.
@@ -230,6 +264,9 @@ func (p *problems) wrong(is bool, text string, values ...any) {
 		*p = append(*p, fmt.Sprintf(text, values...))
 	}
 }
+
+// Error has them in one line.
+func (p problems) Error() string { return strings.Join(p, "; ") }
 
 // tell prints them, each on a line.
 func (p problems) tell(std stdio) int {
@@ -290,7 +327,7 @@ func (o *options) problems() problems {
 	case server.Strict:
 		wrong(len(o.stores) == 0, "--store is missing: in mode strict each token is claimed in the group's store")
 	case server.Bound:
-		wrong(len(o.stores) == 0, "--store is missing: in mode bound the group's store has which caller used a token first. A sidecar without a group needs one too: a Redis beside it is enough")
+		wrong(len(o.stores) == 0 && o.state == "", "--state is missing: in mode bound the state folder of a single sidecar has which caller used a token first. For a group give --store")
 		wrong(o.caller == "", "--caller is missing: in mode bound a token is accepted from one caller. Say what names it: address:HEADER or header:NAME with a header that the proxy sets, or peer or principal where Envoy asks by gRPC")
 	case server.Reuse:
 	default:
@@ -330,6 +367,8 @@ func (o *options) problems() problems {
 	isURL := strings.Contains(o.log, "://") // which may hold a password
 	wrong(isURL, "--log is the level of lines: errors, decisions or all. The address of a group's log is --group-log")
 	wrong(!ok && !isURL, "--log %q is none of errors, decisions and all", o.log)
+	_, ok = logAddresses[o.logAddresses]
+	wrong(!ok, "--log-addresses %q is none of whole, network and none", o.logAddresses)
 	wrong(o.wait == 0, "--wait must be greater than 0")
 	wrong(o.summaries == 0, "--summaries must be greater than 0")
 	wrong(time.Duration(o.drain) > mostDrain, "--drain must be from 0s to %v", mostDrain)
@@ -341,7 +380,8 @@ func (o *options) callerProblems(all *problems) {
 	if o.caller == "" {
 		return
 	}
-	all.wrong(server.Mode(o.replay) != server.Bound, "--caller is for --replay bound: in the other modes it does not count who presents a token")
+	mode := server.Mode(o.replay)
+	all.wrong(mode != server.Bound && mode != server.Reuse, "--caller is for --replay bound and --replay reuse: in the other modes it does not count who presents a token")
 	rule, err := server.ParseCaller(o.caller)
 	all.wrong(err != nil, "--caller: %v", err)
 	all.wrong(err == nil && rule.OfEnvoy() && o.envoy == "", "--caller %s: Envoy alone says that, by gRPC: give --envoy, or name a header that the proxy sets", o.caller)
@@ -385,6 +425,8 @@ func isAddress(text string) bool {
 	}
 	return err == nil && port != ""
 }
+
+var logAddresses = map[string]server.Addresses{"whole": server.Whole, "network": server.Network, "none": server.None}
 
 var logLevels = map[string]server.Level{"errors": server.Errors, "decisions": server.Decisions, "all": server.All}
 

@@ -16,10 +16,10 @@ import (
 	"testing"
 	"time"
 
-	"svid.example/go/v2/internal/patience"
-	"svid.example/go/v2/internal/version"
-	"svid.example/go/v2/svid"
-	"svid.example/go/v2/workload"
+	"svid.example/go/v3/internal/patience"
+	"svid.example/go/v3/internal/version"
+	"svid.example/go/v3/svid"
+	"svid.example/go/v3/workload"
 )
 
 // here runs a command in this process, which takes less time than another one.
@@ -193,13 +193,14 @@ func TestOptionsOfModeBound(t *testing.T) {
 		{append(store, "--replay", "bound", "--caller", "peer", "--envoy", "127.0.0.1:9903"), ""},
 		{append(store, "--replay", "bound", "--caller", "principal", "--envoy", "127.0.0.1:9903"), ""},
 		{append(store, "--replay", "bound"), "--caller is missing"},
-		{[]string{"--replay", "bound", "--caller", "header:X"}, "--store is missing: in mode bound"},
+		{[]string{"--replay", "bound", "--caller", "header:X"}, "--state is missing: in mode bound"},
 		{append(store, "--replay", "bound", "--caller", "peer"), "give --envoy"},
 		{append(store, "--replay", "bound", "--caller", "principal"), "give --envoy"},
 		{append(store, "--replay", "bound", "--caller", "address"), "write address:HEADER"},
 		{append(store, "--replay", "bound", "--caller", "header:Authorization"), "which a thief has too"},
 		{append(store, "--replay", "strict", "--caller", "header:X"), "--caller is for --replay bound"},
-		{[]string{"--replay", "reuse", "--caller", "header:X"}, "--caller is for --replay bound"},
+		{[]string{"--replay", "reuse", "--caller", "header:X"}, ""},
+		{[]string{"--replay", "reuse", "--caller", "peer"}, "give --envoy"},
 	} {
 		status, out, err := here("", append(good[:len(good):len(good)], row.args...)...)
 		if row.want == "" && (status != 0 || out+withoutServers(err) != "svidd: the options are good\n") {
@@ -243,7 +244,8 @@ func TestCheckConfigReadsTheBundles(t *testing.T) {
 		{[]string{"--bundle", "example.org=" + bad}, []string{bad + ": it is no JSON object"}, ""},
 		{[]string{"--bundle", "example.org=" + list}, []string{list + `: its member "keys" is no list`}, ""},
 		{[]string{"--bundle", "example.org=" + good, "--bundle", "example.com=" + gone, "--bundle", "example.net=" + bad}, []string{gone, bad}, ""},
-		{[]string{"--bundle", "example.org=" + none}, nil, "no entry of it has the use"},
+		{[]string{"--bundle", "example.org=" + none}, []string{"no key of a trust bundle can be used"}, "its list of keys is empty"},
+		{[]string{"--bundle", "example.org=" + none, "--bundle", "example.com=" + good}, nil, "its list of keys is empty"},
 		{[]string{"--bundles", folder}, []string{bad, list}, ""},
 		{[]string{"--bundles", empty}, []string{empty + " has no file DOMAIN.json"}, ""},
 		{[]string{"--bundles", empty, "--bundle", "example.org=" + good}, nil, ""},
@@ -483,6 +485,8 @@ func TestHelp(t *testing.T) {
 
   --admin PATH
         unix socket PATH of the sidecar
+  --config FILE
+        FILE of options, as TOML (audience = ["ledger"]) or as a JSON object
   --json
         print one JSON object
 `

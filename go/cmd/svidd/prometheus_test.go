@@ -13,8 +13,8 @@ import (
 	"strings"
 	"testing"
 
-	"svid.example/go/v2/internal/broker"
-	"svid.example/go/v2/internal/natstest"
+	"svid.example/go/v3/internal/broker"
+	"svid.example/go/v3/internal/natstest"
 )
 
 // ruleFile is deploy/prometheus/rules.yaml.

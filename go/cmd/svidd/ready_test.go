@@ -9,13 +9,14 @@ import (
 	"path/filepath"
 	"regexp"
 	"strings"
+	"sync"
 	"syscall"
 	"testing"
 	"time"
 
-	"svid.example/go/v2/internal/broker"
-	"svid.example/go/v2/internal/issuer"
-	"svid.example/go/v2/internal/patience"
+	"svid.example/go/v3/internal/broker"
+	"svid.example/go/v3/internal/issuer"
+	"svid.example/go/v3/internal/patience"
 )
 
 // rowWait is --wait of the sidecars of the table.
@@ -79,7 +80,7 @@ type stage struct {
 func newStage(t *testing.T, mode, bundles string, more ...string) *stage {
 	t.Helper()
 	s := &stage{mode: mode, domain: "example.org", of: example}
-	args := append([]string{bundles, "--replay", mode, "--wait", rowWait.String(), "--admin", filepath.Join(t.TempDir(), "admin.sock")}, more...)
+	args := append([]string{bundles, "--replay", mode, "--wait", rowWait.String(), "--admin", filepath.Join(shortFolder(t), "admin.sock")}, more...)
 	given := strings.Join(more, " ")
 	if mode == "bound" {
 		args = append(args, "--caller", "header:User-Agent")
@@ -93,6 +94,15 @@ func newStage(t *testing.T, mode, bundles string, more ...string) *stage {
 	}
 	s.process = prepare(t, nil, args...)
 	return s
+}
+
+// shortFolder is a folder for a unix socket, whose path is short: t.TempDir has the name of the test.
+func shortFolder(t *testing.T) string {
+	t.Helper()
+	folder, err := os.MkdirTemp("", "svidd")
+	must(t, err)
+	t.Cleanup(func() { must(t, os.RemoveAll(folder)) })
+	return folder
 }
 
 // inGroup is a stage with a store, in each mode.
@@ -273,43 +283,73 @@ func TestReadyzTable(t *testing.T) {
 		return
 	}
 	played := map[string]bool{}
-	for _, r := range readyRows(t) {
-		r := r
-		played[r.state] = true
-		play := plays[r.state]
-		if play == nil {
-			t.Errorf("nothing plays the state %q", r.state)
-			continue
-		}
-		t.Run(r.mode+"/"+r.state, func(t *testing.T) {
-			t.Parallel() // (most of the time it waits)
-			s := play(t, r.mode)
-			var status int
-			var body string
-			isSo := func() bool {
-				status, body = s.get("/readyz")
-				return fmt.Sprint(status) == r.ready && strings.Contains(body, r.says)
+	var mu sync.Mutex
+	var without []unready // sidecars that no token can be accepted by
+	rows := readyRows(t)
+	t.Run("rows", func(t *testing.T) { // (and behind all of them, the alerts)
+		for _, r := range rows {
+			r := r
+			played[r.state] = true
+			play := plays[r.state]
+			if play == nil {
+				t.Errorf("nothing plays the state %q", r.state)
+				continue
 			}
-			s.await("/readyz to say "+r.readyCell, isSo)
-			if status, body := s.get("/healthz"); status != 200 {
-				t.Errorf("/healthz: %d %s", status, body)
-			}
-			if want := map[bool]string{true: "1", false: "0"}[r.ready == "200"]; s.metric("svidd_ready") != want {
-				t.Errorf("svidd_ready is not %s", want)
-			}
-			if r.check != "" {
-				for i := 0; i < 2; i++ {
-					s.want(s.token(fmt.Sprint("row", i)), map[string]int{"200": 200, "503": 503}[r.check], r.reason)
+			t.Run(r.mode+"/"+r.state, func(t *testing.T) {
+				t.Parallel() // (most of the time it waits)
+				s := play(t, r.mode)
+				var status int
+				var body string
+				isSo := func() bool {
+					status, body = s.get("/readyz")
+					return fmt.Sprint(status) == r.ready && strings.Contains(body, r.says)
 				}
-			}
-			if r.reason != "NotReady" && r.reason != "ClockJump" {
-				s.want("a.b.c", 401, "HeaderSpelling")
-			}
-			if !isSo() {
-				t.Errorf("/readyz says %d %s behind these tokens", status, body)
-			}
-		})
+				from, h := time.Now(), hurry()
+				s.await("/readyz to say "+r.readyCell, isSo)
+				within := soon
+				if !strings.Contains(r.reason, "NotReady") {
+					within += rowWait // So long a request waits for what is away.
+				}
+				if took, lost := time.Since(from), h.end(); took > within && lost < took/20 {
+					t.Errorf("/readyz says it %v after that it is so", took)
+				}
+				if r.ready == "503" {
+					_, page := s.get("/metrics")
+					mu.Lock()
+					without = append(without, unready{r.mode + ": " + r.state, page})
+					mu.Unlock()
+				}
+				if status, body := s.get("/healthz"); status != 200 {
+					t.Errorf("/healthz: %d %s", status, body)
+				}
+				if want := map[bool]string{true: "1", false: "0"}[r.ready == "200"]; s.metric("svidd_ready") != want {
+					t.Errorf("svidd_ready is not %s", want)
+				}
+				if r.check != "" {
+					for i := 0; i < 2; i++ {
+						s.want(s.token(fmt.Sprint("row", i)), map[string]int{"200": 200, "403": 403, "503": 503}[r.check], r.reason)
+					}
+				}
+				if r.reason != "NotReady" && r.reason != "ClockJump" {
+					s.want("a.b.c", 401, "HeaderSpelling")
+				}
+				if !isSo() {
+					t.Errorf("/readyz says %d %s behind these tokens", status, body)
+				}
+			})
+		}
+	})
+	reasons := map[string]bool{}
+	for _, r := range rows {
+		if r.ready == "503" && r.check == "503" {
+			reasons[r.says] = true
+		}
 	}
+	t.Logf("%d states of %d sidecars in which no token can be accepted, with %d reasons", len(plays), len(without), len(reasons))
+	if len(reasons) < 25 {
+		t.Errorf("only %d reasons", len(reasons))
+	}
+	wantAlerts(t, without)
 	for state := range plays {
 		if !played[state] {
 			t.Errorf("docs/SIDECAR-REFERENCE.md does not have the state %q", state)

@@ -17,7 +17,7 @@ import (
 	"testing"
 	"time"
 
-	"svid.example/go/v2/internal/patience"
+	"svid.example/go/v3/internal/patience"
 )
 
 // A recipe is a proxy before a service, by files of deploy/.

@@ -10,8 +10,8 @@ import (
 	"testing"
 	"time"
 
-	"svid.example/go/v2/internal/issuer"
-	"svid.example/go/v2/internal/natstest"
+	"svid.example/go/v3/internal/issuer"
+	"svid.example/go/v3/internal/natstest"
 )
 
 // SIGHUP takes over the bundles and the level of the log, says what has changed, and names what counts only after a restart. Options
@@ -253,7 +253,7 @@ func TestCheckConfigLooksAtTheFoldersAndServers(t *testing.T) {
 		{[]string{"--admin", file}, "--admin: " + file + " is there, and is no socket", ""},
 		{[]string{"--listen", "unix:" + filepath.Join(folder, "none", "s")}, "--listen: stat", ""},
 		{[]string{"--metrics", "unix:" + filepath.Join(folder, "none", "s")}, "--metrics: stat", ""},
-		{[]string{"--nats", "nats://svidd:secret@" + answers.Addr().String()}, "", ""},
+		{[]string{"--nats", "nats://svidd:secret@" + answers.Addr().String()}, "", "--group-log: no good answer within 2s"}, // It is silent.
 		{[]string{"--nats", "nats://svidd:secret@" + nobody}, "", "nothing answers at " + nobody},
 		{[]string{"--store", "redis://svidd:secret@" + nobody}, "", "nothing answers at " + nobody},
 		{[]string{"--store", "postgres://svidd:secret@" + nobody + "/db?sslmode=disable"}, "", "nothing answers at " + nobody},
@@ -281,5 +281,78 @@ func TestCheckConfigLooksAtTheFoldersAndServers(t *testing.T) {
 		if strings.Contains(out+err, "secret") {
 			t.Errorf("%q: a password is printed: %q", row.args, out+err)
 		}
+	}
+}
+
+// `svidd reload` waits, and says what became of it: which options have other values, what counts only after a restart, and what is wrong, whether that
+// is an option or a bundle. The metrics say the same, also behind a signal. The commands that ask a sidecar find it by its file.
+func TestReloadSaysWhatBecameOfIt(t *testing.T) {
+	t.Parallel()
+	folder := shortFolder(t)
+	config, admin, bundle := filepath.Join(folder, "svidd.toml"), filepath.Join(folder, "admin.sock"), filepath.Join(folder, "bundle.json")
+	writeBundle(t, bundle, example)
+	p := prepare(t, nil, "--config", config)
+	write := func(lines ...string) {
+		t.Helper()
+		lines = append(lines, fmt.Sprintf("admin = %q", admin), fmt.Sprintf("listen = %q", p.address), fmt.Sprintf("bundle = [%q]", "example.org="+bundle), `replay = "reuse"`)
+		must(t, os.WriteFile(config, []byte(strings.Join(lines, "\n")+"\n"), 0o600))
+	}
+	reload := func(want int, says ...string) {
+		t.Helper()
+		status, out, err := here("", "reload", "--config", config)
+		if status != want {
+			t.Errorf("status %d: %q %q", status, out, err)
+		}
+		for _, one := range says {
+			if !strings.Contains(out+err, one) {
+				t.Errorf("%q does not say %q", out+err, one)
+			}
+		}
+		good := map[bool]string{true: "1", false: "0"}[want == 0]
+		if is := p.metric("svidd_config_last_reload_successful"); is != good {
+			t.Errorf("the metric is %s", is)
+		}
+	}
+	write()
+	p.start()
+	began := p.metric("svidd_config_last_reload_success_timestamp_seconds")
+	if p.metric("svidd_config_last_reload_successful") != "1" || began == "" {
+		t.Errorf("before any reload: %s", began)
+	}
+	reload(0, "reloaded\n")
+	write(`allow = ["spiffe://example.org"]`, `log = "all"`, `wait = "3s"`)
+	reload(0, "reloaded: other values of --allow, --log\n", "svidd: warning: --wait counts only after a restart\n")
+	good := p.metric("svidd_config_last_reload_success_timestamp_seconds")
+	write(`alow = ["spiffe://example.org"]`)
+	reload(2, `no option is named "alow": did you mean --allow?`, "the options stay as they are")
+	write()
+	must(t, os.WriteFile(bundle, []byte("{"), 0o600))
+	reload(2, "the last good one stays: example.org: it is no JSON object")
+	if again := p.metric("svidd_config_last_reload_success_timestamp_seconds"); again != good {
+		t.Errorf("the last good reload was at %s, and not at %s", again, good)
+	}
+	p.want(token(t, "all the same", lasting), 200, "")
+	writeBundle(t, bundle, example)
+	must(t, p.signal(syscall.SIGHUP))
+	p.await("the signal's reload", func() bool { return p.metric("svidd_config_last_reload_successful") == "1" })
+
+	// The other commands find it by the same file.
+	if status, out, err := here("", "ready", "--config", config); status != 0 || out != "ready\n" {
+		t.Errorf("ready: %d %q %q", status, out, err)
+	}
+	if status, out, err := here("", "report", "--config", config); status != 0 || !strings.HasPrefix(out, "moment ") {
+		t.Errorf("report: %d %q %q", status, out, err)
+	}
+	if status, out, err := here(token(t, "gone", lasting), "withdraw", "--config", config, "-"); status != 0 || !strings.HasPrefix(out, "withdrawn ") {
+		t.Errorf("withdraw: %d %q %q", status, out, err)
+	}
+	for _, args := range [][]string{{"reload"}, {"report"}, {"withdraw", "-"}, {"reload", "--admin", admin, "more"}} {
+		if status, _, err := here("", args...); status != 2 || !strings.Contains(err, "--config, the file of serve") {
+			t.Errorf("%q: %d %q", args, status, err)
+		}
+	}
+	p.end()
+	if status, _, err := here("", "reload", "--config", config); status != 2 || !strings.Contains(err, admin) {
+		t.Errorf("of none that runs: %d %q", status, err)
 	}
 }

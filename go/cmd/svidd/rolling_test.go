@@ -13,8 +13,8 @@ import (
 
 	"github.com/nats-io/nats.go"
 
-	"svid.example/go/v2/internal/broker"
-	"svid.example/go/v2/internal/natstest"
+	"svid.example/go/v3/internal/broker"
+	"svid.example/go/v3/internal/natstest"
 )
 
 // Three NATS servers are restarted one behind the other, as for an upgrade, while sidecars accept tokens. Each token is accepted

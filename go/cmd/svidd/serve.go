@@ -12,7 +12,7 @@ import (
 	"syscall"
 	"time"
 
-	"svid.example/go/v2/guard"
+	"svid.example/go/v3/guard"
 )
 
 const (
@@ -52,7 +52,7 @@ var errHangs = fmt.Errorf("the state folder did not take a last snapshot within 
 func serve(args []string, std stdio) int {
 	var o options
 	f := o.flags()
-	if err := parse(f, &o, args); err != nil {
+	if err := parse(f, &o.config, args); err != nil {
 		return fail(std, err)
 	}
 	if f.NArg() > 0 {
@@ -64,7 +64,8 @@ func serve(args []string, std stdio) int {
 	if o.check {
 		faults, warnings := o.bundleProblems()
 		faults = append(o.folderProblems(), faults...)
-		warnings = append(warnings, o.serverWarnings()...)
+		ofServers, away := o.serverProblems()
+		faults, warnings = append(faults, ofServers...), append(warnings, away...)
 		for _, sentence := range warnings {
 			fmt.Fprintf(std.err, "svidd: warning: %s\n", hideTokens(sentence))
 		}
@@ -79,6 +80,7 @@ func serve(args []string, std stdio) int {
 	defer signal.Stop(signals)
 	signal.Ignore(syscall.SIGPIPE) // A log whose reader is gone ends no service.
 	log := guard.NewLines(std.err, logLevels[o.log])
+	log.SetAddresses(logAddresses[o.logAddresses])
 	defer log.Close(logWait)
 	s := &sidecar{options: o, args: args, given: valuesOf(f), log: log, reloads: make(chan struct{}, 1), failed: make(chan error, 1), spare: make([]byte, spareHeap)}
 	if err := s.run(signals); err != nil {
@@ -95,7 +97,8 @@ type sidecar struct {
 	given   map[string]string // the options that count, as text; reloadAll alone uses it once the sidecar runs
 	log     *guard.Lines
 	guard   *guard.Guard
-	reloads chan struct{} // asks for the bundles to be read again
+	reloads chan struct{} // asks for the options and the bundles to be read again
+	waits   waits         // who waits for that
 	failed  chan error    // what ends the sidecar
 	spare   []byte        // counts as in use, and costs only addresses, since nobody writes to it
 }
@@ -235,8 +238,11 @@ func (s *sidecar) reloadAll(ctx context.Context) {
 		case <-ctx.Done():
 			return
 		case <-s.reloads:
-			if !s.reread() {
-				s.guard.Reload()
+			waiting := s.waits.take()
+			done, err := s.reloadNow()
+			s.guard.NoteReload(err)
+			for _, one := range waiting {
+				one <- outcome{done, err}
 			}
 		}
 	}

@@ -9,9 +9,9 @@ import (
 	"testing"
 	"time"
 
-	"svid.example/go/v2/internal/issuer"
-	"svid.example/go/v2/internal/version"
-	"svid.example/go/v2/svid"
+	"svid.example/go/v3/internal/issuer"
+	"svid.example/go/v3/internal/version"
+	"svid.example/go/v3/svid"
 )
 
 // One sidecar from its start to its end, as a user meets it.
@@ -266,14 +266,14 @@ func TestOptionsOfAFileAndOfTheEnvironment(t *testing.T) {
 		`{"longest": [60]}`:             "longest has one value, not a list",
 		`{"allow": []}`:                 "allow is an empty list",
 		"allow = []":                    "allow is an empty list",
-		`{"audience": [null]}`:          "is neither text",
-		`{"audience": {"a": "b"}}`:      "is neither text",
-		"longest = 60.0":                "is neither text",
-		"longest = 2026-11-25":          "is neither text",
-		"audience = \"a\"\n[longest]\n": "is neither text",
+		`{"audience": [null]}`:          "it is to be ",
+		`{"audience": {"a": "b"}}`:      "it is to be ",
+		"longest = 60.0":                "it is to be ",
+		"longest = 2026-11-25":          "it is to be ",
+		"audience = \"a\"\n[longest]\n": "it is to be ",
 		"audience = a":                  "it is no TOML",
 		"longest = 60\nlongest = 61":    "it is no TOML",
-		"audience = [1, [2]]":           "is neither text",
+		"audience = [1, [2]]":           "it is to be ",
 		"":                              "--audience is missing",
 	} {
 		write(text)
@@ -299,7 +299,8 @@ func TestVerifyPrintsTheClaims(t *testing.T) {
 		{good[:len(good)-4] + "AAAA", "refused BadSignature\nNo key among the first 3 that fit made the signature.\n", 1, nil},
 		{good, "refused TooLongLived\nThe token expires more than", 1, []string{"--longest", "1"}},
 		{token(t, "b", -time.Minute), "refused Expired", 1, nil},
-		{"", "refused NotThreeParts", 1, nil},
+		{"", "standard input has no token", 2, nil},
+		{".", "refused NotThreeParts", 1, nil},
 		{strings.Repeat("a", 70000), "refused TooLong", 1, nil},
 		{good, "no such file", 2, []string{"--bundle", "example.com=/nothing/there"}},
 	} {
@@ -315,7 +316,7 @@ func TestVersionAndUsage(t *testing.T) {
 	if status, out, _ := svidd(t, "", "version"); status != 0 || !strings.HasPrefix(out, "svidd "+version.Number+" (libsvid ") {
 		t.Errorf("%d %q", status, out)
 	}
-	if status, _, err := here("", "sing"); status != 2 || !strings.Contains(err, "usage:") {
+	if status, _, err := here("", "frobnicate"); status != 2 || !strings.Contains(err, "usage:") {
 		t.Errorf("%d %q", status, err)
 	}
 	if status, out, _ := here("", "--help"); status != 0 || !strings.Contains(out, "svidd serve") {

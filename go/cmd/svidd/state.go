@@ -8,8 +8,8 @@ import (
 	"path/filepath"
 	"syscall"
 
-	"svid.example/go/v2/journal"
-	"svid.example/go/v2/svid"
+	"svid.example/go/v3/journal"
+	"svid.example/go/v3/svid"
 )
 
 // giveState is what to do about a path that is no state folder.
@@ -19,7 +19,7 @@ const giveState = "give the folder that serve has as --state"
 func checkState(args []string, std stdio) int {
 	var asMessages bool
 	f := flagsOf("check-state", func(f *flag.FlagSet) { f.BoolVar(&asMessages, "messages", false, "") })
-	if err := parse(f, &options{}, args); err != nil {
+	if err := parse(f, new(string), args); err != nil {
 		return fail(std, err)
 	}
 	dir := f.Arg(0)

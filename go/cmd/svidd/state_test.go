@@ -9,8 +9,8 @@ import (
 	"strings"
 	"testing"
 
-	"svid.example/go/v2/journal"
-	"svid.example/go/v2/svid"
+	"svid.example/go/v3/journal"
+	"svid.example/go/v3/svid"
 )
 
 // stateFolder makes a folder with two uses in its snapshot and two in its journal, in a frame each.

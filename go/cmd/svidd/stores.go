@@ -5,14 +5,14 @@ import (
 	"fmt"
 	"strings"
 
-	"svid.example/go/v2/carriers"
-	"svid.example/go/v2/carriers/jetstream"
-	"svid.example/go/v2/claims"
-	"svid.example/go/v2/claims/nats"
-	"svid.example/go/v2/claims/postgres"
-	"svid.example/go/v2/claims/redis"
-	"svid.example/go/v2/guard"
-	"svid.example/go/v2/internal/server"
+	"svid.example/go/v3/carriers"
+	"svid.example/go/v3/carriers/jetstream"
+	"svid.example/go/v3/claims"
+	"svid.example/go/v3/claims/nats"
+	"svid.example/go/v3/claims/postgres"
+	"svid.example/go/v3/claims/redis"
+	"svid.example/go/v3/guard"
+	"svid.example/go/v3/internal/server"
 )
 
 // schemes are those of the addresses of a group's store or log, and what answers there.

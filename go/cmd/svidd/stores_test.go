@@ -11,8 +11,8 @@ import (
 	"testing"
 	"time"
 
-	"svid.example/go/v2/internal/broker"
-	"svid.example/go/v2/internal/natstest"
+	"svid.example/go/v3/internal/broker"
+	"svid.example/go/v3/internal/natstest"
 )
 
 // long lets a test send 10,000 tokens.

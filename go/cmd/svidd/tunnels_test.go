@@ -14,7 +14,7 @@ import (
 	"golang.org/x/net/http2"
 	"golang.org/x/net/http2/hpack"
 
-	"svid.example/go/v2/internal/patience"
+	"svid.example/go/v3/internal/patience"
 )
 
 // withoutToken is a request that no sidecar has seen, whose client says who it is.

@@ -38,7 +38,7 @@ func TestTimesOfOptions(t *testing.T) {
 		{[]string{"--longest=500ms"}, "", 2, "--longest: \"500ms\" is no whole number of seconds"},
 		{[]string{"--longest=soon"}, "", 2, "--longest: \"soon\" is no time: write it as 1h, 30s"},
 		{[]string{"--wait=soon"}, "longest = 1", 2, "--wait: \"soon\" is no time: write it as 1h, 30s"},
-		{nil, "longest = \"soon\"", 2, "longest: is no time: write it as 1h, 30s"},
+		{nil, "longest = \"soon\"", 2, "longest = \"soon\": is no time: write it as 1h, 30s"},
 		{[]string{"--longest=36500d"}, "", 2, "is no time"},
 		{[]string{"--longest=876001h"}, "", 2, "--longest must be from 1 to 3153600000 seconds"},
 	} {

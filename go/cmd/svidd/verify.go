@@ -7,12 +7,13 @@ import (
 	"fmt"
 	"io"
 	"strings"
+	"sync"
 	"time"
 
-	"svid.example/go/v2/bundles"
-	"svid.example/go/v2/guard"
-	"svid.example/go/v2/internal/jsontext"
-	"svid.example/go/v2/svid"
+	"svid.example/go/v3/bundles"
+	"svid.example/go/v3/guard"
+	"svid.example/go/v3/internal/jsontext"
+	"svid.example/go/v3/svid"
 )
 
 // fetchWait is how long verify waits for the bundles that come over https or from a Workload API.
@@ -23,7 +24,7 @@ const fetchWait = 20 * time.Second
 func verify(args []string, std stdio) int {
 	var o options
 	f := flagsOf("verify", o.addCommon)
-	if err := parse(f, &o, args); err != nil {
+	if err := parse(f, &o.config, args); err != nil {
 		return fail(std, err)
 	}
 	if f.NArg() > 0 {
@@ -37,11 +38,18 @@ func verify(args []string, std stdio) int {
 	if err != nil {
 		return fail(std, err)
 	}
-	err = o.judge(token, std)
+	if token == "" {
+		return fail(std, errNoToken)
+	}
+	var over sentences
+	err = o.judge(token, &over)
 	var refusal svid.Refusal
 	switch {
 	case errors.As(err, &refusal):
 		fmt.Fprintf(std.err, "refused %s\n%s\n", refusal.String(), refusal.Sentence())
+		if refusal == svid.NoKey || refusal == svid.BadSignature { // One of these keys may have made the signature.
+			over.warn(std)
+		}
 		return exitRefused
 	case err != nil:
 		return fail(std, err)
@@ -55,6 +63,8 @@ func verify(args []string, std stdio) int {
 	}
 	return exitYes
 }
+
+var errNoToken = errors.New("standard input has no token")
 
 var errLines = errors.New("standard input has more than one line: give it one token")
 
@@ -73,9 +83,9 @@ func readToken(std stdio) (string, error) {
 	return token, err
 }
 
-// judge is nil for a token that a validator with an empty record accepts.
-func (o *options) judge(token string, std stdio) error {
-	text, err := o.readBundles(std)
+// judge is nil for a token that a validator with an empty record accepts. over gets what is said of keys that are passed over.
+func (o *options) judge(token string, over *sentences) error {
+	text, err := o.readBundles(over)
 	if err != nil {
 		return err
 	}
@@ -99,7 +109,7 @@ func (o *options) judge(token string, std stdio) error {
 }
 
 // readBundles reads all bundles once. One that can't be read is an error.
-func (o *options) readBundles(std stdio) ([]byte, error) {
+func (o *options) readBundles(over *sentences) ([]byte, error) {
 	specs, err := o.specs()
 	if err != nil {
 		return nil, err
@@ -119,7 +129,10 @@ func (o *options) readBundles(std stdio) ([]byte, error) {
 		}
 		changes <- domains
 		return nil
-	}, bundles.Options{Check: guard.CheckBundle, Log: func(event string, fields ...any) {
+	}, bundles.Options{Check: guard.CheckBundle, Unusable: guard.Unusable(o.rsaBits), Log: func(event string, fields ...any) {
+		if why := passedOver(event, fields); why != nil {
+			over.add(why.Error())
+		}
 		if strings.HasPrefix(event, "bundle not read") {
 			select {
 			case faults <- unread(fields):
@@ -147,13 +160,50 @@ func (o *options) readBundles(std stdio) ([]byte, error) {
 	}
 }
 
+// sentences are gathered by several goroutines.
+type sentences struct {
+	mu  sync.Mutex
+	all []string
+}
+
+func (s *sentences) add(one string) {
+	s.mu.Lock()
+	defer s.mu.Unlock()
+	s.all = append(s.all, one)
+}
+
+// warn prints them.
+func (s *sentences) warn(std stdio) {
+	s.mu.Lock()
+	defer s.mu.Unlock()
+	for _, one := range s.all {
+		fmt.Fprintf(std.err, "svidd: warning: %s\n", hideTokens(one))
+	}
+}
+
+// passedOver is what a Watcher says of a key that it passes over: where it stands, and why. It is nil for one that is for X.509-SVIDs, as each bundle
+// of SPIRE has some.
+func passedOver(event string, fields []any) error {
+	said := saidOf(fields)
+	if event != "key passed over" || said["why"] == svid.EntryX509.String() {
+		return nil
+	}
+	return fmt.Errorf("entry %v of %v is passed over: %v", said["entry"], said["source"], said["why"])
+}
+
 // unread is what a Watcher says of a source that it could not read: the source, and why.
 func unread(fields []any) error {
+	said := saidOf(fields)
+	return fmt.Errorf("%v: %v", said["source"], said["why"])
+}
+
+// saidOf are the fields that a Watcher says, by their names.
+func saidOf(fields []any) map[any]any {
 	said := make(map[any]any)
 	for i := 0; i+1 < len(fields); i += 2 {
 		said[fields[i]] = fields[i+1]
 	}
-	return fmt.Errorf("%v: %v", said["source"], said["why"])
+	return said
 }
 
 func hasAll(domains map[string]json.RawMessage, wanted map[string]bool) bool {

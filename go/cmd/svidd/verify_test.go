@@ -20,8 +20,8 @@ import (
 	"time"
 	"unicode"
 
-	"svid.example/go/v2/internal/issuer"
-	"svid.example/go/v2/svid"
+	"svid.example/go/v3/internal/issuer"
+	"svid.example/go/v3/svid"
 )
 
 // Standard input of verify is one token, with or without one line end. All other bytes belong to the token, and a token with
@@ -51,7 +51,7 @@ func TestVerifyReadsOneToken(t *testing.T) {
 		{good + "\x00", "refused SignatureSpelling", 1},
 		{good + blanks + good, "refused TooLong", 1},
 		{"  " + good + blanks + "A", "refused TooLong", 1},
-		{"\n", "refused NotThreeParts", 1},
+		{"\n", "standard input has no token", 2},
 		{"\n" + good, "more than one line", 2},
 		{good + "\n\n", "more than one line", 2},
 		{good + "\r\n\r\n", "more than one line", 2},
@@ -88,7 +88,7 @@ func TestAnRSAKeyHasABound(t *testing.T) {
 	if err := os.WriteFile(file, []byte(bundle), 0o600); err != nil {
 		t.Fatal(err)
 	}
-	one, why := signed+"."+encode(signature), "the key's n has fewer than 2,048 bits, more than 4096, or more than 16,384"
+	one, why := signed+"."+encode(signature), "the key's n has more than the 4096 bits that were chosen"
 	for _, row := range []struct {
 		option []string
 		want   string
@@ -104,10 +104,14 @@ func TestAnRSAKeyHasABound(t *testing.T) {
 			t.Errorf("verify %q: %d %q", row.option, status, err)
 		}
 	}
-	p := start(t, bundleOption(file), "--replay", "reuse")
+	other, err := issuer.New("example.com")
+	if err != nil {
+		t.Fatal(err)
+	}
+	p := start(t, bundleOption(file), "--bundle=example.com="+bundleFile(t, other), "--replay", "reuse")
 	p.want(one, 401, "BadSignature")
 	over := p.events("key passed over")
-	if len(over) != 1 || !strings.Contains(fmt.Sprint(over[0]["why"]), why) || len(p.events("bundle has no key")) != 1 {
+	if len(over) != 2 || !strings.Contains(fmt.Sprint(over), why) || len(p.events("bundle has no key")) != 1 {
 		t.Errorf("the log has %v: %s", over, p.log)
 	}
 	p.end()
@@ -118,7 +122,7 @@ func TestAnRSAKeyHasABound(t *testing.T) {
 	}
 	p.end()
 	check := []string{"serve", "--check-config", "--audience", "a", "--longest", "60", "--replay", "reuse", bundleOption(file)}
-	if status, _, err := here("", check...); status != 0 || !strings.Contains(err, "warning") || !strings.Contains(err, "no key of it can be used") {
+	if status, _, err := here("", check...); status != 2 || !strings.Contains(err, "warning") || !strings.Contains(err, "no key of it can be used") {
 		t.Errorf("--check-config: %d %q", status, err)
 	}
 }

@@ -10,9 +10,9 @@ import (
 	"testing"
 	"time"
 
-	"svid.example/go/v2/internal/agenttest"
-	"svid.example/go/v2/internal/issuer"
-	"svid.example/go/v2/internal/patience"
+	"svid.example/go/v3/internal/agenttest"
+	"svid.example/go/v3/internal/issuer"
+	"svid.example/go/v3/internal/patience"
 )
 
 // agentBundles are an issuer's keys as the Workload API of SPIRE gives them: it names no use.

@@ -15,7 +15,7 @@ import (
 
 	_ "github.com/lib/pq" // speaks to the server
 
-	"svid.example/go/v2/internal/patience"
+	"svid.example/go/v3/internal/patience"
 )
 
 // postgresBin is where Debian has the programs of PostgreSQL.
@@ -232,7 +232,7 @@ func (s *Postgres) Answers() bool { return s.Do("SELECT 1") == nil }
 
 // Do sends a query, whose rows don't matter.
 func (s *Postgres) Do(query string, values ...any) error {
-	db, err := sql.Open("postgres", s.URL+"&connect_timeout=2")
+	db, err := sql.Open("postgres", s.URL+"&connect_timeout=30")
 	if err != nil {
 		return err
 	}

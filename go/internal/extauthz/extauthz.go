@@ -10,7 +10,7 @@ import (
 	"strings"
 	"unicode/utf8"
 
-	"svid.example/go/v2/internal/protowire"
+	"svid.example/go/v3/internal/protowire"
 )
 
 // Path is where a client of gRPC makes the call.

@@ -1,4 +1,4 @@
-// Package issuer makes tokens and trust bundles for tests and measurements.
+// Package issuer makes tokens and trust bundles: an Issuer for tests and measurements, and a Domain for svidd dev.
 package issuer
 
 import (
@@ -106,11 +106,17 @@ func (i *Issuer) signature(algorithm, signed string) []byte {
 	case "PS":
 		return must(rsa.SignPSS(rand.Reader, i.rsa, hash, sum, &rsa.PSSOptions{SaltLength: hash.Size()}))
 	}
-	key := i.ec[algorithm]
-	r, s, err := ecdsa.Sign(rand.Reader, key, sum)
+	return must(signedBy(i.ec[algorithm], hash, signed))
+}
+
+// signedBy is the signature of an EC key: r and s, each in full length.
+func signedBy(key *ecdsa.PrivateKey, hash crypto.Hash, signed string) ([]byte, error) {
+	r, s, err := ecdsa.Sign(rand.Reader, key, digest(hash, signed))
+	if err != nil {
+		return nil, err
+	}
 	size := (key.Params().BitSize + 7) / 8
-	must(r, err)
-	return append(r.FillBytes(make([]byte, size)), s.FillBytes(make([]byte, size))...)
+	return append(r.FillBytes(make([]byte, size)), s.FillBytes(make([]byte, size))...), nil
 }
 
 func digest(hash crypto.Hash, text string) []byte {

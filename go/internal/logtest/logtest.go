@@ -15,8 +15,8 @@ import (
 	"testing"
 	"time"
 
-	"svid.example/go/v2/carriers"
-	"svid.example/go/v2/internal/patience"
+	"svid.example/go/v3/carriers"
+	"svid.example/go/v3/internal/patience"
 )
 
 // Options say how a member joins.

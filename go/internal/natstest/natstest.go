@@ -5,8 +5,8 @@ import (
 	"testing"
 	"time"
 
-	"svid.example/go/v2/internal/broker"
-	"svid.example/go/v2/internal/patience"
+	"svid.example/go/v3/internal/broker"
+	"svid.example/go/v3/internal/patience"
 )
 
 // Start starts one server, with more words on its command line, and waits until JetStream answers.

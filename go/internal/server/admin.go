@@ -1,12 +1,13 @@
 package server
 
 import (
+	"context"
 	"encoding/json"
 	"errors"
 	"fmt"
 	"net/http"
 
-	"svid.example/go/v2/svid"
+	"svid.example/go/v3/svid"
 )
 
 // mostAdminBody is how many bytes of a request to the admin socket are read.
@@ -22,9 +23,16 @@ type Withdrawal struct {
 	Exp   uint64 `json:"exp,omitempty"`
 }
 
+// A Reloaded is the body of a good answer to POST /reload: which options changed, and which of those count only after a restart.
+type Reloaded struct {
+	Changed []string `json:"changed"`
+	Restart []string `json:"restart,omitempty"`
+}
+
 // Admin answers on the admin socket: POST /withdraw, POST /reload, GET /messages
 // (the whole record, as docs/FORMATS.md has messages), and what Handler has. Nothing of it may be reachable by who may not withdraw tokens.
-func (e *Engine) Admin(reload func()) http.Handler {
+// reload returns once what it is to read was read, or ctx has ended. Its error is the body of a 422.
+func (e *Engine) Admin(reload func(ctx context.Context) (Reloaded, error)) http.Handler {
 	mux := http.NewServeMux()
 	mux.HandleFunc("/withdraw", only(http.MethodPost, e.serveWithdraw))
 	mux.HandleFunc("/messages", only(http.MethodGet, func(w http.ResponseWriter, r *http.Request) {
@@ -34,8 +42,13 @@ func (e *Engine) Admin(reload func()) http.Handler {
 		}
 	}))
 	mux.HandleFunc("/reload", only(http.MethodPost, func(w http.ResponseWriter, r *http.Request) {
-		reload()
-		w.WriteHeader(http.StatusAccepted)
+		done, err := reload(r.Context())
+		if err != nil {
+			http.Error(w, err.Error(), http.StatusUnprocessableEntity)
+			return
+		}
+		w.Header().Set("Content-Type", "application/json")
+		_ = json.NewEncoder(w).Encode(done)
 	}))
 	mux.Handle("/", e.Handler())
 	return mux

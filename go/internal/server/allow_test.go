@@ -6,7 +6,7 @@ import (
 	"strings"
 	"testing"
 
-	"svid.example/go/v2/svid"
+	"svid.example/go/v3/svid"
 )
 
 // A caller that no pattern allows gets 403 for a good token, which is not used up; and for another one what anybody gets.

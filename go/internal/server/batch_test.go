@@ -1,6 +1,6 @@
 package server
 
-import "svid.example/go/v2/svid"
+import "svid.example/go/v3/svid"
 
 // batchOf is the use as a message.
 func batchOf(use svid.Use) []byte { return batchesOf([]svid.Use{use}) }

@@ -14,7 +14,7 @@ import (
 	"strings"
 )
 
-// A CallerRule says what names the caller of a request, in mode bound:
+// A CallerRule says what names the caller of a request, in modes bound and reuse:
 //
 //	address:HEADER  the one IP address of a header that the proxy sets on its request to /check
 //	peer            the address of the connection to Envoy, as Envoy says it by gRPC
@@ -99,7 +99,7 @@ func (c *CallerRule) String() string { return c.text }
 // OfEnvoy says whether Envoy alone names such callers, by gRPC.
 func (c *CallerRule) OfEnvoy() bool { return c.kind == "peer" || c.kind == "principal" }
 
-// A Caller is who presents a token, in mode bound.
+// A Caller is who presents a token, in modes bound and reuse.
 type Caller struct {
 	name   string   // for the log
 	digest [32]byte // tells it from all others
@@ -214,9 +214,9 @@ func (c *CallerRule) within(text, where string) Caller {
 	return callerBy("address", network.String())
 }
 
-// callerIn is the caller of a request to /check, in mode bound.
+// callerIn is the caller of a request to /check, where that counts.
 func (e *Engine) callerIn(header http.Header) Caller {
-	if e.Mode != Bound {
+	if !e.asksCaller() {
 		return Caller{}
 	}
 	return e.Caller.Of(header, Source{})
@@ -237,9 +237,9 @@ func CallerNamed(name string) Caller {
 	return callerBy("name", name)
 }
 
-// namedIn is the caller of WithCaller, in mode bound.
+// namedIn is the caller of WithCaller, where that counts.
 func (e *Engine) namedIn(ctx context.Context) Caller {
-	if e.Mode != Bound {
+	if !e.asksCaller() {
 		return Caller{}
 	}
 	if from, ok := ctx.Value(callerKey{}).(Caller); ok {

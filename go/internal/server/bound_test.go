@@ -14,9 +14,9 @@ import (
 	"testing"
 	"time"
 
-	"svid.example/go/v2/claims"
-	"svid.example/go/v2/claims/memory"
-	"svid.example/go/v2/svid"
+	"svid.example/go/v3/claims"
+	"svid.example/go/v3/claims/memory"
+	"svid.example/go/v3/svid"
 )
 
 // ruleOf is a rule that a test knows to be one.
@@ -119,7 +119,7 @@ func TestBoundAtOnce(t *testing.T) {
 	}
 }
 
-// Requests of one caller that come while the store is asked share its answer. One that comes later asks again.
+// Requests with one token that come while the store is asked share its answer, and so do those that come later, of whatever caller.
 func TestRequestsOfOneCallerShareAClaim(t *testing.T) {
 	all, store := bound(t, 1, "header:X-Caller")
 	e, one := all[0], token("a")
@@ -141,49 +141,11 @@ func TestRequestsOfOneCallerShareAClaim(t *testing.T) {
 	if n := store.puts(); n != 1 {
 		t.Errorf("%d requests of one caller took %d calls", waiters+1, n)
 	}
-	if err := by(e, "owner", one); err != nil || store.puts() != 2 {
+	if err := by(e, "owner", one); err != nil || store.puts() != 1 {
 		t.Errorf("later: %v, after %d calls", err, store.puts())
 	}
-	if err := by(e, "thief", one); err != svid.Replayed || store.puts() != 3 {
+	if err := by(e, "thief", one); err != svid.Replayed || store.puts() != 1 {
 		t.Errorf("a thief: %v, after %d calls", err, store.puts())
-	}
-}
-
-// An answer of the store is for those that came before it. A request of the owner that comes later asks again, though it waited for a thief that left.
-func TestAnAnswerIsForWhoCameBeforeIt(t *testing.T) {
-	all, store := bound(t, 1, "header:X-Caller")
-	e, one := all[0], token("a")
-	store.hold()
-	owner, thief, later := make(chan error, 1), make(chan error, 1), make(chan error, 1)
-	ctx, leave := context.WithCancel(WithCaller(context.Background(), CallerNamed("thief")))
-	defer leave()
-	go func() { owner <- by(e, "owner", one) }()
-	await(t, "the owner's claim", func() bool { return store.puts() == 1 })
-	go func() {
-		_, err := e.Check(ctx, one)
-		thief <- err
-	}()
-	await(t, "the thief to wait", func() bool { return withMachine(e, at(waiting)) == 1 })
-	store.mu.Lock()
-	first := store.held
-	store.held = make(chan struct{}) // The thief's claim has no answer.
-	store.mu.Unlock()
-	close(first)
-	if err := <-owner; err != nil {
-		t.Error(err)
-	}
-	await(t, "the thief's claim", func() bool { return store.puts() == 2 })
-	go func() { later <- by(e, "owner", one) }()
-	await(t, "the owner to wait", func() bool { return withMachine(e, at(waiting)) == 1 })
-	store.mu.Lock()
-	store.held = nil
-	store.mu.Unlock()
-	leave()
-	if err := <-thief; !errors.Is(err, context.Canceled) {
-		t.Error(err)
-	}
-	if err := <-later; err != nil || store.puts() != 3 {
-		t.Errorf("the owner, later: %v, after %d calls", err, store.puts())
 	}
 }
 
@@ -252,34 +214,57 @@ func TestBoundOverARestart(t *testing.T) {
 	}
 }
 
-// What the store answered to one thief counts for all of them, who so can't hold up the owner. It is no answer for the owner, who asks each time.
+// What the store answered to one thief counts for all of them, and for the owner: whose the token is does not change. So neither holds up the
+// other, and the owner goes on where the store is away, or has lost all since.
 func TestWhatAThiefWasAnswered(t *testing.T) {
-	all, store := bound(t, 1, "header:X-Caller")
-	e, one := all[0], token("a")
-	if err := by(e, "owner", one); err != nil {
+	all, store := bound(t, 2, "header:X-Caller")
+	one := token("a")
+	if err := by(all[0], "owner", one); err != nil {
 		t.Fatal(err)
 	}
-	for i, want := range []int{1, 0, 0} {
-		before := store.puts()
-		if err := by(e, "thief", one); err != svid.Replayed || store.puts()-before != want {
-			t.Errorf("the thief, time %d: %v, after %d calls", i, err, store.puts()-before)
-		}
-	}
+	e, before := all[1], store.puts() // where the owner was not yet
 	for i := 0; i < 6; i++ {
-		before, name := store.puts(), fmt.Sprint("thief ", i%2)
-		if err := by(e, name, one); err != svid.Replayed || store.puts() != before {
-			t.Errorf("%s, time %d: %v, after %d calls", name, i/2, err, store.puts()-before)
-		}
-	}
-	for i := 0; i < 3; i++ {
-		before := store.puts()
-		if err := by(e, "owner", one); err != nil || store.puts()-before != 1 {
-			t.Errorf("the owner, time %d: %v, after %d calls", i, err, store.puts()-before)
+		if err := by(e, fmt.Sprint("thief ", i%2), one); err != svid.Replayed || store.puts() != before+1 {
+			t.Errorf("thief %d, time %d: %v, after %d calls", i%2, i/2, err, store.puts()-before)
 		}
 	}
 	store.Lose(nil)
-	if err := by(e, "owner", one); !errors.Is(err, ErrLost) {
-		t.Errorf("the owner, when the store has lost all: %v", err)
+	e.lookAtStore() // as each second
+	for i := 0; i < 3; i++ {
+		if err := by(e, "owner", one); err != nil || store.puts() != before+1 {
+			t.Errorf("the owner, time %d: %v, after %d calls", i, err, store.puts()-before)
+		}
+	}
+	if err := by(e, "thief", one); err != svid.Replayed {
+		t.Errorf("a thief, when the store has lost all: %v", err)
+	}
+	next := store.use(t, ready(t, engine(t, inBound(t, "header:X-Caller", Options{ValidatorID: svid.ValidatorID{9}}))))
+	if err := by(next, "thief", one); !errors.Is(err, ErrLost) {
+		t.Errorf("a thief at a sidecar that knows nothing of the token: %v", err)
+	}
+}
+
+// While nobody reads the store's withdrawals, the store is asked about an owner again. So a sidecar that is cut off from it accepts nothing.
+func TestAnOwnerIsAskedAboutWhileTheStoreIsAway(t *testing.T) {
+	store := newShop()
+	e := store.use(t, ready(t, engine(t, inBound(t, "header:X-Caller", Options{Wait: 50 * time.Millisecond}))))
+	one := token("a")
+	await(t, "the owner to be accepted", func() bool { return by(e, "owner", one) == nil })
+	store.hold()
+	await(t, "the owner to be refused", func() bool { return by(e, "owner", one) != nil })
+	if err := by(e, "thief", one); err != svid.Replayed {
+		t.Errorf("a thief: %v", err)
+	}
+}
+
+// A token that may have been claimed before a loss of the store is refused for good, so the store is asked once.
+func TestALostTokenIsAskedOnce(t *testing.T) {
+	all, store := bound(t, 1, "header:X-Caller")
+	store.Lose(nil)
+	for i := 0; i < 3; i++ {
+		if err := by(all[0], "owner", token("a")); !errors.Is(err, ErrLost) || store.puts() != 1 {
+			t.Errorf("time %d: %v, after %d calls", i, err, store.puts())
+		}
 	}
 }
 
@@ -423,7 +408,7 @@ func TestReadyInBound(t *testing.T) {
 	if known := withMachine(e, func(m *Machine) svid.Known { return m.known }); !known.Deaf || known.Away || !known.Heard {
 		t.Errorf("with a store that has lost entries: %+v", known)
 	}
-	e.storeAnswered(errors.New("connection lost"))
+	e.storeAnswered(time.Now(), errors.New("connection lost"))
 	await(t, "the store to be away for longer than a request waits", func() bool {
 		_ = e.Ready()
 		return withMachine(e, func(m *Machine) bool { return m.known.Away })

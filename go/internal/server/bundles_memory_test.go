@@ -8,9 +8,9 @@ import (
 	"fmt"
 	"testing"
 
-	"svid.example/go/v2/internal/issuer"
-	"svid.example/go/v2/internal/scarce"
-	"svid.example/go/v2/svid"
+	"svid.example/go/v3/internal/issuer"
+	"svid.example/go/v3/internal/scarce"
+	"svid.example/go/v3/svid"
 )
 
 // Where there is no memory for new bundles, or for none, the engine is as ready as before, and judges by the old ones: checks do,

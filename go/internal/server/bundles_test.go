@@ -7,8 +7,8 @@ import (
 	"testing"
 	"time"
 
-	"svid.example/go/v2/internal/issuer"
-	"svid.example/go/v2/svid"
+	"svid.example/go/v3/internal/issuer"
+	"svid.example/go/v3/svid"
 )
 
 // A claim whose bundles were replaced since it was judged is judged by its token again, before its value is read.
@@ -30,7 +30,7 @@ func TestAClaimWhoseBundlesAreReplaced(t *testing.T) {
 		e := all[0]
 		release := store.hold()
 		answer := claimed(t, store, e, token("a"))
-		bundles := map[string]json.RawMessage{"example.com": json.RawMessage(`{"keys":[]}`)}
+		bundles := map[string]json.RawMessage{"example.com": other.JWKSet()}
 		if row.bundle != nil {
 			bundles["example.org"] = row.bundle
 		}

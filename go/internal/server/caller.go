@@ -12,7 +12,7 @@ import (
 	"time"
 )
 
-// A caller is who sent a request. Of it, only bound decides something, and that in mode bound alone.
+// A caller is who sent a request. Of it, only bound decides something, and that in mode bound alone. In mode reuse it is reported.
 type caller struct {
 	request string // the name of the request, which its answer has too
 	client  string // the address of the client, for the log

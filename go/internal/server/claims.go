@@ -3,8 +3,8 @@ package server
 import (
 	"time"
 
-	"svid.example/go/v2/claims"
-	"svid.example/go/v2/svid"
+	"svid.example/go/v3/claims"
+	"svid.example/go/v3/svid"
 )
 
 // A Batch is claims that go to the store in one call: the effect PutClaims puts them, and sets Found.
@@ -34,7 +34,7 @@ type claimQueue struct {
 	pacing  *svid.Pacing
 	waiting []*Request // these wait for a call; some may be answered by then
 	later   []retry    // these had no answer
-	lost    lostClaims
+	known   knownClaims
 }
 
 // A retry is requests whose claims are put again at a time.
@@ -44,7 +44,7 @@ type retry struct {
 }
 
 func newClaimQueue(now time.Duration) claimQueue {
-	return claimQueue{pacing: svid.NewPacing(), lost: newLostClaims(now)}
+	return claimQueue{pacing: svid.NewPacing(), known: newKnownClaims(now)}
 }
 
 // take takes out as many claims as a call may have.
@@ -86,27 +86,15 @@ func (c *claimQueue) due() time.Duration {
 	return due
 }
 
-// openClaim lets the claim of a request wait for a call, unless the store has said before that the token is another's: it stays that.
+// openClaim lets the claim of a request wait for a call, unless the store has said before whose the token is: it stays that.
 func (m *Machine) openClaim(r *Request, use svid.Use) {
 	r.claim = claims.Claim{Key: use.Key, Owner: m.ownerOf(r, use.Expires), Expires: use.Expires}
-	if found, lost := m.claims.lost.find(&r.claim); lost {
+	if found, known := m.claims.known.find(&r.claim); known && (found.Owner != r.claim.Owner || m.hears()) {
 		m.found(r, found)
-		return
-	}
-	if s := r.shared; s != nil && s.claim == r.claim && r.came <= s.at {
-		m.found(r, s.found)
 		return
 	}
 	r.stage = claiming
 	m.claims.waiting = append(m.claims.waiting, r)
-}
-
-// An answeredClaim is what the store answered, in mode bound, to a claim that others waited for. It is an answer to those of them that would put the
-// same claim, and that came before it: so many requests of one caller share a put. Each waiting request hands it on to the next one.
-type answeredClaim struct {
-	claim claims.Claim
-	found svid.Found
-	at    time.Duration // when the answer came, by Time.Up
 }
 
 // ownerOf is for whom the token of a request is claimed: for this life, and in mode bound for the caller.
@@ -148,11 +136,7 @@ func (b Claimed) happen(m *Machine) {
 		switch {
 		case r.answered:
 		case found.Err == nil:
-			answer := svid.Found{Owner: found.Owner, Time: found.Time, Deaf: found.Deaf}
-			if m.Mode == Bound {
-				r.shared = &answeredClaim{r.claim, answer, m.now.Up}
-			}
-			m.found(r, answer)
+			m.found(r, svid.Found{Owner: found.Owner, Time: found.Time, Deaf: found.Deaf})
 		default:
 			r.fault = found.Err
 			again = append(again, r)
@@ -170,11 +154,15 @@ func (b Claimed) happen(m *Machine) {
 // found tells the member what the store answered to the claim of a request.
 func (m *Machine) found(r *Request, found svid.Found) {
 	accepted, deed, err := m.validator.Found(m.now.Wall, m.now.Up, r.number, r.Caller, found, &r.read)
-	if err == svid.Replayed && found.Owner != r.claim.Owner {
-		if r.Other = m.Mode == Bound; !r.Other { // (The owner in mode bound is a digest, and names nobody.)
-			r.Owner = found.Owner.ValidatorID()
-		}
-		m.claims.lost.add(m.now.Up, &r.claim, found)
+	lost := err == svid.Replayed && found.Owner != r.claim.Owner
+	switch {
+	case lost && m.Mode == Bound: // (The owner is a digest, and names nobody.)
+		r.Other = true
+	case lost:
+		r.Owner = found.Owner.ValidatorID()
+	}
+	if lost || m.Mode == Bound && (err == nil || err == svid.ErrClaimDeaf) {
+		m.claims.known.add(m.now.Up, &r.claim, found)
 	}
 	m.judged(r, accepted, deed, err)
 }
@@ -191,41 +179,42 @@ func (m *Machine) count(err error) {
 	}
 }
 
-// lostClaims are what the store answered to claims of tokens that others have claimed: the next try of one asks no store, whoever makes it. The
-// answer does not count for the token's owner, who in mode bound asks the store each time. There are two generations, so that dropping the old ones
-// takes one step.
-type lostClaims struct {
-	young, old map[svid.TokenKey]lostClaim
+// knownClaims are what the store answered to claims of tokens that others have claimed, and in mode bound to those of a token's owner too. The entry
+// of a token stays until the token has expired, so the next request with it asks no store, whoever makes it: the library takes any answer to a put of
+// the token's key. Whether the token was withdrawn since is read from the store's list, so an owner is asked about again while nobody reads that. There
+// are two generations, so that dropping the old ones takes one step.
+type knownClaims struct {
+	young, old map[svid.TokenKey]knownClaim
 	turned     time.Duration
 }
 
-type lostClaim struct {
+type knownClaim struct {
 	expires uint64
 	found   svid.Found
 }
 
 const (
-	// mostLost is how many there are in a generation.
-	mostLost = 1 << 16
-	// lostLook is how often expired tokens of other owners are dropped.
-	lostLook = time.Minute
+	// mostKnown is how many there are in a generation.
+	mostKnown = 1 << 16
+	// knownFor is for how long a generation grows.
+	knownFor = time.Minute
 )
 
-func newLostClaims(now time.Duration) lostClaims {
-	return lostClaims{young: map[svid.TokenKey]lostClaim{}, turned: now}
+func newKnownClaims(now time.Duration) knownClaims {
+	return knownClaims{young: map[svid.TokenKey]knownClaim{}, turned: now}
 }
 
-func (l *lostClaims) add(now time.Duration, claim *claims.Claim, found svid.Found) {
-	if len(l.young) >= mostLost || now-l.turned > lostLook && len(l.young) > 0 {
-		l.young, l.old, l.turned = map[svid.TokenKey]lostClaim{}, l.young, now
+func (k *knownClaims) add(now time.Duration, claim *claims.Claim, found svid.Found) {
+	if len(k.young) >= mostKnown || now-k.turned > knownFor && len(k.young) > 0 {
+		k.young, k.old, k.turned = map[svid.TokenKey]knownClaim{}, k.young, now
 	}
-	l.young[claim.Key] = lostClaim{claim.Expires, found}
+	k.young[claim.Key] = knownClaim{claim.Expires, found}
 }
 
-func (l *lostClaims) find(claim *claims.Claim) (found svid.Found, lost bool) {
-	is, lost := l.young[claim.Key]
-	if !lost {
-		is, lost = l.old[claim.Key]
+func (k *knownClaims) find(claim *claims.Claim) (found svid.Found, known bool) {
+	is, known := k.young[claim.Key]
+	if !known {
+		is, known = k.old[claim.Key]
 	}
-	return is.found, lost && is.expires == claim.Expires && is.found.Owner != claim.Owner
+	return is.found, known && is.expires == claim.Expires
 }

@@ -12,8 +12,8 @@ import (
 	"testing"
 	"time"
 
-	"svid.example/go/v2/carriers"
-	"svid.example/go/v2/svid"
+	"svid.example/go/v3/carriers"
+	"svid.example/go/v3/svid"
 )
 
 // What comes while the clock is too far ahead waits until it is right, however often that is looked at meanwhile.

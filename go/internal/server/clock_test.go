@@ -5,7 +5,7 @@ import (
 	"sync/atomic"
 	"testing"
 
-	"svid.example/go/v2/svid"
+	"svid.example/go/v3/svid"
 )
 
 // A clock that goes back lets no token be used twice: the record stays at the time that it has seen.

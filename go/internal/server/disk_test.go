@@ -13,9 +13,9 @@ import (
 	"time"
 	"unsafe"
 
-	"svid.example/go/v2/internal/patience"
-	"svid.example/go/v2/journal"
-	"svid.example/go/v2/svid"
+	"svid.example/go/v3/internal/patience"
+	"svid.example/go/v3/journal"
+	"svid.example/go/v3/svid"
 )
 
 // The disk hangs: each request ends in time, with 503. Its token is burnt, here and, where the disk had the use after all,
@@ -236,7 +236,7 @@ func TestAClientHearsAWordOfWhatFailed(t *testing.T) {
 		{"NotReady", func(t *testing.T, log *Log) *Engine { return engine(t, Options{Mode: Once, Log: log}) }},
 		{"NoBundle", func(t *testing.T, log *Log) *Engine {
 			e := engine(t, Options{Mode: Once, Domains: []string{"example.org"}, Log: log})
-			if err := e.SetBundles(map[string]json.RawMessage{"example.com": json.RawMessage(`{"keys":[]}`)}); err != nil {
+			if err := e.SetBundles(map[string]json.RawMessage{"example.com": example.JWKSet()}); err != nil {
 				t.Fatal(err)
 			}
 			if err := e.Load(nil); err != nil {

@@ -17,10 +17,10 @@ import (
 	"sync/atomic"
 	"time"
 
-	"svid.example/go/v2/carriers"
-	"svid.example/go/v2/claims"
-	"svid.example/go/v2/svid"
-	"svid.example/go/v2/svidhttp"
+	"svid.example/go/v3/carriers"
+	"svid.example/go/v3/claims"
+	"svid.example/go/v3/svid"
+	"svid.example/go/v3/svidhttp"
 )
 
 // A Mode is what an acceptance means for the next time that the token comes.
@@ -71,7 +71,7 @@ type Group interface {
 // Options of an Engine.
 type Options struct {
 	Mode        Mode
-	Caller      *CallerRule // in mode Bound: what names the caller of a request; nil where WithCaller alone does
+	Caller      *CallerRule // in modes Bound and Reuse: what names the caller of a request; nil where WithCaller alone does, and in Reuse where nobody asks
 	Audiences   []string    // until SetRules
 	Allow       []string    // patterns of the SPIFFE IDs that may call (svid.Allows), until SetRules; nil allows all
 	Domains     []string    // trust domains that are to have a bundle: until one has, its tokens can't be judged
@@ -94,17 +94,22 @@ type Options struct {
 // An Engine judges tokens: it runs a Machine. Its methods may be called by many goroutines at once.
 type Engine struct {
 	Options
-	Metrics   Metrics
+	Metrics Metrics
+	// Missing returns what is wrong with a source of trust bundles, and nil where nothing is known of that. It is set before the first request,
+	// or stays nil.
+	Missing   func() error
 	keyring   *svid.Keyring
 	validator *svid.Validator
 	group     atomic.Pointer[joined]
 	store     atomic.Pointer[reached]
 	caughtUp  atomic.Bool // the machine knows that the group's bucket is read
 	renewing  sync.Mutex  // held while bundles are replaced
-	start     time.Time   // when Time.Up is 0
+	usable    atomic.Pointer[usable]
+	start     time.Time // when Time.Up is 0
 	outlook   outlook
 	pulse     pulse
 	verified  *verified                // in modes reuse and bound
+	firsts    firsts                   // in mode reuse with Options.Caller
 	toHave    atomic.Pointer[[]string] // trust domains that are to have a bundle; nil while Options.Domains counts
 	isReal    bool                     // Options.Now was not given
 
@@ -161,6 +166,7 @@ func NewEngine(o Options) (*Engine, error) {
 	e := &Engine{Options: o, keyring: keyring, validator: validator, start: time.Now(), isReal: isReal, armed: never,
 		verified: newVerified(), ending: make(chan struct{}), ended: make(chan struct{})}
 	e.life, e.end = context.WithCancel(context.Background())
+	e.usable.Store(&usable{})
 	if e.machine, err = newMachine(&e.Options, &e.Metrics, validator, e.time()); err != nil {
 		e.end()
 		keyring.Close()
@@ -409,23 +415,35 @@ func (c *counter) Write(bytes []byte) (int, error) {
 // SetBundles replaces the trust bundles, given by trust domain. On an error the
 // old ones stay.
 func (e *Engine) SetBundles(domains map[string]json.RawMessage) error {
-	bundles, err := json.Marshal(domains)
+	text, err := json.Marshal(domains)
 	if err != nil {
 		return fmt.Errorf("bundles: %w", err)
 	}
+	usable, err := e.usableOf(domains)
+	if err != nil {
+		return err
+	}
 	e.renewing.Lock()
 	defer e.renewing.Unlock()
-	before, after := e.isBundled(), len(domains) > 0
-	if !after {
+	if len(domains) == 0 {
 		e.step(Bundled(false)) // No token can be accepted from here on, and it is not the tokens' fault.
 	}
-	if err = e.validator.Renew(e.keyring, bundles); err != nil {
-		after = before
-	} else {
+	if err = e.validator.Renew(e.keyring, text); err == nil {
 		e.verified.clear()
+		e.usable.Store(usable)
 	}
-	e.step(Bundled(after))
+	e.tellUsable()
 	return err
+}
+
+// tellUsable tells the machine whether a token can be accepted by the trust bundles. The caller holds renewing.
+func (e *Engine) tellUsable() {
+	u := e.usable.Load()
+	if why := u.useless(); why != "" {
+		e.step(Useless(why))
+	} else {
+		e.step(Bundled(len(u.keys) > 0))
+	}
 }
 
 // SetRules lets tokens for these audiences, and of callers of these patterns, be accepted from now on, and no others. On an error
@@ -472,6 +490,23 @@ func (e *Engine) Ready() error {
 	if e.folderMoved() {
 		return errMoved
 	}
+	switch err := e.readyNow(); {
+	case err == errAway:
+		return e.whyAway()
+	case err == errNoBundles && e.Missing != nil:
+		if why := e.Missing(); why != nil {
+			return fmt.Errorf("%w: %v", err, why)
+		}
+		return err
+	case err != nil:
+		return err
+	case e.isStarved():
+		return errStarved
+	}
+	return e.usable.Load().noCaller(e.rulesNow().Allow)
+}
+
+func (e *Engine) readyNow() error {
 	now := e.time()
 	e.mu.Lock()
 	defer e.mu.Unlock()
@@ -495,9 +530,9 @@ func (e *Engine) isBundled() bool {
 	return withMachine(e, func(m *Machine) bool { return m.known.Bundled })
 }
 
-// audiences are those that count.
-func (e *Engine) audiences() []string {
-	return withMachine(e, func(m *Machine) []string { return m.rules.Audiences })
+// rulesNow are those that count.
+func (e *Engine) rulesNow() *Rules {
+	return withMachine(e, func(m *Machine) *Rules { return m.rules })
 }
 
 // Check judges a token, and makes an acceptance last as the mode says. The error
@@ -528,6 +563,7 @@ func (e *Engine) judge(ctx context.Context, from Caller, v *verdict) *Rules {
 	}
 	if e.Mode.comesAgain() && r.Err == nil {
 		e.verified.keep(r.recalled, v.token, r.Key)
+		e.noteCaller(from, r.Accepted.Use, v.token)
 	}
 	v.accepted, v.owner, v.other, v.err = r.Accepted, r.Owner, r.Other, e.ofBundles(v.token, r.Err)
 	return r.rules
@@ -601,7 +637,7 @@ func (e *Engine) Find(token string) (svid.Use, error) {
 	if _, refused := refusalOf(err); err != nil && !refused {
 		return svid.Use{}, err
 	}
-	judged, err := e.keyring.Judge(svid.Judgment{Audiences: e.audiences(), Longest: svid.NoLimit, ValidatorID: e.ValidatorID}, e.Now(), token, yes)
+	judged, err := e.keyring.Judge(svid.Judgment{Audiences: e.rulesNow().Audiences, Longest: svid.NoLimit, ValidatorID: e.ValidatorID}, e.Now(), token, yes)
 	return judged.Use, err
 }
 

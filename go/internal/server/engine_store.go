@@ -2,10 +2,14 @@ package server
 
 import (
 	"context"
+	"crypto/rand"
 	"errors"
+	"fmt"
 	"time"
 
-	"svid.example/go/v2/claims"
+	"svid.example/go/v3/claims"
+	"svid.example/go/v3/internal/brief"
+	"svid.example/go/v3/svid"
 )
 
 // UseStore lets the engine claim tokens at the group's store, which was opened. But for mode strict, it reads the withdrawals that the store has.
@@ -19,8 +23,41 @@ func (e *Engine) UseStore(store claims.Store, state claims.State) {
 func (e *Engine) put(b *Batch) {
 	ctx, cancel := context.WithTimeout(e.life, b.Within)
 	defer cancel()
+	from := time.Now()
 	e.store.Load().Put(ctx, b.Claims, b.Found)
+	e.noteClaims(from, b.Found)
 	e.step(Claimed{b})
+}
+
+// noteClaims takes note of whether the store takes claims, which were put at a time.
+func (e *Engine) noteClaims(from time.Time, found []claims.Found) {
+	for i := range found {
+		if found[i].Err == nil {
+			e.outlook.claims.Store(nil)
+			return
+		}
+	}
+	if len(found) > 0 {
+		e.outlook.claims.CompareAndSwap(nil, &absence{from, found[0].Err})
+	}
+}
+
+// tryLife is how many seconds a claim lives by which a member sees whether a store takes claims again.
+const tryLife = 60
+
+// tryClaim puts a claim of no token into a store that answers, and took no claim before: nobody sends tokens to an unready sidecar.
+func (e *Engine) tryClaim(ctx context.Context, store claims.Store) {
+	if e.outlook.claims.Load() == nil {
+		return
+	}
+	one := claims.Claim{Expires: e.Now() + tryLife}
+	if _, err := rand.Read(one.Key[:]); err != nil {
+		return // It is tried again.
+	}
+	one.Owner = svid.OwnerOfLife(e.ValidatorID, e.Life, one.Expires)
+	from, found := time.Now(), make([]claims.Found, 1)
+	store.Put(ctx, []claims.Claim{one}, found)
+	e.noteClaims(from, found)
 }
 
 // errNoStore: a withdrawal comes before the store was reached.
@@ -54,11 +91,13 @@ func (e *Engine) lookAtStore() {
 	}
 	e.outlook.looking.Lock()
 	defer e.outlook.looking.Unlock()
+	from := time.Now()
 	ctx, cancel := e.within(lookWithin)
 	defer cancel()
 	state, err := store.State(ctx)
 	if err == nil {
 		e.step(Looked{state})
+		e.tryClaim(ctx, store)
 	}
 	if e.Mode != Strict {
 		if heard := e.hearFromStore(store); err == nil {
@@ -68,7 +107,7 @@ func (e *Engine) lookAtStore() {
 	if e.life.Err() != nil {
 		return // It is the engine that ends.
 	}
-	e.storeAnswered(err)
+	e.storeAnswered(from, err)
 }
 
 // within is a context that ends with the engine, after most, or after Options.Wait where that is less.
@@ -103,22 +142,34 @@ func (e *Engine) hearFromStore(store claims.Store) error {
 	}
 }
 
-// storeAnswered takes note of whether the store is there, and logs a change.
-func (e *Engine) storeAnswered(err error) {
+// storeAnswered takes note of whether the store answered a look that began at a time, and logs a change.
+func (e *Engine) storeAnswered(from time.Time, err error) {
 	o := &e.outlook
 	if err == nil {
-		if o.away.Swap(nil); o.said {
-			e.Log.Event("ready")
+		o.away.Store(nil)
+		if claims := o.claims.Load(); claims != nil {
+			err = claims.why
 		}
-		o.said = false
-		return
+	} else {
+		o.away.CompareAndSwap(nil, &absence{from, err})
 	}
-	if o.away.Load() == nil {
-		now := time.Now()
-		o.away.Store(&now)
-	}
-	if e.isAway() && !o.said {
+	switch isAway := e.isAway(); {
+	case isAway && !o.said:
 		o.said = true
-		e.Log.Error("unready", errAway, "why", err)
+		e.Log.Error("unready", e.whyAway())
+	case err == nil && o.said:
+		o.said = false
+		e.Log.Event("ready")
 	}
+}
+
+// whyAway says why no token can be claimed: the store does not answer, or takes no claims.
+func (e *Engine) whyAway() error {
+	if away := e.outlook.away.Load(); away != nil {
+		return fmt.Errorf("%w: %v", errAway, brief.Error(away.why))
+	}
+	if claims := e.outlook.claims.Load(); claims != nil {
+		return fmt.Errorf("the group's store takes no claims: %w", brief.Error(claims.why))
+	}
+	return errAway
 }

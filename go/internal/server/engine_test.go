@@ -15,9 +15,9 @@ import (
 	"sync"
 	"testing"
 
-	"svid.example/go/v2/carriers"
-	"svid.example/go/v2/internal/issuer"
-	"svid.example/go/v2/svid"
+	"svid.example/go/v3/carriers"
+	"svid.example/go/v3/internal/issuer"
+	"svid.example/go/v3/svid"
 )
 
 // While the state folder's messages are taken, and behind a failure, nothing is judged: a token that they have as used could

@@ -10,8 +10,8 @@ import (
 	"strconv"
 	"strings"
 
-	"svid.example/go/v2/internal/extauthz"
-	"svid.example/go/v2/svidhttp"
+	"svid.example/go/v3/internal/extauthz"
+	"svid.example/go/v3/svidhttp"
 )
 
 // MaxEnvoy is how many bytes a CheckRequest of Envoy may have: the headers of a request, and what Envoy says beside them.
@@ -74,7 +74,7 @@ func (e *Engine) checkEnvoy(r *http.Request) (answer []byte, fault *grpcFault) {
 	}
 	asked, err := extauthz.ReadHeaders(message, "authorization", "x-request-id", "x-forwarded-for")
 	var from Caller
-	if err == nil && e.Mode == Bound {
+	if err == nil && e.asksCaller() {
 		var source extauthz.Source
 		source, err = extauthz.ReadSource(message)
 		from = e.Caller.ByEnvoy(Source(source))

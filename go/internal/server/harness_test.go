@@ -11,12 +11,12 @@ import (
 	"testing"
 	"time"
 
-	"svid.example/go/v2/carriers"
-	"svid.example/go/v2/claims"
-	"svid.example/go/v2/claims/memory"
-	"svid.example/go/v2/internal/issuer"
-	"svid.example/go/v2/internal/patience"
-	"svid.example/go/v2/svid"
+	"svid.example/go/v3/carriers"
+	"svid.example/go/v3/claims"
+	"svid.example/go/v3/claims/memory"
+	"svid.example/go/v3/internal/issuer"
+	"svid.example/go/v3/internal/patience"
+	"svid.example/go/v3/svid"
 )
 
 const moment = 1_767_225_600

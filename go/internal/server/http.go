@@ -8,8 +8,8 @@ import (
 	"strings"
 	"time"
 
-	"svid.example/go/v2/svid"
-	"svid.example/go/v2/svidhttp"
+	"svid.example/go/v3/svid"
+	"svid.example/go/v3/svidhttp"
 )
 
 // refusalOf finds the refusal in an error.
@@ -114,6 +114,7 @@ func (e *Engine) judgeToken(ctx context.Context, who caller, token string) verdi
 func (e *Engine) note(from time.Time, who caller, v verdict) {
 	took := time.Since(from)
 	e.Metrics.observe(v.err, took)
+	e.noteMemory(v.err)
 	e.logDecision(from, took, who, v)
 }
 

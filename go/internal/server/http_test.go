@@ -2,12 +2,14 @@ package server
 
 import (
 	"bytes"
+	"context"
+	"errors"
 	"fmt"
 	"net/http/httptest"
 	"strings"
 	"testing"
 
-	"svid.example/go/v2/svid"
+	"svid.example/go/v3/svid"
 )
 
 // The key in the log of a refused token is the one that the validator gives it.
@@ -85,7 +87,12 @@ func TestRequests(t *testing.T) {
 func TestTheAdminSocketsRequests(t *testing.T) {
 	e := ready(t, engine(t, Options{Mode: Once}))
 	reloads := 0
-	h := e.Admin(func() { reloads++ })
+	h := e.Admin(func(context.Context) (Reloaded, error) {
+		if reloads++; reloads > 1 {
+			return Reloaded{}, errors.New("--audience is missing")
+		}
+		return Reloaded{Changed: []string{"allow"}}, nil
+	})
 	post := func(body string) *httptest.ResponseRecorder {
 		w := httptest.NewRecorder()
 		h.ServeHTTP(w, httptest.NewRequest("POST", "/withdraw", strings.NewReader(body)))
@@ -108,7 +115,7 @@ func TestTheAdminSocketsRequests(t *testing.T) {
 	if w := request(h, "GET", "/withdraw"); w.Code != 405 {
 		t.Errorf("GET /withdraw: %d", w.Code)
 	}
-	if w := request(h, "POST", "/reload"); w.Code != 202 || reloads != 1 {
+	if w := request(h, "POST", "/reload"); w.Code != 200 || w.Body.String() != `{"changed":["allow"]}`+"\n" || reloads != 1 {
 		t.Errorf("reload: %d, %d times", w.Code, reloads)
 	}
 	w := request(h, "GET", "/messages")

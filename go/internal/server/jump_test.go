@@ -7,7 +7,7 @@ import (
 	"testing"
 	"time"
 
-	"svid.example/go/v2/svid"
+	"svid.example/go/v3/svid"
 )
 
 // A clock that jumps ahead expires nothing. While it is there no token is judged, and when it has come back all is as before. If

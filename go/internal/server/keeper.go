@@ -6,7 +6,7 @@ import (
 	"fmt"
 	"time"
 
-	"svid.example/go/v2/svid"
+	"svid.example/go/v3/svid"
 )
 
 // keepPause is between two writes for which no answer waits: what comes meanwhile shares the next one.

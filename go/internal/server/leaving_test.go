@@ -8,7 +8,7 @@ import (
 	"testing"
 	"time"
 
-	"svid.example/go/v2/internal/patience"
+	"svid.example/go/v3/internal/patience"
 )
 
 // checkLooking is a check in a goroutine, by a context that says how often it was asked and whether the client has left.

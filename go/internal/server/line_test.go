@@ -6,8 +6,8 @@ import (
 	"testing"
 	"time"
 
-	"svid.example/go/v2/claims"
-	"svid.example/go/v2/svid"
+	"svid.example/go/v3/claims"
+	"svid.example/go/v3/svid"
 )
 
 // Where a claim ends and nothing is known of the token, one request of those that wait claims it, and the others wait for that one: no

@@ -5,15 +5,16 @@ import (
 	"errors"
 	"io"
 	"log"
+	"net/netip"
 	"strconv"
 	"strings"
 	"sync"
 	"sync/atomic"
 	"time"
 
-	"svid.example/go/v2/internal/brief"
-	"svid.example/go/v2/internal/jsontext"
-	"svid.example/go/v2/svid"
+	"svid.example/go/v3/internal/brief"
+	"svid.example/go/v3/internal/jsontext"
+	"svid.example/go/v3/svid"
 )
 
 // A Level is how much a Log writes.
@@ -33,10 +34,11 @@ func (l Level) String() string { return [...]string{"error", "info", "debug"}[l]
 // Its methods may be called by many goroutines at once; those of a nil Log do
 // nothing.
 type Log struct {
-	level atomic.Int32
-	mu    sync.Mutex
-	out   io.Writer
-	room  []byte // for the line of a decision; guarded by mu
+	level     atomic.Int32
+	addresses atomic.Int32
+	mu        sync.Mutex
+	out       io.Writer
+	room      []byte // for the line of a decision; guarded by mu
 }
 
 // NewLog returns a log that writes to out what the level has. Its callers wait for
@@ -137,6 +139,48 @@ func (l *Log) line(value any) {
 	_, _ = l.out.Write(append(jsontext.Printable(text), '\n'))
 }
 
+// Addresses say how lines of decisions have the addresses of clients and callers.
+type Addresses int32
+
+// The ways to have them.
+const (
+	Whole   Addresses = iota // as they are
+	Network                  // 24 bits of an IPv4 address, and 48 bits of an IPv6 address: 192.0.2.0/24
+	None                     // not at all
+)
+
+// SetAddresses lets lines have addresses so from now on.
+func (l *Log) SetAddresses(how Addresses) {
+	if l != nil {
+		l.addresses.Store(int32(how))
+	}
+}
+
+// address is a text as lines have it, if it is an address or a network. Any other text stays, such as the name of a certificate.
+func (l *Log) address(text string) string {
+	how := Addresses(l.addresses.Load())
+	if how == Whole || text == "" {
+		return text
+	}
+	of, _, _ := strings.Cut(text, "/") // (a network may be a caller)
+	address, err := netip.ParseAddr(of)
+	switch {
+	case err != nil:
+		return text
+	case how == None:
+		return ""
+	}
+	bits := 48
+	if address.Unmap().Is4() {
+		bits = 24
+	}
+	network, err := address.Unmap().Prefix(bits)
+	if err != nil {
+		return ""
+	}
+	return network.String()
+}
+
 // decide writes the line of a decision, in the order of its fields. Those that are empty are left out, but for the first three,
 // Request, ValidatorID and Micros.
 func (l *Log) decide(d *decision) {
@@ -157,8 +201,8 @@ func (l *Log) decide(d *decision) {
 		line = appendDigits(line, "key", d.Key[:])
 	}
 	line = appendMember(line, "request", d.Request)
-	line = appendUnlessEmpty(line, "client", d.Client)
-	line = appendUnlessEmpty(line, "caller", d.Caller)
+	line = appendUnlessEmpty(line, "client", l.address(d.Client))
+	line = appendUnlessEmpty(line, "caller", l.address(d.Caller))
 	line = appendDigits(line, "validator_id", d.ValidatorID[:])
 	if d.UsedBy != (svid.ValidatorID{}) {
 		line = appendDigits(line, "used_by", d.UsedBy[:])
@@ -217,7 +261,7 @@ type decision struct {
 	Key         *svid.TokenKey
 	Request     string
 	Client      string // "" where a service asks by Engine.Check
-	Caller      string // "" in other modes than bound
+	Caller      string // "" in other modes than bound and reuse
 	ValidatorID svid.ValidatorID
 	UsedBy      svid.ValidatorID // who has the token's claim, where it is another one's; else zeros
 	Claimed     *unverified      // what a refused token says of itself

@@ -2,13 +2,14 @@ package server
 
 import (
 	"bytes"
+	"encoding/json"
 	"errors"
 	"strings"
 	"testing"
 	"time"
 	"unicode"
 
-	"svid.example/go/v2/svid"
+	"svid.example/go/v3/svid"
 )
 
 func TestTheLogHasItsLevels(t *testing.T) {
@@ -88,4 +89,32 @@ func TestNoLineCommandsATerminal(t *testing.T) {
 	if strings.IndexFunc(said, func(r rune) bool { return r != '\n' && !unicode.IsPrint(r) }) >= 0 || strings.Count(said, `\u009b2J\u007f`) != 2 {
 		t.Errorf("%q", said)
 	}
+}
+
+// Lines have addresses of clients and callers whole, as networks, or not at all. Another name of a caller stays.
+func TestAddressesInLines(t *testing.T) {
+	for _, c := range []struct {
+		how        Addresses
+		text, want string
+	}{
+		{Whole, "192.0.2.77", "192.0.2.77"}, {Network, "192.0.2.77", "192.0.2.0/24"}, {None, "192.0.2.77", ""},
+		{Network, "2001:db8:1:2::3", "2001:db8:1::/48"}, {None, "2001:db8:1:2::3", ""}, {Network, "::ffff:192.0.2.77", "192.0.2.0/24"},
+		{Network, "192.0.2.64/26", "192.0.2.0/24"}, {None, "192.0.2.64/26", ""}, {Whole, "192.0.2.64/26", "192.0.2.64/26"},
+		{None, "spiffe://example.org/web", "spiffe://example.org/web"}, {Network, "sha256:00", "sha256:00"}, {None, "unix", "unix"}, {None, "", ""},
+	} {
+		var out bytes.Buffer
+		log := NewLog(&out, Decisions)
+		log.SetAddresses(c.how)
+		log.decide(&decision{Client: c.text, Caller: c.text})
+		var line map[string]any
+		if err := json.Unmarshal(out.Bytes(), &line); err != nil {
+			t.Fatal(err)
+		}
+		for _, name := range []string{"client", "caller"} {
+			if got, is := line[name]; is != (c.want != "") || is && got != c.want {
+				t.Errorf("%s %s, %d: %v", name, c.text, c.how, got)
+			}
+		}
+	}
+	(*Log)(nil).SetAddresses(None)
 }

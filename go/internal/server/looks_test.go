@@ -7,9 +7,9 @@ import (
 	"testing"
 	"time"
 
-	"svid.example/go/v2/claims"
-	"svid.example/go/v2/internal/patience"
-	"svid.example/go/v2/svid"
+	"svid.example/go/v3/claims"
+	"svid.example/go/v3/internal/patience"
+	"svid.example/go/v3/svid"
 )
 
 // A watchedShop sees how it is looked at.

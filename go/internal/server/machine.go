@@ -5,8 +5,8 @@ import (
 	"fmt"
 	"time"
 
-	"svid.example/go/v2/claims"
-	"svid.example/go/v2/svid"
+	"svid.example/go/v3/claims"
+	"svid.example/go/v3/svid"
 )
 
 // A Machine carries out what the proved member of package svid says: what happens goes in by Step and Tick, and what is to be done comes out by
@@ -26,14 +26,17 @@ type Machine struct {
 	effects []Effect
 	due     time.Duration // when the member has something that is over; never where it has nothing
 
-	known svid.Known // that the member was told
-	began uint64     // when the machine was made
+	known   svid.Known // that the member was told
+	useless string     // why its trust bundles are as good as none; "" where they are not, or there are none
+	began   uint64     // when the machine was made
 
 	rules       *Rules               // that count now
 	requests    map[uint64]*Request  // without an answer, by their numbers
 	withdrawals map[uint64]*Withdraw // the same
 	again       []uint64             // numbers of requests whose tokens are to be judged again
 	claims      claimQueue           // in modes strict and bound
+	own         ownUses              // in mode once, in a group
+	heard       time.Duration        // when the store's withdrawals were read last, by Time.Up
 	state       claims.State         // of the store, as it was when it was looked at last
 	withdrawn   withdrawnTokens      // that this process withdrew, where there is a store
 
@@ -238,8 +241,10 @@ func (m *Machine) settle() {
 
 // What happens to a machine as a whole.
 type (
-	// Bundled: the validator has a trust bundle, or none.
+	// Bundled: the validator has a trust bundle by which a token can be accepted, or has none.
 	Bundled bool
+	// Useless: the validator has trust bundles, and no token can be accepted by them. It says why.
+	Useless string
 	// Joined: there is a group.
 	Joined struct{}
 	// CaughtUp: what the group had is read.
@@ -252,7 +257,8 @@ type (
 	End struct{}
 )
 
-func (b Bundled) happen(m *Machine) { m.known.Bundled = bool(b); m.know() }
+func (b Bundled) happen(m *Machine) { m.known.Bundled, m.useless = bool(b), ""; m.know() }
+func (u Useless) happen(m *Machine) { m.known.Bundled, m.useless = false, string(u); m.know() }
 func (Joined) happen(m *Machine)    { m.known.Joined = true; m.know() }
 func (CaughtUp) happen(m *Machine)  { m.known.CaughtUp = true; m.know() }
 func (Drain) happen(m *Machine)     { m.known.Draining = true; m.know() }
@@ -307,6 +313,8 @@ func (m *Machine) Ready(now Time, full, away bool) error {
 }
 
 var (
+	// errNoBundles: no source has given a trust bundle.
+	errNoBundles = errors.New(svid.UnreadyNoBundle.Words())
 	// errKeepsNothing: in mode once a token would be answered 503, and be burnt.
 	errKeepsNothing = errors.New("the state folder takes no acceptances: the log says why")
 	// errAway: in modes strict and bound a token would be answered 503.
@@ -320,6 +328,11 @@ func (m *Machine) inWords(err error) error {
 		return err
 	}
 	switch why {
+	case svid.UnreadyNoBundle:
+		if m.useless != "" {
+			return errors.New(m.useless)
+		}
+		return errNoBundles
 	case svid.UnreadyEnded:
 		return errors.New("the sidecar has ended")
 	case svid.UnreadyGroupUnread:

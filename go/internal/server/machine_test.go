@@ -8,8 +8,8 @@ import (
 	"testing"
 	"time"
 
-	"svid.example/go/v2/claims"
-	"svid.example/go/v2/svid"
+	"svid.example/go/v3/claims"
+	"svid.example/go/v3/svid"
 )
 
 // As the library paces claims (svid_pacing).
@@ -490,41 +490,41 @@ func TestALostClaimIsToldAgain(t *testing.T) {
 	b.want(0, 1, 0)
 }
 
-// Another token of a key is no lost one: it may be accepted once the first one has expired.
-func TestALostTokenIsThatAlone(t *testing.T) {
-	l := newLostClaims(0)
+// Another token of a key is not known: it may be accepted once the first one has expired.
+func TestAKnownTokenIsThatAlone(t *testing.T) {
+	k := newKnownClaims(0)
 	claim, of := claims.Claim{Key: svid.TokenKey{1}, Expires: moment + 10}, svid.Found{Owner: svid.Owner{7}, Time: moment}
-	l.add(0, &claim, of)
-	if found, lost := l.find(&claim); !lost || found != of {
-		t.Errorf("%v %v", found, lost)
+	k.add(0, &claim, of)
+	if found, known := k.find(&claim); !known || found != of {
+		t.Errorf("%v %v", found, known)
 	}
 	claim.Expires++
-	if _, lost := l.find(&claim); lost {
-		t.Error("a later token of the key is lost")
+	if _, known := k.find(&claim); known {
+		t.Error("a later token of the key is known")
 	}
 }
 
-// Tokens of others are kept for a while, and not more than so many.
-func TestLostTokensHaveABound(t *testing.T) {
-	l := newLostClaims(0)
+// Answers are kept for a while, and not more than so many.
+func TestKnownTokensHaveABound(t *testing.T) {
+	k := newKnownClaims(0)
 	one, of := claims.Claim{Expires: moment}, svid.Found{Owner: svid.Owner{7}}
-	l.add(0, &one, of)
-	if _, lost := l.find(&one); !lost {
+	k.add(0, &one, of)
+	if _, known := k.find(&one); !known {
 		t.Error("it is not kept")
 	}
-	for i := 0; i < 3*mostLost; i++ {
-		l.add(time.Duration(i), &claims.Claim{Key: svid.TokenKey{1, byte(i), byte(i >> 8), byte(i >> 16)}}, of)
+	for i := 0; i < 3*mostKnown; i++ {
+		k.add(time.Duration(i), &claims.Claim{Key: svid.TokenKey{1, byte(i), byte(i >> 8), byte(i >> 16)}}, of)
 	}
-	if n := len(l.young) + len(l.old); n > 2*mostLost {
+	if n := len(k.young) + len(k.old); n > 2*mostKnown {
 		t.Errorf("%d are kept", n)
 	}
-	if _, lost := l.find(&one); lost {
+	if _, known := k.find(&one); known {
 		t.Error("one of long ago is kept")
 	}
 	for i := 1; i < 3; i++ { // and each for two minutes at the least, where few come
-		l.add(time.Duration(i)*2*lostLook, &claims.Claim{Key: svid.TokenKey{2, byte(i)}}, of)
+		k.add(time.Duration(i)*2*knownFor, &claims.Claim{Key: svid.TokenKey{2, byte(i)}}, of)
 	}
-	if n := len(l.young) + len(l.old); n > 2 {
+	if n := len(k.young) + len(k.old); n > 2 {
 		t.Errorf("%d are kept though few come", n)
 	}
 }

@@ -14,9 +14,9 @@ import (
 	"syscall"
 	"time"
 
-	"svid.example/go/v2/claims"
-	"svid.example/go/v2/internal/version"
-	"svid.example/go/v2/svid"
+	"svid.example/go/v3/claims"
+	"svid.example/go/v3/internal/version"
+	"svid.example/go/v3/svid"
 )
 
 // Metrics are the numbers of /metrics. All fields may be used by many goroutines
@@ -37,7 +37,12 @@ type Metrics struct {
 	Uses, Moment                        atomic.Uint64
 	OtherMode                           atomic.Uint64
 	OtherCaller                         atomic.Uint64
+	SecondCaller, UnknownCaller         atomic.Uint64
+	AcceptedTwice                       atomic.Uint64
 	Epochs                              atomic.Uint64
+
+	reloadFailed atomic.Bool  // the last reload of the options and of the bundles did
+	reloaded     atomic.Int64 // when the last good one was, in seconds since 1970; 0 is the start
 
 	// BundleAges returns the seconds since each trust domain's bundle was read.
 	// It is set before the first request, or stays nil.
@@ -56,6 +61,13 @@ type histogram struct {
 func (h *histogram) observe(d time.Duration) {
 	h.counts[sort.SearchFloat64s(bounds[:], d.Seconds())].Add(1)
 	h.nanos.Add(uint64(d))
+}
+
+// Reloaded takes note of how a reload of the options and of the bundles ended.
+func (m *Metrics) Reloaded(err error) {
+	if m.reloadFailed.Store(err != nil); err == nil {
+		m.reloaded.Store(time.Now().Unix())
+	}
 }
 
 // observe counts one decision.
@@ -92,6 +104,9 @@ func (e *Engine) WriteMetrics(w io.Writer) error {
 	p.counters("svidd_claims_total", "outcome", "Claims of modes strict and bound, by outcome.",
 		row{"won", &m.ClaimsWon}, row{"lost", &m.ClaimsLost}, row{"failed", &m.ClaimsFailed})
 	p.counter("svidd_other_caller_total", "Requests of mode bound that were refused since another caller used their token first: it may be stolen.", m.OtherCaller.Load())
+	p.counter("svidd_second_caller_total", "Requests of mode reuse that were accepted though another caller used their token first: it may be stolen.", m.SecondCaller.Load())
+	p.counter("svidd_unknown_caller_total", "Requests of mode reuse with a rule for callers that named none, or whose token had no room: no second caller of these is reported.", m.UnknownCaller.Load())
+	p.counter("svidd_accepted_twice_total", "Tokens that this sidecar and another one of its group accepted, in mode once.", m.AcceptedTwice.Load())
 	p.counters("svidd_told_total", "outcome", "Uses for the group, told or given up (summaries repair that).",
 		row{"told", &m.Told}, row{"given_up", &m.Untold})
 	p.counter("svidd_withdrawals_total", "Tokens withdrawn at this sidecar.", m.Withdrawals.Load())
@@ -121,6 +136,12 @@ func (e *Engine) WriteMetrics(w io.Writer) error {
 	}
 	p.counter("svidd_log_lines_dropped_total", "Lines of the log that were dropped, since standard error did not take them.", e.Log.Dropped())
 	p.gauge("svidd_ready", "1 if /readyz answers 200: the sidecar judges tokens and can keep an acceptance.", truth(e.Ready() == nil))
+	reloaded := m.reloaded.Load()
+	if reloaded == 0 {
+		reloaded = started.Unix()
+	}
+	p.gauge("svidd_config_last_reload_successful", "1 if the last reload of the options and of the bundles went well, or there was none.", truth(!m.reloadFailed.Load()))
+	p.gauge("svidd_config_last_reload_success_timestamp_seconds", "When the last good reload was, or the start, in seconds since 1970.", float64(reloaded))
 	if m.BundleAges != nil {
 		p.head("svidd_bundle_age_seconds", "gauge", "Time since a trust domain's bundle was last read; +Inf if it never was.")
 		ages := m.BundleAges()

@@ -8,8 +8,8 @@ import (
 	"strings"
 	"testing"
 
-	"svid.example/go/v2/internal/patience"
-	"svid.example/go/v2/svid"
+	"svid.example/go/v3/internal/patience"
+	"svid.example/go/v3/svid"
 )
 
 // The use is on the disk before the answer goes out, and where it can't be, the token is not accepted then or later.

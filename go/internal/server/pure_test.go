@@ -12,7 +12,7 @@ import (
 // goroutine, and import nothing that would.
 func TestTheMachineIsByItself(t *testing.T) {
 	mayImport := map[string]bool{"context": true, "errors": true, "fmt": true, "io": true, "sort": true, "time": true,
-		"svid.example/go/v2/carriers": true, "svid.example/go/v2/claims": true, "svid.example/go/v2/svid": true}
+		"svid.example/go/v3/carriers": true, "svid.example/go/v3/claims": true, "svid.example/go/v3/svid": true}
 	mayUse := map[string]bool{"Duration": true, "Millisecond": true, "Second": true, "Minute": true} // of package time
 	for _, name := range []string{"machine.go", "walk.go", "claims.go", "store.go", "record.go", "keeper.go", "withdraw.go", "rules.go", "seldom.go"} {
 		files := syntax.NewFileSet()

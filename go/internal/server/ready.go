@@ -2,17 +2,22 @@ package server
 
 import (
 	"context"
+	"errors"
 	"net/http"
 	"sync"
 	"sync/atomic"
 	"time"
+
+	"svid.example/go/v3/svid"
 )
 
 // An outlook is whether an acceptance could be kept, as the engine sees it each second by itself: before a token is burnt that
 // could not be kept, and though nobody sends tokens to an unready sidecar.
 type outlook struct {
-	noRoom atomic.Bool               // in mode once: the state folder does not take the next acceptance
-	away   atomic.Pointer[time.Time] // since when the group's store has not answered; nil while it does
+	noRoom atomic.Bool             // in mode once: the state folder does not take the next acceptance
+	away   atomic.Pointer[absence] // since when the group's store has not answered; nil while it does
+	claims atomic.Pointer[absence] // since when it takes no claim, though it may answer; nil while it does, as far as is known
+	memory atomic.Int64            // when memory was last refused for a token, in nanoseconds behind the start; 0 if it was not since a token was judged
 
 	looking sync.Mutex // held over a look at the store; guards the fields below
 	said    bool       // that the store has been away for too long
@@ -24,10 +29,40 @@ type roomy interface {
 	Room(ctx context.Context) error
 }
 
-// isAway says whether the store has been away for longer than a request waits.
+// An absence is since when a store does not do what it is there for, and why.
+type absence struct {
+	since time.Time
+	why   error
+}
+
+// isLonger says whether it is longer than a request waits.
+func (a *absence) isLonger(than time.Duration) bool { return a != nil && time.Since(a.since) > than }
+
+// isAway says whether the store has been away for longer than a request waits, or has taken no claim for so long.
 func (e *Engine) isAway() bool {
-	since := e.outlook.away.Load()
-	return since != nil && time.Since(*since) > e.Wait
+	return e.outlook.away.Load().isLonger(e.Wait) || e.outlook.claims.Load().isLonger(e.Wait)
+}
+
+// starvedFor is for how long memory that was refused for a token makes the engine unready, where no token comes that shows whether there is some.
+const starvedFor = 10 * time.Second
+
+// errStarved: a token would be answered 503.
+var errStarved = errors.New("the system refused memory for a token")
+
+// isStarved says whether memory was refused for the last token.
+func (e *Engine) isStarved() bool {
+	at := e.outlook.memory.Load()
+	return at != 0 && time.Since(e.start)-time.Duration(at) < starvedFor
+}
+
+// noteMemory takes note of whether there was memory for a token.
+func (e *Engine) noteMemory(err error) {
+	switch {
+	case errors.Is(err, svid.ErrNoMemory):
+		e.outlook.memory.Store(int64(time.Since(e.start)) | 1) // (0 is none)
+	case e.outlook.memory.Load() != 0:
+		e.outlook.memory.Store(0)
+	}
 }
 
 // lookAhead sees whether an acceptance could be kept, and logs a change.

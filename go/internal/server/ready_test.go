@@ -62,7 +62,7 @@ func TestReadyzTellsOfAStoreThatIsAway(t *testing.T) {
 		if mode == Strict {
 			await(t, "that time to be over", e.isAway)
 		}
-		if err := e.Ready(); (err == errAway) != (mode == Strict) {
+		if err := e.Ready(); errors.Is(err, errAway) != (mode == Strict) {
 			t.Errorf("%s: ready is %v", mode, err)
 		}
 		away.Store(false)

@@ -6,8 +6,8 @@ import (
 	"io"
 	"time"
 
-	"svid.example/go/v2/carriers"
-	"svid.example/go/v2/svid"
+	"svid.example/go/v3/carriers"
+	"svid.example/go/v3/svid"
 )
 
 const (
@@ -95,6 +95,7 @@ func (t *Taking) taken(m *Machine, i int, err error) {
 		m.Log.Detail("message", "bytes", len(v.Message), "error", err)
 	}
 	if err == nil {
+		m.lookTwice(v.Message)
 		return
 	}
 	if errors.Is(err, svid.ErrJump) {
@@ -166,6 +167,9 @@ func (m *Machine) takeLate() {
 	m.late = late{}
 	for i, one := range messages {
 		err := m.validator.Take(m.now.Wall, one)
+		if err == nil {
+			m.lookTwice(one)
+		}
 		if errors.Is(err, svid.ErrJump) {
 			m.late.add(messages[i:])
 			return

@@ -8,8 +8,8 @@ import (
 	"sync/atomic"
 	"testing"
 
-	"svid.example/go/v2/internal/issuer"
-	"svid.example/go/v2/svid"
+	"svid.example/go/v3/internal/issuer"
+	"svid.example/go/v3/svid"
 )
 
 // A token is known from its second acceptance on: it is not verified again, and judged all the same. A key that is gone, a

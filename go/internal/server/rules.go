@@ -3,7 +3,7 @@ package server
 import (
 	"errors"
 
-	"svid.example/go/v2/svid"
+	"svid.example/go/v3/svid"
 )
 
 // Rules say for whom a token must be, and of whom. The member counts them together. Nobody may change a pair.

@@ -7,8 +7,8 @@ import (
 	"sync"
 	"testing"
 
-	"svid.example/go/v2/internal/scarce"
-	"svid.example/go/v2/svid"
+	"svid.example/go/v3/internal/scarce"
+	"svid.example/go/v3/svid"
 )
 
 // ofAudience is a new token of a caller for an audience.

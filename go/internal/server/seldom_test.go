@@ -8,7 +8,7 @@ import (
 	"testing"
 	"time"
 
-	"svid.example/go/v2/svid"
+	"svid.example/go/v3/svid"
 )
 
 // Each cause has a line a minute, the lines between are counted, and causes without end have few lines.

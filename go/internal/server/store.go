@@ -3,8 +3,8 @@ package server
 import (
 	"time"
 
-	"svid.example/go/v2/claims"
-	"svid.example/go/v2/svid"
+	"svid.example/go/v3/claims"
+	"svid.example/go/v3/svid"
 )
 
 // StoreOpened: the group's store was reached, and agrees on the terms.
@@ -37,10 +37,13 @@ type Heard struct {
 
 func (h *Heard) happen(m *Machine) {
 	if h.Err = m.hear(h.These); h.Err == nil && h.Whole {
-		m.known.Heard = true
+		m.known.Heard, m.heard = true, m.now.Up
 		m.know()
 	}
 }
+
+// hears says whether the withdrawals of the store were read a short while ago.
+func (m *Machine) hears() bool { return m.now.Up-m.heard <= tickEvery+m.Wait }
 
 // hear adds withdrawals of others to the record, and brings them to the disk.
 func (m *Machine) hear(these []claims.Withdrawal) error {

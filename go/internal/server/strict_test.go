@@ -13,9 +13,9 @@ import (
 	"testing"
 	"time"
 
-	"svid.example/go/v2/claims"
-	"svid.example/go/v2/internal/patience"
-	"svid.example/go/v2/svid"
+	"svid.example/go/v3/claims"
+	"svid.example/go/v3/internal/patience"
+	"svid.example/go/v3/svid"
 )
 
 // Of many requests at many sidecars one is accepted.

@@ -3,8 +3,8 @@ package server
 import (
 	"strings"
 
-	"svid.example/go/v2/internal/jsontext"
-	"svid.example/go/v2/svid"
+	"svid.example/go/v3/internal/jsontext"
+	"svid.example/go/v3/svid"
 )
 
 // mostLogged is how many bytes of a text of an unverified token are logged.

@@ -7,8 +7,8 @@ import (
 	"fmt"
 	"testing"
 
-	"svid.example/go/v2/internal/scarce"
-	"svid.example/go/v2/svid"
+	"svid.example/go/v3/internal/scarce"
+	"svid.example/go/v3/svid"
 )
 
 // What was read of a request's token goes with the request, in each mode.

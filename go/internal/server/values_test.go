@@ -5,8 +5,8 @@ import (
 	"strings"
 	"testing"
 
-	"svid.example/go/v2/carriers"
-	"svid.example/go/v2/svid"
+	"svid.example/go/v3/carriers"
+	"svid.example/go/v3/svid"
 )
 
 // A sidecar of mode once says that another one claims tokens in its bucket, as svidd 2.0 did in mode strict, once a minute; what is from

@@ -5,7 +5,7 @@ import (
 	"hash/maphash"
 	"sync"
 
-	"svid.example/go/v2/svid"
+	"svid.example/go/v3/svid"
 )
 
 // verified keeps which key made the signature of a token, for modes reuse and bound, where a token comes again and again: it need not be

@@ -4,11 +4,10 @@ import (
 	"context"
 	"errors"
 	"fmt"
-	"time"
 
-	"svid.example/go/v2/carriers"
-	"svid.example/go/v2/claims"
-	"svid.example/go/v2/svid"
+	"svid.example/go/v3/carriers"
+	"svid.example/go/v3/claims"
+	"svid.example/go/v3/svid"
 )
 
 // The walk of each call through the machine, from its coming to its answer. The member says what comes next.
@@ -51,10 +50,8 @@ type Request struct {
 	write *Write // of mode once
 
 	// Of mode bound.
-	Caller [32]byte      // a digest of who presents the token
-	Other  bool          // the token is another caller's, so the answer is Replayed
-	came   time.Duration // by Time.Up
-	shared *answeredClaim
+	Caller [32]byte // a digest of who presents the token
+	Other  bool     // the token is another caller's, so the answer is Replayed
 
 	// Of modes strict and bound.
 	Owner   svid.ValidatorID // in mode strict: whose claim the token is, where the answer is Replayed by the store; else zeros
@@ -95,7 +92,7 @@ func (r *Request) happen(m *Machine) {
 		m.answer(&r.Call, m.notReady(err))
 		return
 	}
-	r.number, r.came = deed.Number, m.now.Up
+	r.number = deed.Number
 	m.requests[r.number] = r
 	m.comes()
 	m.do(Verify{r})
@@ -126,6 +123,7 @@ func (m *Machine) judge(r *Request) {
 func (m *Machine) judged(r *Request, accepted svid.Accepted, deed svid.Deed, err error) {
 	if err == nil {
 		r.Accepted, r.rules = accepted, m.rules
+		m.noteOwn(accepted.Use)
 	} else if deed.Kind == svid.DeedNothing {
 		m.leave(r, err)
 		return
@@ -155,9 +153,6 @@ func (m *Machine) carryOut(deed svid.Deed) {
 	r := m.requests[deed.Number]
 	if deed.Kind == svid.DeedAnswer && deed.Next != svid.NoRequest {
 		m.again = append(m.again, deed.Next)
-		if next := m.requests[deed.Next]; next != nil && r != nil {
-			next.shared = r.shared
-		}
 	}
 	if r == nil {
 		return

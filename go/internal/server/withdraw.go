@@ -5,8 +5,8 @@ import (
 	"sort"
 	"time"
 
-	"svid.example/go/v2/carriers"
-	"svid.example/go/v2/svid"
+	"svid.example/go/v3/carriers"
+	"svid.example/go/v3/svid"
 )
 
 const (

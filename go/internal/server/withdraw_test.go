@@ -11,11 +11,11 @@ import (
 	"testing"
 	"time"
 
-	"svid.example/go/v2/carriers"
-	"svid.example/go/v2/carriers/jetstream"
-	"svid.example/go/v2/internal/natstest"
-	"svid.example/go/v2/internal/patience"
-	"svid.example/go/v2/svid"
+	"svid.example/go/v3/carriers"
+	"svid.example/go/v3/carriers/jetstream"
+	"svid.example/go/v3/internal/natstest"
+	"svid.example/go/v3/internal/patience"
+	"svid.example/go/v3/svid"
 )
 
 // lines are what a log writes.

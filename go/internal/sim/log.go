@@ -4,9 +4,9 @@ import (
 	"sort"
 	"time"
 
-	"svid.example/go/v2/carriers"
-	"svid.example/go/v2/internal/server"
-	"svid.example/go/v2/svid"
+	"svid.example/go/v3/carriers"
+	"svid.example/go/v3/internal/server"
+	"svid.example/go/v3/svid"
 )
 
 // keeps is how long the log keeps a value, and how long a store that has lost entries accepts no token.

@@ -8,10 +8,10 @@ import (
 	"syscall"
 	"time"
 
-	"svid.example/go/v2/carriers"
-	"svid.example/go/v2/internal/server"
-	"svid.example/go/v2/journal"
-	"svid.example/go/v2/svid"
+	"svid.example/go/v3/carriers"
+	"svid.example/go/v3/internal/server"
+	"svid.example/go/v3/journal"
+	"svid.example/go/v3/svid"
 )
 
 // wait is Options.Wait of all machines.
@@ -84,6 +84,8 @@ type life struct {
 
 	asks  map[*server.Call]*ask
 	heard map[svid.TokenKey]time.Duration // withdrawals of others that it has taken
+
+	callers map[svid.TokenKey]int // in mode bound: from whom it has accepted a token
 }
 
 const never = time.Duration(1<<63 - 1)
@@ -136,7 +138,7 @@ func (m *member) start() {
 	}
 	m.lives++
 	l := &life{m: m, w: w, number: m.lives, born: w.now, set: m.set, rules: m.rules, armed: never, pumpAt: never,
-		asks: map[*server.Call]*ask{}, heard: map[svid.TokenKey]time.Duration{}}
+		asks: map[*server.Call]*ask{}, heard: map[svid.TokenKey]time.Duration{}, callers: map[svid.TokenKey]int{}}
 	m.life = l
 	w.tell("%v: starts", m)
 	o := server.Options{Mode: w.plan.mode, Audiences: rules[l.rules].Audiences, Allow: rules[l.rules].Allow, Longest: longest, Ahead: ahead, Step: step, ValidatorID: m.id,

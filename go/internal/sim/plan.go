@@ -7,11 +7,11 @@ import (
 	"strings"
 	"time"
 
-	"svid.example/go/v2/carriers"
-	"svid.example/go/v2/claims"
-	"svid.example/go/v2/internal/server"
-	"svid.example/go/v2/journal"
-	"svid.example/go/v2/svid"
+	"svid.example/go/v3/carriers"
+	"svid.example/go/v3/claims"
+	"svid.example/go/v3/internal/server"
+	"svid.example/go/v3/journal"
+	"svid.example/go/v3/svid"
 )
 
 // A plan is a group, and what happens to it from outside. What it leaves open, such as how long something takes, is drawn from

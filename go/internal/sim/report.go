@@ -6,9 +6,9 @@ import (
 	"strings"
 	"time"
 
-	"svid.example/go/v2/claims"
-	"svid.example/go/v2/internal/server"
-	"svid.example/go/v2/svid"
+	"svid.example/go/v3/claims"
+	"svid.example/go/v3/internal/server"
+	"svid.example/go/v3/svid"
 )
 
 // A report is what is said about a run.
@@ -81,6 +81,16 @@ func caller(number int) (digest [32]byte) {
 	return digest
 }
 
+// unheard is for how long after a withdrawal a member may accept a token of which the store said before whose it is: it reads the withdrawals each
+// second, and asks the store again where it could not read them for as long as a request waits.
+const unheard = time.Second + wait
+
+// has says whether this life has accepted the token from that caller in mode bound.
+func (l *life) has(one *token, by int) bool {
+	first, is := l.callers[one.key]
+	return is && first == by
+}
+
 // ask lets a caller send a token to a member. It goes away after a while, if that is more than 0.
 func (m *member) ask(one *token, by int, gives time.Duration) *ask {
 	l := m.life
@@ -93,7 +103,7 @@ func (m *member) ask(one *token, by int, gives time.Duration) *ask {
 	if _, heard := l.heard[one.key]; heard {
 		a.withdrawn = true
 	}
-	if by, done := m.w.store.gone[one.key]; done && by != l.ownerOf(one, a.caller) {
+	if gone, done := m.w.store.gone[one.key]; done && gone.by != l.ownerOf(one, a.caller) && !(l.has(one, by) && m.w.now <= gone.at+unheard) {
 		a.withdrawn = true
 	}
 	l.asks[&a.request.Call] = a
@@ -160,9 +170,10 @@ func (a *ask) answered(err error) {
 				w.fail("%v: a withdrawal is done that is not on the disk", m)
 			}
 			// (Where the store has a claim of it, the answer says whose: its one acceptance is that life's, now or before. In mode bound that caller goes on
-			// to be accepted where nobody has heard of the withdrawal yet, and no other one is.)
+			// to be accepted where nobody has heard of the withdrawal yet, and no other one is. So does one whose claim the store has lost, for a while,
+			// at a member that accepted it before.)
 			if _, before := w.store.gone[a.token.key]; w.claims() && !before {
-				w.store.gone[a.token.key] = a.withdraw.UsedBy
+				w.store.gone[a.token.key] = gone{a.withdraw.UsedBy, w.now}
 			}
 			// (Without a disk, a member has it for as long as it lives, or the group has it.)
 		}
@@ -202,6 +213,9 @@ func word(err error) string {
 func (a *ask) accepted() {
 	l, w, m := a.l, a.l.w, a.l.m
 	one, got := a.token, a.request.Accepted
+	if w.plan.mode == server.Bound {
+		l.callers[one.key] = a.caller
+	}
 	if got.ID != "spiffe://example.org/web" || got.Use.Key != one.key || got.Use.Expires != one.expires || got.Use.ValidatorID != m.id {
 		w.fail("%v: another token was accepted: %+v", m, got)
 	}

@@ -11,7 +11,7 @@ import (
 	"sync/atomic"
 	"testing"
 
-	"svid.example/go/v2/internal/server"
+	"svid.example/go/v3/internal/server"
 )
 
 var (

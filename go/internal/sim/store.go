@@ -3,10 +3,10 @@ package sim
 import (
 	"time"
 
-	"svid.example/go/v2/claims"
-	"svid.example/go/v2/claims/memory"
-	"svid.example/go/v2/internal/server"
-	"svid.example/go/v2/svid"
+	"svid.example/go/v3/claims"
+	"svid.example/go/v3/claims/memory"
+	"svid.example/go/v3/internal/server"
+	"svid.example/go/v3/svid"
 )
 
 // back is how many seconds the store's clock may step back.
@@ -14,6 +14,12 @@ const back = 5
 
 // terms are those of the store.
 var terms = claims.Terms{Lasts: longest + 2*ahead, Margin: ahead + back, Back: back}
+
+// gone is a withdrawal that was answered as done: whose claim the store had, and when.
+type gone struct {
+	by claims.Owner
+	at time.Duration
+}
 
 // A storeServer is the group's store, as claims.Store promises it: what it loses ends its epoch.
 type storeServer struct {
@@ -25,12 +31,12 @@ type storeServer struct {
 
 	ever map[svid.TokenKey]map[claims.Owner]bool // whose claims it took first
 	puts [][]claims.Claim                        // that came
-	gone map[svid.TokenKey]claims.Owner          // tokens whose withdrawal was answered as done, and whose claim the store had; claims.Withdrawn for nobody's
+	gone map[svid.TokenKey]gone                  // tokens whose withdrawal was answered as done, and whose claim the store had; claims.Withdrawn for nobody's
 	told map[svid.TokenKey]bool                  // tokens whose withdrawal it has
 }
 
 func newStore(w *world) *storeServer {
-	s := &storeServer{w: w, ever: map[svid.TokenKey]map[claims.Owner]bool{}, gone: map[svid.TokenKey]claims.Owner{}, told: map[svid.TokenKey]bool{}}
+	s := &storeServer{w: w, ever: map[svid.TokenKey]map[claims.Owner]bool{}, gone: map[svid.TokenKey]gone{}, told: map[svid.TokenKey]bool{}}
 	s.Store = memory.Store{Terms: terms, Now: func() uint64 { return base + uint64((w.now+s.offset)/time.Second) }}
 	return s
 }

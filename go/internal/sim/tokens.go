@@ -5,8 +5,8 @@ import (
 	"fmt"
 	"sync"
 
-	"svid.example/go/v2/internal/issuer"
-	"svid.example/go/v2/svid"
+	"svid.example/go/v3/internal/issuer"
+	"svid.example/go/v3/svid"
 )
 
 // The setting of all groups. Times are whole seconds.

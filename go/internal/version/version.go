@@ -2,4 +2,4 @@
 package version
 
 // Number is what the file VERSION says. tools/lists writes it.
-const Number = "2.0.0"
+const Number = "3.0.0"

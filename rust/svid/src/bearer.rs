@@ -71,13 +71,23 @@ impl Denied {
         }
     }
 
-    /// The whole answer, without a body.
+    /// The header `Retry-After` of the answer in seconds, where the client may try the same token again.
+    pub fn retry_after(&self) -> Option<u16> {
+        matches!(self, Denied::Failed(_)).then_some(1)
+    }
+
+    /// The whole answer, without a body. Nobody may keep it (`Cache-Control: no-store`).
     #[cfg(feature = "http")]
     pub fn response<B: Default>(&self) -> http::Response<B> {
         let mut response = http::Response::new(B::default());
         *response.status_mut() = http::StatusCode::from_u16(self.status()).unwrap_or(http::StatusCode::SERVICE_UNAVAILABLE);
+        let headers = response.headers_mut();
+        headers.insert(http::header::CACHE_CONTROL, http::HeaderValue::from_static("no-store"));
         if let Some(text) = self.challenge() {
-            response.headers_mut().insert(http::header::WWW_AUTHENTICATE, http::HeaderValue::from_static(text));
+            headers.insert(http::header::WWW_AUTHENTICATE, http::HeaderValue::from_static(text));
+        }
+        if let Some(seconds) = self.retry_after() {
+            headers.insert(http::header::RETRY_AFTER, seconds.into());
         }
         response
     }

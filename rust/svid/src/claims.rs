@@ -13,6 +13,8 @@ use crate::store::{Claim, Found, Store, StoreError};
 
 /// How many claims share a call.
 const MOST: usize = 256;
+/// How long after the withdrawals were read they are read again.
+const EVERY: Duration = Duration::from_secs(1);
 /// For how long a thread waits at once.
 const LONGEST: Duration = Duration::from_secs(60);
 
@@ -45,8 +47,10 @@ pub(crate) struct Claims {
     gate: Mutex<Gate>,
     /// There are claims to put, or the end has come.
     comes: Condvar,
-    /// The guard knows that the store is there.
+    /// The guard knows that the store is there, and that its withdrawals are read.
     announced: Condvar,
+    /// The withdrawals of the store are read.
+    hears: bool,
 }
 
 struct Gate {
@@ -64,6 +68,7 @@ struct Gate {
     silent: Option<Instant>,
     deaf: u64,
     is_there: bool,
+    is_heard: bool,
     is_announced: bool,
     is_closing: bool,
 }
@@ -78,13 +83,15 @@ struct Batch {
 /// What is known of the store.
 pub(crate) struct Known {
     pub is_there: bool,
+    /// Its withdrawals were read to the end once, where they are to be.
+    pub is_heard: bool,
     pub deaf: u64,
     /// It has not answered for longer than a request waits.
     pub is_away: bool,
 }
 
 impl Claims {
-    pub fn new(store: Arc<dyn Store>, clock: Clock) -> Arc<Claims> {
+    pub fn new(store: Arc<dyn Store>, clock: Clock, hears: bool) -> Arc<Claims> {
         let gate = Gate {
             waiting: Vec::new(),
             later: Vec::new(),
@@ -95,16 +102,22 @@ impl Claims {
             silent: None,
             deaf: 0,
             is_there: false,
+            is_heard: !hears,
             is_announced: false,
             is_closing: false,
         };
-        Arc::new(Claims { store, clock, gate: Mutex::new(gate), comes: Condvar::new(), announced: Condvar::new() })
+        Arc::new(Claims { store, clock, gate: Mutex::new(gate), comes: Condvar::new(), announced: Condvar::new(), hears })
     }
 
     /// Begins to put claims, and waits until the store answers, but no longer than `wait`.
     pub fn begin(self: &Arc<Claims>, requests: &Weak<Requests>, wait: Duration) -> Result<(), Error> {
         self.grow(requests)?;
-        let waits = self.announced.wait_timeout_while(self.gate(), wait, |gate| !gate.is_announced);
+        if self.hears {
+            let (claims, requests) = (Arc::clone(self), Weak::clone(requests));
+            let made = thread::Builder::new().name("svid-withdrawals".to_owned()).spawn(move || claims.listen(&requests));
+            made.map_err(|_| Error::NoMemory)?;
+        }
+        let waits = self.announced.wait_timeout_while(self.gate(), wait, |gate| !gate.is_announced || !gate.is_heard);
         drop(waits);
         Ok(())
     }
@@ -141,13 +154,52 @@ impl Claims {
                 since.elapsed() > wait
             }
         };
-        Known { is_there: gate.is_there, deaf: gate.deaf, is_away }
+        Known { is_there: gate.is_there, is_heard: gate.is_heard, deaf: gate.deaf, is_away }
     }
 
     /// Lets the threads end. Waits for nothing, since the store may not answer.
     pub fn close(&self) {
         self.gate().is_closing = true;
         self.comes.notify_all();
+        self.announced.notify_all();
+    }
+
+    /// Reads the withdrawals of the store once a second, until the end.
+    fn listen(&self, requests: &Weak<Requests>) {
+        let (mut position, mut last) = (String::new(), String::new());
+        while let Some(guard) = requests.upgrade() {
+            let read = self.hear(&guard, &mut position);
+            if read.is_ok() && !std::mem::replace(&mut self.gate().is_heard, true) {
+                guard.reached();
+                self.announced.notify_all();
+            }
+            let why = read.err().map_or_else(String::new, |why| why.to_string());
+            if !why.is_empty() && why != last {
+                guard.warn(&format_args!("the withdrawals of the group's store can't be read: {why}"));
+            }
+            last = why;
+            drop(guard);
+            let gate = self.announced.wait_timeout_while(self.gate(), EVERY, |gate| !gate.is_closing);
+            if gate.unwrap_or_else(PoisonError::into_inner).0.is_closing {
+                return;
+            }
+        }
+    }
+
+    /// Reads the withdrawals that came after a position, which follows.
+    fn hear(&self, guard: &Requests, position: &mut String) -> Result<(), StoreError> {
+        while !self.gate().is_closing {
+            let read = catch_unwind(AssertUnwindSafe(|| self.store.withdrawals(position))).unwrap_or_else(|_| Err(panicked()));
+            let (withdrawn, last) = read?;
+            for (key, expires) in withdrawn {
+                guard.hears(key, expires)?;
+            }
+            if last == *position {
+                break;
+            }
+            *position = last;
+        }
+        Ok(())
     }
 
     fn grow(self: &Arc<Claims>, requests: &Weak<Requests>) -> Result<(), Error> {

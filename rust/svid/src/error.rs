@@ -24,16 +24,16 @@ pub enum Error {
     Options(OptionsFault),
     /// There is no memory for the call. Nothing was accepted: you can make the call again.
     NoMemory,
-    /// `now` is more than `step` seconds past the record's moment. If the clock is right, the validator was idle for longer than `step`:
-    /// take its record into a new one.
+    /// The clock is more than `step` seconds past the record's moment. If it is right, the guard was idle for longer than `step`: take its
+    /// record into a new one.
     Jump,
-    /// The messages tell of a time more than `ahead` seconds past `now`. None of them was taken.
+    /// The messages tell of a time more than `ahead` seconds past the clock. None of them was taken.
     TooFar,
     /// The token has expired, so there is nothing to withdraw.
     Gone,
     /// The verifier can't verify with this algorithm or by this key, and no other key made the signature. Use another verifier.
     Unsupported,
-    /// The trust bundles can't be read. A validator keeps those that it has.
+    /// The trust bundles can't be read. A guard keeps those that it has.
     Bundles(BundlesFault),
     /// The bytes are no messages. None of them was taken.
     Messages(MessagesError),
@@ -41,8 +41,6 @@ pub enum Error {
     NotSummary,
     /// The bytes are more than 67,108,864: cut the messages.
     TooMuch,
-    /// The room is too short for any piece of a record: give it [`PIECE_LEAST`](crate::PIECE_LEAST) bytes or more.
-    TooShort,
     /// The system's clock is before 1970.
     NoClock,
     /// The system gives no random bytes for a validator ID.
@@ -75,7 +73,6 @@ impl Error {
             ffi::NOT_ALLOWED => Error::NotAllowed,
             ffi::NO_MEMORY => Error::NoMemory,
             ffi::TOO_MUCH => Error::TooMuch,
-            ffi::TOO_SHORT => Error::TooShort,
             ffi::NOT_SUMMARY => Error::NotSummary,
             ffi::GONE => Error::Gone,
             ffi::TOO_FAR => Error::TooFar,
@@ -127,7 +124,6 @@ impl fmt::Display for Error {
             Error::Messages(why) => why.fmt(f),
             Error::NotSummary => words::write_plain(f, ffi::NOT_SUMMARY),
             Error::TooMuch => words::write_plain(f, ffi::TOO_MUCH),
-            Error::TooShort => words::write(f, ffi::TOO_SHORT, format_args!(": give a piece of a record 82 bytes or more")),
             Error::NoClock => f.write_str("the system's clock is before 1970: set it"),
             Error::NoRandom => f.write_str("the system gives no random bytes: read them from another source, and choose a validator ID"),
             Error::Unexpected(why) => why.fmt(f),
@@ -153,7 +149,7 @@ impl std::error::Error for Error {
 #[derive(Debug, Clone, Copy, PartialEq, Eq)]
 #[non_exhaustive]
 pub enum OptionsFault {
-    /// There is a store in a mode that has none, or none in a mode that wants one.
+    /// There is no store in a mode that wants one.
     Store,
     /// The time that a check may take is less than a millisecond.
     Wait,
@@ -170,29 +166,94 @@ pub enum OptionsFault {
     Audience,
     /// Who presents a token is given in another mode than bound, or is not given in that mode.
     Presenter,
-    /// The options are for a [`Guard`](crate::Guard): a [`Validator`](crate::Validator) or a [`Member`](crate::Member) has no mode, store or
-    /// callers.
+    /// There is no audience.
+    NoAudience,
+    /// The options are for a [`Guard`](crate::Guard): a [`LogMember`](crate::LogMember) has no mode, store or callers.
     Guard,
-    /// The validator is that of a guard with these options, whose checks alone ask its disk, its store and its callers.
-    Guarded,
+    /// One of the open paths is none.
+    Path {
+        /// Which one: the first is number 0.
+        number: usize,
+    },
+    /// A source of bundles is none.
+    Source(SourceFault),
 }
 
 impl fmt::Display for OptionsFault {
     fn fmt(&self, f: &mut fmt::Formatter<'_>) -> fmt::Result {
         f.write_str(match self {
-            OptionsFault::Store => "the mode and the store don't fit: give a store in the modes strict and bound, and in no other one",
+            OptionsFault::Store => "there is no store: give one in the modes strict and bound",
             OptionsFault::Wait => "a check has less than a millisecond: let wait be longer",
             OptionsFault::Callers => "callers is empty: name who may call, or leave it out to let all call",
             OptionsFault::Caller { number, fault } => return write!(f, "number {number} of the callers, counted from 0: {}", fault.says()),
             OptionsFault::Audience => "an audience is empty or has a line feed: with callers, let each be one line",
             OptionsFault::Presenter => "the mode and the call don't fit: say who presents the token in mode bound, and in no other one",
+            OptionsFault::NoAudience => "there is no audience, so no token is for this service: give its names",
             OptionsFault::Guard => "the options have a mode, a store, or callers: give them to a guard",
-            OptionsFault::Guarded => "the validator is a guard's, which has a mode, a disk, or callers: check by the guard",
+            OptionsFault::Path { number } => {
+                return write!(
+                    f,
+                    "number {number} of the open paths, counted from 0, is none: write /PATH, or /PATH/* for all below it, in letters, digits \
+                     and - . _ ~, decoded, and without empty segments, . and .."
+                );
+            }
+            OptionsFault::Source(why) => return why.fmt(f),
         })
     }
 }
 
 impl std::error::Error for OptionsFault {}
+
+/// Why a source of bundles is none. `number` counts the sources of [`Sources`](crate::Sources) from 0.
+#[derive(Debug, Clone, Copy, PartialEq, Eq)]
+#[non_exhaustive]
+pub enum SourceFault {
+    /// There is no source.
+    None,
+    /// Its trust domain name is none.
+    Domain {
+        /// Which source.
+        number: usize,
+    },
+    /// An earlier source has the same trust domain, or there are two folders.
+    Twice {
+        /// Which source.
+        number: usize,
+    },
+    /// Its address is not `https://HOST/PATH`.
+    Address {
+        /// Which source.
+        number: usize,
+    },
+    /// The SPIFFE ID of its server is none with a path.
+    ServerId {
+        /// Which source.
+        number: usize,
+    },
+    /// Its server is known by its own bundle, and there is no file with a first one.
+    First {
+        /// Which source.
+        number: usize,
+    },
+}
+
+impl fmt::Display for SourceFault {
+    fn fmt(&self, f: &mut fmt::Formatter<'_>) -> fmt::Result {
+        let (number, what) = match self {
+            SourceFault::None => return f.write_str("there is no source of bundles: name a file, a folder or an address"),
+            SourceFault::Domain { number } => {
+                (number, "its trust domain name is none: write 1 to 255 letters of a to z, digits, '.', '-' and '_'")
+            }
+            SourceFault::Twice { number } => (number, "an earlier one is of the same trust domain, or a folder too: give each once"),
+            SourceFault::Address { number } => (number, "its address is none: write https://HOST/PATH"),
+            SourceFault::ServerId { number } => (number, "the SPIFFE ID of its server is none: write spiffe://DOMAIN/PATH"),
+            SourceFault::First { number } => (number, "its server is known by its own bundle: give a file with a first one"),
+        };
+        write!(f, "number {number} of the sources of bundles, counted from 0: {what}")
+    }
+}
+
+impl std::error::Error for SourceFault {}
 
 /// Why trust bundles can't be read. Names are counted from 0, in the rising order of their bytes.
 #[derive(Debug, Clone, Copy, PartialEq, Eq)]
@@ -210,7 +271,7 @@ pub enum BundlesFault {
         /// The number of its name.
         number: usize,
     },
-    /// One of the bundles that [`Bundles::join`](crate::Bundles::join) was given can't be joined.
+    /// One of the bundles of [`Sources`](crate::Sources) that never change can't be joined to the others.
     Document {
         /// Which one: the first is number 0.
         number: usize,
@@ -249,6 +310,12 @@ pub enum DocumentFault {
     Twice,
 }
 
+impl fmt::Display for DocumentFault {
+    fn fmt(&self, f: &mut fmt::Formatter<'_>) -> fmt::Result {
+        words::write_plain(f, self.status())
+    }
+}
+
 impl DocumentFault {
     fn status(self) -> u32 {
         match self {
@@ -266,7 +333,7 @@ impl DocumentFault {
 pub struct MessagesError {
     /// What is wrong.
     pub fault: MessageFault,
-    /// Which of the messages, counted from 1. It is 0 for a value of a log, for the claims beside a record, and for a use.
+    /// Which of the messages, counted from 1. It is 0 for a use.
     pub message: usize,
     /// Which byte of that message, counted from 0.
     pub offset: usize,

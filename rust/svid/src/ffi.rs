@@ -141,7 +141,7 @@ pub const REPLAYED: u32 = 125;
 // lists:end
 
 /// The major number of the library that these declarations are of.
-pub const MAJOR: u32 = 2;
+pub const MAJOR: u32 = 3;
 /// Enough room for any SPIFFE ID.
 pub const ID_ROOM: usize = 2048;
 /// The length of a summary.
@@ -235,12 +235,6 @@ pub struct Said {
 
 #[repr(C)]
 #[derive(Default, Debug, Clone, Copy, PartialEq, Eq)]
-pub struct Signed {
-    pub len: usize,
-}
-
-#[repr(C)]
-#[derive(Default, Debug, Clone, Copy, PartialEq, Eq)]
 pub struct Entry {
     pub withdrawn: u64,
     pub exp: u64,
@@ -269,14 +263,6 @@ pub struct Digests {
 pub struct Size {
     pub moment: u64,
     pub uses: usize,
-}
-
-#[repr(C)]
-#[derive(Debug, Clone, Copy, PartialEq, Eq)]
-pub struct Setting {
-    pub moment: u64,
-    pub longest: u64,
-    pub validator_id: [u8; 16],
 }
 
 #[repr(C)]
@@ -502,14 +488,7 @@ extern "C" {
         out_len: usize,
         told: *mut Told,
     ) -> u32;
-    pub fn svid_token_signature(
-        token: *const u8,
-        token_len: usize,
-        over: *mut Signed,
-        out: *mut u8,
-        out_len: usize,
-        told: *mut Told,
-    ) -> u32;
+    pub fn svid_token_payload(token: *const u8, token_len: usize, out: *mut u8, out_len: usize, told: *mut Told) -> u32;
     pub fn svid_key_spki(
         key: *const u8,
         key_len: usize,
@@ -520,30 +499,8 @@ extern "C" {
         out_len: usize,
         told: *mut Told,
     ) -> u32;
-    pub fn svid_join(
-        a: *const u8,
-        a_len: usize,
-        b: *const u8,
-        b_len: usize,
-        now: u64,
-        out: *mut u8,
-        out_len: usize,
-        told: *mut Told,
-    ) -> u32;
     pub fn svid_entries_read(messages: *const u8, messages_len: usize, out: *mut Entry, out_len: usize, told: *mut Told) -> u32;
     pub fn svid_entries_write(entries: *const Entry, entries_len: usize, out: *mut u8, out_len: usize, told: *mut Told) -> u32;
-    pub fn svid_report(messages: *const u8, messages_len: usize, now: u64, out: *mut u8, out_len: usize, told: *mut Told) -> u32;
-    pub fn svid_summary(messages: *const u8, messages_len: usize, now: u64, out: *mut u8, out_len: usize, told: *mut Told) -> u32;
-    pub fn svid_answer(
-        summary: *const u8,
-        summary_len: usize,
-        messages: *const u8,
-        messages_len: usize,
-        now: u64,
-        out: *mut u8,
-        out_len: usize,
-        told: *mut Told,
-    ) -> u32;
 
     pub fn svid_bundles_join(
         bytes: *const u8,
@@ -556,39 +513,6 @@ extern "C" {
     ) -> u32;
     pub fn svid_bundles_open(b: *mut Handle, bundles: *const u8, bundles_len: usize, told: *mut Told) -> u32;
     pub fn svid_bundles_close(b: *mut Handle);
-    pub fn svid_bundles_ask(
-        b: *mut Handle,
-        token: *const u8,
-        token_len: usize,
-        most: usize,
-        out: *mut u8,
-        out_len: usize,
-        told: *mut Told,
-    ) -> u32;
-    pub fn svid_bundles_question(
-        b: *mut Handle,
-        token: *const u8,
-        token_len: usize,
-        number: usize,
-        asked: *mut [u8; 32],
-        told: *mut Told,
-    ) -> u32;
-    pub fn svid_bundles_judge(
-        b: *mut Handle,
-        setting: *const Setting,
-        own: *const u8,
-        own_len: usize,
-        lens: *const usize,
-        lens_len: usize,
-        yes: *const [u8; 32],
-        yes_len: usize,
-        token: *const u8,
-        token_len: usize,
-        out: *mut u8,
-        out_len: usize,
-        used: *mut Use,
-        told: *mut Told,
-    ) -> u32;
 
     pub fn svid_validator_open_by_lengths(
         v: *mut Handle,
@@ -603,40 +527,6 @@ extern "C" {
     ) -> u32;
     pub fn svid_validator_close(v: *mut Handle);
     pub fn svid_validator_renew_by(v: *mut Handle, b: *mut Handle, told: *mut Told) -> u32;
-    pub fn svid_validator_ask(
-        v: *mut Handle,
-        token: *const u8,
-        token_len: usize,
-        most: usize,
-        out: *mut u8,
-        out_len: usize,
-        told: *mut Told,
-    ) -> u32;
-    pub fn svid_validator_check(
-        v: *mut Handle,
-        now: u64,
-        yes: *const [u8; 32],
-        yes_len: usize,
-        token: *const u8,
-        token_len: usize,
-        out: *mut u8,
-        out_len: usize,
-        used: *mut Use,
-        told: *mut Told,
-    ) -> u32;
-    pub fn svid_validator_judge(
-        v: *mut Handle,
-        now: u64,
-        yes: *const [u8; 32],
-        yes_len: usize,
-        token: *const u8,
-        token_len: usize,
-        out: *mut u8,
-        out_len: usize,
-        used: *mut Use,
-        told: *mut Told,
-    ) -> u32;
-    pub fn svid_validator_judge_again(v: *mut Handle, now: u64, key: *const Key, exp: u64, told: *mut Told) -> u32;
     pub fn svid_validator_withdraw(v: *mut Handle, now: u64, key: *const Key, exp: u64, used: *mut Use, told: *mut Told) -> u32;
     pub fn svid_validator_tick(v: *mut Handle, now: u64, told: *mut Told) -> u32;
     pub fn svid_validator_take(v: *mut Handle, now: u64, messages: *const u8, messages_len: usize, told: *mut Told) -> u32;
@@ -793,7 +683,6 @@ extern "C" {
         reader: *mut Reader,
         frame: *mut Frame,
     ) -> u32;
-    pub fn svid_journal_position(mark: *const Mark, out: *mut u8, out_len: usize, told: *mut Told) -> u32;
     pub fn svid_journal_bears(payload: *const u8, payload_len: usize, bears: *mut Bears);
 }
 

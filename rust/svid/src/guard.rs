@@ -1,36 +1,40 @@
-//! A validator that threads share.
+//! What a service has: a validator that threads share.
 
-use std::sync::{Arc, Mutex, MutexGuard, PoisonError};
+use std::sync::{Arc, Mutex, PoisonError};
 use std::thread::{self, JoinHandle};
 
 use crate::bearer::{bearer_token, Denied};
-use crate::bundles::Bundles;
 use crate::caller::Caller;
 use crate::error::{Error, OptionsFault};
 use crate::ffi;
+use crate::follower::Follower;
 use crate::id::SpiffeId;
 use crate::journal::{Journal, JournalError};
 use crate::options::Options;
 use crate::pattern::{Pattern, PatternError};
-use crate::record::{Accepted, TokenKey, Use};
+use crate::record::{Accepted, Size, TokenKey, Use, ValidatorId};
 use crate::requests::Requests;
+use crate::sources::Sources;
 use crate::token::Said;
-use crate::validator::Validator;
 use crate::verify::Verify;
 
-/// A [`Validator`] with a verifier of signatures, for any number of threads. Its lock is held for some microseconds. Tokens are read and signatures
-/// are verified without it.
+/// Checks JWT-SVIDs, and remembers which were used or withdrawn until they expire. This memory is its *record*. Any number of threads may share a
+/// guard. Its lock is held for some microseconds: tokens are read and signatures are verified without it.
 ///
 /// [`Options::mode`] says how often it accepts a token. [`Guard::with_journal`] keeps what it accepts over restarts and crashes. The C library
 /// decides which request is answered, when, and what has to be on the disk or in the store before. A check blocks its thread until then, but no
 /// longer than [`Options::wait`].
 ///
+/// Tokens are judged at the record's *moment*, the greatest time that it has seen, so a clock that is set back makes no expired token good. After
+/// `fork`, only one of the two processes may go on with a guard.
+///
 /// ```
-/// # #[cfg(feature = "openssl")] {
-/// # let bundles = include_bytes!(concat!(env!("CARGO_MANIFEST_DIR"), "/../../examples/bundles.json"));
-/// # let token = include_str!(concat!(env!("CARGO_MANIFEST_DIR"), "/../../examples/token.txt")).trim();
-/// let guard = svid::Guard::open(&svid::Options::new(["ledger"]), bundles, svid::OpenSsl::new())?;
-/// let header = format!("Bearer {token}");
+/// # #[cfg(feature = "testing")] {
+/// use svid::{testing::Issuer, Guard, OpenSsl, Options};
+///
+/// let issuer = Issuer::new("example.org");
+/// let guard = Guard::open(&Options::new(["ledger"]), issuer.bundles(), OpenSsl::new())?;
+/// let header = format!("Bearer {}", issuer.token("/billing/api", "ledger"));
 /// assert_eq!(guard.admit([&header]).unwrap().path(), "/billing/api");
 ///
 /// let denied = guard.admit([&header]).unwrap_err();
@@ -45,58 +49,137 @@ pub struct Guard<V> {
     verifier: V,
     pub(crate) journal: Option<Arc<Journal>>,
     snapshot: Mutex<Option<JoinHandle<()>>>, // the last thread that took one
+    follower: Mutex<Option<Follower>>,
 }
 
 impl<V> Guard<V> {
-    /// Opens a validator with an empty record. `bundles` are as for [`Validator::open`]. With a store it waits until that answers, but no longer
-    /// than [`Options::wait`].
+    /// Opens a guard with an empty record, which follows these sources of trust bundles until it is dropped. It reads what can be read now. With a
+    /// store it waits until that answers, but no longer than [`Options::wait`].
     ///
     /// # Errors
     ///
-    /// Those of [`Validator::open`], and [`Error::Options`].
-    pub fn open(options: &Options, bundles: &[u8], verifier: V) -> Result<Guard<V>, Error> {
-        let requests = Requests::open(options, bundles, false)?;
-        let guard = Guard { requests, verifier, journal: None, snapshot: Mutex::new(None) };
-        guard.requests.begin().map(|()| guard)
+    /// [`Error::Options`]; [`Error::Bundles`] and [`Error::TooMuch`] for bundles that never change; [`Error::NoMemory`]; and [`Error::NoRandom`]
+    /// where the options have no validator ID.
+    pub fn open(options: &Options, bundles: impl Into<Sources>, verifier: V) -> Result<Guard<V>, Error> {
+        let requests = Requests::open(options, false)?;
+        Guard { requests, verifier, journal: None, snapshot: Mutex::new(None), follower: Mutex::new(None) }.begun(bundles.into())
     }
 
-    /// Opens a validator whose record is that of a state folder, and has its ID. No token that [`Guard::check`] accepted in mode
+    fn begun(self, bundles: Sources) -> Result<Guard<V>, Error> {
+        self.follow(bundles)?;
+        self.requests.begin().map(|()| self)
+    }
+
+    /// Opens a guard whose record is that of a state folder, and has its ID. No token that [`Guard::check`] accepted in mode
     /// [`Once`](crate::Mode::Once) is accepted again after a crash, a restart or a loss of power: the answer comes once the disk has the use. So
-    /// does that of [`Guard::withdraw`] in each mode. What [`Validator::take`] got is kept from the next snapshot on. The guard takes snapshots by
+    /// does that of [`Guard::withdraw`] in each mode. What [`Guard::take`] got is kept from the next snapshot on. The guard takes snapshots by
     /// itself.
     ///
     /// To drop the guard waits for what is on its way to the disk.
     ///
     /// # Errors
     ///
-    /// [`JournalError::Guard`] with what [`Guard::open`] and [`Validator::take`] answer; those of [`Journal::snapshot`].
+    /// [`JournalError::Guard`] with what [`Guard::open`] and [`Guard::take`] answer; and those of a write, as [`JournalError::Io`].
     ///
     /// ```
-    /// # #[cfg(feature = "openssl")] {
-    /// # let bundles = include_bytes!(concat!(env!("CARGO_MANIFEST_DIR"), "/../../examples/bundles.json"));
-    /// # let token = include_str!(concat!(env!("CARGO_MANIFEST_DIR"), "/../../examples/token.txt")).trim();
+    /// # #[cfg(feature = "testing")] {
+    /// # let issuer = svid::testing::Issuer::new("example.org");
+    /// # let token = issuer.token("/billing/api", "ledger");
     /// # let folder = std::env::temp_dir().join(format!("svid-doc-guard-{}", std::process::id()));
     /// use svid::{Error, Guard, Journal, OpenSsl, Options, Refusal};
     ///
-    /// let open = || Guard::with_journal(&Options::new(["ledger"]), bundles, OpenSsl::new(), Journal::open(&folder)?);
+    /// let open = || Guard::with_journal(&Options::new(["ledger"]), issuer.bundles(), OpenSsl::new(), Journal::open(&folder)?);
     /// let guard = open()?;
-    /// assert!(guard.check(token).is_ok());
+    /// assert!(guard.check(&token).is_ok());
     /// drop(guard);
-    /// assert_eq!(open()?.check(token), Err(Error::Refused(Refusal::Replayed)));
+    /// assert_eq!(open()?.check(&token), Err(Error::Refused(Refusal::Replayed)));
     /// # std::fs::remove_dir_all(&folder)?;
     /// # }
     /// # Ok::<(), Box<dyn std::error::Error>>(())
     /// ```
-    pub fn with_journal(options: &Options, bundles: &[u8], verifier: V, mut journal: Journal) -> Result<Guard<V>, JournalError> {
+    pub fn with_journal(
+        options: &Options,
+        bundles: impl Into<Sources>,
+        verifier: V,
+        mut journal: Journal,
+    ) -> Result<Guard<V>, JournalError> {
         let options = options.clone().validator_id(journal.validator_id());
-        let requests = Requests::open(&options, bundles, true).map_err(JournalError::Guard)?;
-        journal.load(|messages| requests.validator().take(crate::now()?, messages)).map_err(JournalError::Guard)?;
+        let requests = Requests::open(&options, true).map_err(JournalError::Guard)?;
+        journal.load(|messages| requests.core().take(requests.now()?, messages)).map_err(JournalError::Guard)?;
         if journal.wants_snapshot() {
-            journal.snapshot(|parts, room| requests.validator().piece(parts, room))?;
+            journal.snapshot(|part, room| requests.core().piece(part, room))?;
         }
-        let guard = Guard { requests, verifier, journal: Some(Arc::new(journal)), snapshot: Mutex::new(None) };
-        guard.requests.begin().map_err(JournalError::Guard)?;
-        Ok(guard)
+        let journal = Some(Arc::new(journal));
+        let guard = Guard { requests, verifier, journal, snapshot: Mutex::new(None), follower: Mutex::new(None) };
+        guard.begun(bundles.into()).map_err(JournalError::Guard)
+    }
+
+    /// Follows these sources of trust bundles from now on, and no others. The record stays. Until they can be read, the last good bundles stay of
+    /// those trust domains that they name. No check waits while bundles are read.
+    ///
+    /// # Errors
+    ///
+    /// [`Error::Options`], [`Error::Bundles`], [`Error::TooMuch`], [`Error::NoMemory`]: the guard goes on with the sources before.
+    pub fn follow(&self, sources: impl Into<Sources>) -> Result<(), Error> {
+        let sources = sources.into();
+        sources.check()?;
+        let mut follower = self.follower.lock().unwrap_or_else(PoisonError::into_inner);
+        Follower::begin(&self.requests, sources, &mut follower)
+    }
+
+    /// The ID of this guard among those that share its record: that of its state folder, if it has one.
+    pub fn validator_id(&self) -> ValidatorId {
+        self.requests.core().validator_id()
+    }
+
+    /// Takes messages of other guards, or a record that was saved: no token that they tell of is accepted here, if it was not accepted before.
+    /// Taking a message twice, or in another order, makes no difference.
+    ///
+    /// # Errors
+    ///
+    /// [`Error::TooFar`], [`Error::Messages`], [`Error::TooMuch`]: nothing was taken. [`Error::NoMemory`]: a part may be taken, and you can take
+    /// the same messages again. [`Error::Jump`], [`Error::NoClock`].
+    pub fn take(&self, messages: impl AsRef<[u8]>) -> Result<(), Error> {
+        let now = self.requests.now()?;
+        self.requests.core().take(now, messages.as_ref())
+    }
+
+    /// The whole record as messages, for other guards or to save it.
+    ///
+    /// # Errors
+    ///
+    /// [`Error::NoMemory`].
+    pub fn tell(&self) -> Result<Vec<u8>, Error> {
+        self.requests.core().tell()
+    }
+
+    /// The summary of the record: a message of the same length for all, for a guard that is to [`answer`](Guard::answer) what is missing here.
+    ///
+    /// # Errors
+    ///
+    /// [`Error::NoMemory`].
+    pub fn summary(&self) -> Result<Vec<u8>, Error> {
+        self.requests.core().summary()
+    }
+
+    /// Answers the summary of another guard: messages with the uses that it may lack. The record advances to the summary's moment.
+    ///
+    /// # Errors
+    ///
+    /// [`Error::NotSummary`], [`Error::TooFar`], [`Error::Messages`], [`Error::TooMuch`], [`Error::NoMemory`], [`Error::Jump`],
+    /// [`Error::NoClock`].
+    pub fn answer(&self, summary: impl AsRef<[u8]>) -> Result<Vec<u8>, Error> {
+        let now = self.requests.now()?;
+        self.requests.core().answer(now, summary.as_ref())
+    }
+
+    /// The record's moment, and how many uses it has. It looks at none of them.
+    ///
+    /// # Errors
+    ///
+    /// [`Error::Unexpected`].
+    pub fn size(&self) -> Result<Size, Error> {
+        self.requests.core().size()
     }
 
     /// Withdraws the token with this key, which expires at `expires`, here, in the state folder and in the store: it is refused as
@@ -108,16 +191,7 @@ impl<V> Guard<V> {
     /// [`Error::Unavailable`] if the state folder or the store may lack it: withdraw it again. [`Error::Gone`] if the token has expired;
     /// [`Error::Jump`], [`Error::NoMemory`], [`Error::NoClock`].
     pub fn withdraw(&self, key: TokenKey, expires: u64) -> Result<Use, Error> {
-        self.withdraw_at(crate::now()?, key, expires)
-    }
-
-    /// The same, at the time `now`.
-    ///
-    /// # Errors
-    ///
-    /// Those of [`Guard::withdraw`].
-    pub fn withdraw_at(&self, now: u64, key: TokenKey, expires: u64) -> Result<Use, Error> {
-        let used = self.requests.withdraw(now, key, expires, self.journal.as_deref());
+        let used = self.requests.withdraw(key, expires, self.journal.as_deref());
         self.tidy();
         used
     }
@@ -131,15 +205,7 @@ impl<V> Guard<V> {
     /// # Ok::<(), svid::Error>(())
     /// ```
     pub fn unready(&self) -> Option<Error> {
-        match crate::now() {
-            Ok(now) => self.unready_at(now),
-            Err(why) => Some(why),
-        }
-    }
-
-    /// The same, at the time `now`.
-    pub fn unready_at(&self, now: u64) -> Option<Error> {
-        self.requests.unready(now, self.journal.as_deref())
+        self.requests.unready(self.journal.as_deref())
     }
 
     /// Takes a snapshot in the background, if one is due.
@@ -157,7 +223,7 @@ impl<V> Guard<V> {
         }
         let requests = Arc::clone(&self.requests);
         let takes = move || {
-            if let Err(why) = journal.snapshot(|parts, room| requests.validator().piece(parts, room)) {
+            if let Err(why) = journal.snapshot(|part, room| requests.core().piece(part, room)) {
                 requests.warn(&format_args!("the state folder has no new snapshot: {why}"));
             }
         };
@@ -166,70 +232,45 @@ impl<V> Guard<V> {
             Err(why) => self.requests.warn(&format_args!("the state folder has no new snapshot: {why}")),
         }
     }
-
-    /// Replaces the trust bundles. No check waits while they are read. The record stays.
-    ///
-    /// # Errors
-    ///
-    /// [`Error::Bundles`], [`Error::TooMuch`], [`Error::NoMemory`]: the old ones stay.
-    pub fn renew(&self, bundles: &[u8]) -> Result<(), Error> {
-        let mut bundles = Bundles::read(bundles)?;
-        // (the old ones are freed at the end, with no lock held)
-        let renewed = self.validator().renew(&mut bundles);
-        renewed
-    }
-
-    /// The validator, for its other calls. Hold it for as short as may be: no other thread checks meanwhile. Check by the guard: in a guard with a
-    /// mode, a journal or callers, `check` of the validator answers [`Error::Options`]. Never swap it with another one: its requests are the guard's.
-    pub fn validator(&self) -> MutexGuard<'_, Validator> {
-        self.requests.validator()
-    }
 }
 
 impl<V: Verify> Guard<V> {
-    /// Accepts a token, as [`Options::mode`] says, at the time of the system's clock.
+    /// Accepts a token, as [`Options::mode`] says.
     ///
     /// # Errors
     ///
-    /// Those of [`Guard::check_at`], and [`Error::NoClock`].
+    /// [`Error::Refused`] by the first reason that holds. [`Error::NotAllowed`] for a good token of who may not call. [`Error::Unavailable`] if the
+    /// state folder or the store fails, or takes longer than [`Options::wait`]; and before a trust bundle was read. [`Error::Jump`],
+    /// [`Error::NoMemory`], [`Error::NoClock`], [`Error::Unsupported`]. [`Error::Options`] in mode [`Bound`](crate::Mode::Bound). The token was
+    /// not accepted then.
     pub fn check(&self, token: impl AsRef<[u8]>) -> Result<Accepted, Error> {
-        self.answer(&crate::now, token.as_ref(), None)
+        self.accept(token.as_ref(), None)
     }
 
-    /// Accepts a token, as [`Options::mode`] says, at the time `now`.
-    ///
-    /// # Errors
-    ///
-    /// Those of [`Validator::check`]. [`Error::NotAllowed`] for a good token of who may not call. [`Error::Unavailable`] if the state folder or the
-    /// store fails, or takes longer than [`Options::wait`]. [`Error::Options`] in mode [`Bound`](crate::Mode::Bound).
-    pub fn check_at(&self, now: u64, token: impl AsRef<[u8]>) -> Result<Accepted, Error> {
-        self.answer(&|| Ok(now), token.as_ref(), None)
-    }
-
-    /// Accepts a token that `caller` presents, in mode [`Bound`](crate::Mode::Bound), at the time of the system's clock.
+    /// Accepts a token that `caller` presents, in mode [`Bound`](crate::Mode::Bound).
     ///
     /// # Errors
     ///
     /// Those of [`Guard::check`]; [`Error::Options`] in another mode.
     pub fn check_from(&self, caller: Caller, token: impl AsRef<[u8]>) -> Result<Accepted, Error> {
-        self.answer(&crate::now, token.as_ref(), Some(caller))
+        self.accept(token.as_ref(), Some(caller))
     }
 
-    /// The same, at the time `now`.
+    /// Says what a check would in mode [`Reuse`](crate::Mode::Reuse), and uses nothing up. Nobody hears of it.
     ///
     /// # Errors
     ///
-    /// Those of [`Guard::check_from`].
-    pub fn check_from_at(&self, now: u64, caller: Caller, token: impl AsRef<[u8]>) -> Result<Accepted, Error> {
-        self.answer(&|| Ok(now), token.as_ref(), Some(caller))
+    /// [`Error::Refused`] by the first reason that holds; [`Error::Jump`], [`Error::NoMemory`], [`Error::NoClock`], [`Error::Unsupported`].
+    pub fn judge(&self, token: impl AsRef<[u8]>) -> Result<Accepted, Error> {
+        self.requests.judge(token.as_ref(), &self.verifier)
     }
 
-    fn answer(&self, now: &dyn Fn() -> Result<u64, Error>, token: &[u8], caller: Option<Caller>) -> Result<Accepted, Error> {
+    fn accept(&self, token: &[u8], caller: Option<Caller>) -> Result<Accepted, Error> {
         if caller.is_some() != self.requests.is_bound() {
             return Err(Error::Options(OptionsFault::Presenter));
         }
         let caller = caller.map_or([0; 32], |it| it.0);
-        let accepted = self.requests.check(token, now, caller, &self.verifier, self.journal.as_deref());
+        let accepted = self.requests.check(token, caller, &self.verifier, self.journal.as_deref());
         self.tidy();
         accepted
     }
@@ -251,14 +292,14 @@ impl<V: Verify> Guard<V> {
     /// As those of [`Guard::admit`].
     ///
     /// ```
-    /// # #[cfg(feature = "openssl")] {
-    /// # let bundles = include_bytes!(concat!(env!("CARGO_MANIFEST_DIR"), "/../../examples/bundles.json"));
-    /// # let token = include_str!(concat!(env!("CARGO_MANIFEST_DIR"), "/../../examples/token.txt")).trim();
+    /// # #[cfg(feature = "testing")] {
+    /// # let issuer = svid::testing::Issuer::new("example.org");
+    /// # let token = issuer.token("/billing/api", "ledger");
     /// # let header = format!("Bearer {token}");
-    /// use svid::{Caller, Guard, MemoryStore, Mode, OpenSsl, Options};
+    /// use svid::{testing::MemoryStore, Caller, Guard, Mode, OpenSsl, Options};
     ///
     /// let options = Options::new(["ledger"]).mode(Mode::Bound).store(std::sync::Arc::new(MemoryStore::new()));
-    /// let guard = Guard::open(&options, bundles, OpenSsl::new())?;
+    /// let guard = Guard::open(&options, issuer.bundles(), OpenSsl::new())?;
     /// let (owner, thief) = (|| Caller::of("192.0.2.1"), || Caller::of("192.0.2.2"));
     /// assert!(guard.admit_from(owner, [&header]).is_ok());
     /// assert!(guard.admit_from(owner, [&header]).is_ok());
@@ -273,6 +314,24 @@ impl<V: Verify> Guard<V> {
         Ok(self.check_from(caller(), bearer_token(values)?)?)
     }
 
+    /// As [`Guard::admit`], of a request. `None` where its path needs no token ([`Options::open_paths`]).
+    ///
+    /// # Errors
+    ///
+    /// As those of [`Guard::admit`].
+    #[cfg(feature = "http")]
+    pub fn admit_request<B>(&self, request: &http::Request<B>) -> Result<Option<Accepted>, Denied> {
+        match self.requests.is_open(request.uri().path()) {
+            true => Ok(None),
+            false => self.admit(request.headers().get_all(http::header::AUTHORIZATION)).map(Some),
+        }
+    }
+
+    /// Whether a path needs no token ([`Options::open_paths`]).
+    pub fn is_open(&self, path: &str) -> bool {
+        self.requests.is_open(path)
+    }
+
     /// As [`Guard::admit`], where only the IDs that one of the patterns allows may call. The token of another caller is judged, and is not used up:
     /// of a good one the answer is [`Denied::NotAllowed`]. No pattern at all lets nobody in. [`Options::callers`] does so for all requests.
     ///
@@ -281,10 +340,10 @@ impl<V: Verify> Guard<V> {
     /// As those of [`Guard::admit`].
     ///
     /// ```
-    /// # #[cfg(feature = "openssl")] {
-    /// # let bundles = include_bytes!(concat!(env!("CARGO_MANIFEST_DIR"), "/../../examples/bundles.json"));
-    /// # let token = include_str!(concat!(env!("CARGO_MANIFEST_DIR"), "/../../examples/token.txt")).trim();
-    /// # let guard = svid::Guard::open(&svid::Options::new(["ledger"]), bundles, svid::OpenSsl::new())?;
+    /// # #[cfg(feature = "testing")] {
+    /// # let issuer = svid::testing::Issuer::new("example.org");
+    /// # let token = issuer.token("/billing/api", "ledger");
+    /// # let guard = svid::Guard::open(&svid::Options::new(["ledger"]), issuer.bundles(), svid::OpenSsl::new())?;
     /// # let header = format!("Bearer {token}");
     /// let billing = [svid::Pattern::parse("spiffe://example.org/billing/*").unwrap()];
     /// let web = [svid::Pattern::parse("spiffe://example.org/web").unwrap()];
@@ -308,7 +367,7 @@ impl<V: Verify> Guard<V> {
                 Err(_) => return Err(Error::NoMemory.into()),
             }
         }
-        self.requests.judge(token, &crate::now, &self.verifier)?;
+        self.judge(token)?;
         Err(Denied::NotAllowed)
     }
 }
@@ -316,6 +375,7 @@ impl<V: Verify> Guard<V> {
 impl<V> Drop for Guard<V> {
     fn drop(&mut self) {
         self.requests.close();
+        drop(self.follower.get_mut().unwrap_or_else(PoisonError::into_inner).take());
         let last = self.snapshot.get_mut().unwrap_or_else(PoisonError::into_inner).take();
         if let Some(last) = last {
             // (it panics nowhere; if it did, there would be nothing left to wait for)

@@ -4,7 +4,6 @@ use std::fmt;
 
 use crate::error::{Error, Unexpected};
 use crate::ffi::{self, Told};
-use crate::record::Question;
 use crate::words;
 
 /// An algorithm of JWT-SVIDs (JWT-SVID, section 2.1).
@@ -96,7 +95,6 @@ impl fmt::Display for Algorithm {
 /// A key that may have signed a token, by the algorithm that the token names.
 #[derive(Debug, Clone, Copy, PartialEq, Eq)]
 pub struct Candidate<'a> {
-    pub(crate) question: Option<Question>,
     algorithm: Algorithm,
     jwk: &'a [u8],
 }
@@ -110,12 +108,6 @@ impl<'a> Candidate<'a> {
     /// The key as JSON (RFC 7517), in UTF-8. Keep a parsed key by its algorithm and this text, and not by its `kid`, which is not unique.
     pub fn jwk(&self) -> &'a [u8] {
         self.jwk
-    }
-
-    /// The question if this key made the token's signature. [`Validator::ask`](crate::Validator::ask) gives it, and
-    /// [`Bundles::candidates`](crate::Bundles::candidates) does not: see [`Bundles::question`](crate::Bundles::question).
-    pub fn question(&self) -> Option<Question> {
-        self.question
     }
 
     /// The public key as SubjectPublicKeyInfo in DER (RFC 5280, section 4.1.2.7). An RSA key may have up to `most_bits` bits, and never more
@@ -249,48 +241,15 @@ impl KeyFault {
 
 named!(KeyFault);
 
-/// The keys that may have signed a token, in the order of their bundle.
-#[derive(Debug, Clone)]
-pub struct Candidates {
-    rows: Vec<u8>,
-    has_questions: bool,
-    has_more: bool,
-}
-
-impl Candidates {
-    pub(crate) fn new(rows: Vec<u8>, has_questions: bool, told: &Told) -> Candidates {
-        Candidates { rows, has_questions, has_more: told.more == 1 }
-    }
-
-    /// Whether more keys may have signed the token than are here.
-    pub fn has_more(&self) -> bool {
-        self.has_more
-    }
-
-    /// Each key.
-    ///
-    /// # Errors
-    ///
-    /// [`Error::Unexpected`] for a row that this crate does not know.
-    pub fn iter(&self) -> impl Iterator<Item = Result<Candidate<'_>, Error>> {
-        Rows { rest: &self.rows, has_questions: self.has_questions }
-    }
-}
-
 /// The rows that the library writes for a token.
 pub(crate) struct Rows<'a> {
     pub rest: &'a [u8],
-    pub has_questions: bool,
 }
 
 impl<'a> Rows<'a> {
     fn row(&mut self) -> Option<Candidate<'a>> {
-        let question = match self.has_questions {
-            true => Some(Question(self.bytes(32)?.try_into().ok()?)),
-            false => None,
-        };
         let algorithm = Algorithm::of_name(self.text()?)?;
-        Some(Candidate { question, algorithm, jwk: self.text()? })
+        Some(Candidate { algorithm, jwk: self.text()? })
     }
 
     /// The next field, which has its length before it.

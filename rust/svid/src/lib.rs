@@ -4,29 +4,31 @@
 //! This crate is over a C library whose functions are proved to meet their contracts. It carries bytes, waits, and calls the library; the
 //! library decides. Signatures are verified by OpenSSL (feature `openssl`) or ring (feature `ring`), or by a [`Verify`] of your own.
 //!
-//! - [`Guard`] is what a service has: a validator for any number of threads, with a verifier. [`Options::mode`] says how often it accepts a token.
+//! - [`Guard`] is what a service has, for any number of threads. [`Options::mode`] says how often it accepts a token.
+//! - [`Sources`] say where the trust bundles come from. The guard follows them.
 //! - [`Store`] is the trait of a store that guards share, which you write over the client of your database.
-//! - [`Validator`] is for one thread. [`Member`] is one whose group shares a log, so that the whole group accepts a token once.
 //! - [`Journal`] keeps a record over restarts and crashes.
+//! - [`LogMember`] is for a group that has nothing but a log.
 //! - [`Refusal`] says why a token is refused, and [`Error`] why there is no answer.
 //!
 //! ```
-//! # #[cfg(feature = "openssl")] {
-//! # let bundles = include_bytes!(concat!(env!("CARGO_MANIFEST_DIR"), "/../../examples/bundles.json"));
-//! # let token = include_str!(concat!(env!("CARGO_MANIFEST_DIR"), "/../../examples/token.txt")).trim();
-//! use svid::{Error, Guard, OpenSsl, Options, Refusal};
+//! # #[cfg(feature = "testing")] {
+//! use svid::{testing::Issuer, Error, Guard, OpenSsl, Options, Refusal};
 //!
-//! let guard = Guard::open(&Options::new(["ledger"]), bundles, OpenSsl::new())?;
-//! assert_eq!(guard.check(token)?.spiffe_id(), "spiffe://example.org/billing/api");
-//! assert_eq!(guard.check(token), Err(Error::Refused(Refusal::Replayed)));
+//! let issuer = Issuer::new("example.org");
+//! let token = issuer.token("/billing/api", "ledger");
+//! let guard = Guard::open(&Options::new(["ledger"]), issuer.bundles(), OpenSsl::new())?;
+//! assert_eq!(guard.check(&token)?.spiffe_id(), "spiffe://example.org/billing/api");
+//! assert_eq!(guard.check(&token), Err(Error::Refused(Refusal::Replayed)));
 //! # }
 //! # Ok::<(), svid::Error>(())
 //! ```
 //!
 //! It needs Linux on x86-64 or aarch64, where the C library is in the crate. Elsewhere `LIBSVID_DIR` names the folder of a `libsvid.a`.
 //!
-//! No call panics, whatever it is given. A call that has no memory says so, except where [`Options`] and `Debug` make texts, where a guard is
-//! opened or begins a thread, where a write to a state folder begins, and within OpenSSL's and ring's crates.
+//! No call panics, whatever it is given, but for those of the module `testing`. A call that has no memory says so, except where [`Options`],
+//! [`Sources`] and `Debug` make texts, where a guard or a [`LogMember`] is opened, where a guard follows other sources or begins a thread, where bundles
+//! or a state folder are read and a write begins, and within the crates of others.
 #![deny(missing_docs)]
 #![deny(unsafe_op_in_unsafe_fn)]
 #![deny(clippy::undocumented_unsafe_blocks)]
@@ -47,45 +49,49 @@ mod bearer;
 mod bundles;
 mod caller;
 mod claims;
+#[cfg(feature = "https")]
+mod endpoint;
 mod error;
 mod ffi;
+mod follower;
 mod guard;
 mod handle;
 mod id;
 mod journal;
 mod key;
-mod member;
-pub mod messages;
+mod log_member;
 mod open_token;
 mod options;
+mod paths;
 mod pattern;
 mod record;
 mod refusal;
 mod requests;
+mod sources;
 mod store;
+#[cfg(any(test, feature = "testing"))]
+pub mod testing;
 mod token;
 mod unavailable;
-mod validator;
 mod verify;
 mod words;
 
 pub use crate::bearer::{bearer_token, BearerFault, Denied};
-pub use crate::bundles::Bundles;
 pub use crate::caller::Caller;
-pub use crate::error::{BundlesFault, DocumentFault, Error, MessageFault, MessagesError, OptionsFault, Unexpected};
+pub use crate::error::{BundlesFault, DocumentFault, Error, MessageFault, MessagesError, OptionsFault, SourceFault, Unexpected};
 pub use crate::guard::Guard;
 pub use crate::id::{IdError, IdFault, SpiffeId};
 pub use crate::journal::{Journal, JournalError};
-pub use crate::key::{Algorithm, Candidate, Candidates, Hash, KeyError, KeyFault, Spki};
-pub use crate::member::{Fate, LogPosition, LogStart, Member, Order, Reading};
+pub use crate::key::{Algorithm, Candidate, Hash, KeyError, KeyFault, Spki};
+pub use crate::log_member::{Fate, LogMember, LogPosition, LogStart, Order, Reading};
 pub use crate::options::{Mode, Options};
 pub use crate::pattern::{Pattern, PatternError, PatternFault};
-pub use crate::record::{Accepted, Question, Size, TokenKey, Use, ValidatorId};
+pub use crate::record::{Accepted, Size, TokenKey, Use, ValidatorId};
 pub use crate::refusal::Refusal;
-pub use crate::store::{Claim, Found, MemoryStore, Store, StoreError, WITHDRAWN};
+pub use crate::sources::Sources;
+pub use crate::store::{Claim, Found, Store, StoreError, WITHDRAWN};
 pub use crate::token::Said;
 pub use crate::unavailable::Unavailable;
-pub use crate::validator::{Parts, Validator};
 pub use crate::verify::{Unverified, Verify};
 
 #[cfg(feature = "openssl")]
@@ -98,9 +104,6 @@ pub const MOST_CANDIDATES: usize = ffi::MOST_CANDIDATES;
 
 /// How many bits an RSA key may have, unless a verifier is told otherwise.
 pub const USUAL_RSA_BITS: usize = ffi::USUAL_RSA_BITS;
-
-/// How many bytes a piece of a record has at the least: those of a batch of one use.
-pub const PIECE_LEAST: usize = ffi::BATCH_OF_LEN;
 
 /// The time of the system's clock, in whole seconds since 1970.
 ///

@@ -5,6 +5,8 @@ use std::ops::Range;
 use crate::error::Error;
 use crate::ffi::{self, Handle, Told};
 use crate::key::Rows;
+use crate::record::Says;
+use crate::refusal::Refusal;
 use crate::verify::{Unverified, Verify};
 
 /// How much room is there at first for what a verifier needs of a token: enough for most bundles.
@@ -15,6 +17,8 @@ const ROOM: usize = 4096;
 pub(crate) struct OpenToken<'a> {
     pub raw: Handle,
     text: &'a [u8],
+    /// What is told of it once it is accepted.
+    pub says: Says,
     /// What `svid_validator_ask_token` writes.
     pub rows: Vec<u8>,
     /// Which bundles were asked for its keys: as many were replaced before these.
@@ -40,10 +44,10 @@ pub(crate) struct Evidence<'a> {
 }
 
 impl<'a> OpenToken<'a> {
-    /// Reads a token.
-    pub fn read(text: &'a [u8]) -> Result<OpenToken<'a>, Error> {
-        let (rows, mut told) = (Vec::new(), Told::default());
-        let mut token = OpenToken { raw: Handle::CLOSED, text, rows, edition: None, shown: None, is_unsupported: false };
+    /// Reads a token for a service of these names.
+    pub fn read(text: &'a [u8], own: &[String]) -> Result<OpenToken<'a>, Error> {
+        let (says, rows, mut told) = (Says::of(text, own)?, Vec::new(), Told::default());
+        let mut token = OpenToken { raw: Handle::CLOSED, text, says, rows, edition: None, shown: None, is_unsupported: false };
         ffi::grow(&mut token.rows, ROOM).map_err(|_| Error::NoMemory)?;
         // SAFETY: the handle is closed, the text is a slice with its length, and nothing overlaps.
         let status = unsafe { ffi::svid_token_open(&mut token.raw, text.as_ptr(), text.len(), &mut told) };
@@ -61,7 +65,7 @@ impl<'a> OpenToken<'a> {
         }
         let unknown = || Error::unexpected(ffi::OK);
         let rows = self.rows.get(..len).ok_or_else(unknown)?;
-        let mut rest = Rows { rest: rows, has_questions: false };
+        let mut rest = Rows { rest: rows };
         let input = rest.len().ok_or_else(unknown)?;
         let (signed, signature) = (self.text.get(..input).ok_or_else(unknown)?, rest.text().ok_or_else(unknown)?);
         let at = |rest: &Rows<'_>, of: &[u8]| len - rest.rest.len() - of.len()..len - rest.rest.len();
@@ -80,6 +84,14 @@ impl<'a> OpenToken<'a> {
             }
         }
         Ok(())
+    }
+
+    /// Why it is not accepted: by a verifier that does not know whether a key made its signature, want of that is no bad signature.
+    pub fn why(&self, why: Error) -> Error {
+        match why {
+            Error::Refused(Refusal::BadSignature) if self.is_unsupported => Error::Unsupported,
+            why => why,
+        }
     }
 
     /// The handle of the token, and what a key has signed.

@@ -1,4 +1,4 @@
-//! What a validator is for.
+//! What a guard is for.
 
 use std::fmt;
 use std::sync::Arc;
@@ -6,9 +6,13 @@ use std::time::Duration;
 
 use crate::error::{Error, OptionsFault};
 use crate::ffi;
+use crate::paths::Paths;
 use crate::pattern::{Pattern, PatternError};
 use crate::record::ValidatorId;
 use crate::store::Store;
+
+/// How many seconds a token may still live, where no option says so.
+const USUAL_LONGEST: u64 = 3600;
 
 /// How often a guard accepts a token.
 #[derive(Debug, Clone, Copy, PartialEq, Eq, Hash, Default)]
@@ -36,18 +40,22 @@ impl Mode {
     }
 
     /// Whether tokens are claimed in a store.
-    fn has_claims(self) -> bool {
+    pub(crate) fn has_claims(self) -> bool {
         matches!(self, Mode::Strict | Mode::Bound)
     }
 }
 
 /// What is told of what goes wrong beside a check.
 pub(crate) type Warns = dyn Fn(&dyn fmt::Display) + Send + Sync;
+/// What is told of each token that is not accepted.
+pub(crate) type Refuses = dyn Fn(&Error) + Send + Sync;
+/// Gives the time in seconds since 1970.
+pub(crate) type Now = dyn Fn() -> Result<u64, Error> + Send + Sync;
 
-/// What a validator is given for its whole life. All times are in seconds.
+/// What a guard is given for its whole life. All times are in seconds.
 ///
 /// ```
-/// let options = svid::Options::new(["ledger"]).longest(3600).step(86_400);
+/// let options = svid::Options::new(["ledger"]).longest(900).step(86_400);
 /// ```
 #[derive(Clone)]
 pub struct Options {
@@ -60,15 +68,19 @@ pub struct Options {
     pub(crate) store: Option<Arc<dyn Store>>,
     callers: Option<Vec<String>>,
     pub(crate) wait: Duration,
-    pub(crate) warns: Option<Arc<Warns>>,
+    pub(crate) warns: Arc<Warns>,
+    pub(crate) refuses: Arc<Refuses>,
+    pub(crate) now: Arc<Now>,
+    open_paths: Vec<String>,
 }
 
 impl Options {
-    /// Options of a validator with these audiences: this service's own names. A token is for it if one of them is in `aud`.
+    /// Options of a guard with these audiences: this service's own names. A token is for it if one of them is in `aud`. No audience at all is a
+    /// fault.
     pub fn new<A: Into<String>>(audiences: impl IntoIterator<Item = A>) -> Options {
         Options {
             audiences: audiences.into_iter().map(Into::into).collect(),
-            longest: u64::MAX,
+            longest: USUAL_LONGEST,
             ahead: 10,
             step: u64::MAX,
             validator_id: None,
@@ -76,19 +88,28 @@ impl Options {
             store: None,
             callers: None,
             wait: Duration::from_secs(2),
-            warns: None,
+            warns: Arc::new(|what| log::warn!("{what}")),
+            refuses: Arc::new(|why| log::info!("a token is not accepted: {why}")),
+            now: Arc::new(crate::now),
+            open_paths: Vec::new(),
         }
     }
 
     /// A token that expires more than so many seconds past the record's moment is refused as [`TooLongLived`](crate::Refusal::TooLongLived).
-    /// Without it there is no limit. It bounds how long a use stays in the record.
+    /// Without it, 3,600. It bounds how long a use stays in the record. [`Options::any_life`] sets no limit.
     #[must_use]
     pub fn longest(mut self, seconds: u64) -> Options {
         self.longest = seconds;
         self
     }
 
-    /// How many seconds a message's moment may lie past `now`: a little more than clocks differ. Without it, 10.
+    /// A token may expire at any time, so the record may grow without a limit.
+    #[must_use]
+    pub fn any_life(self) -> Options {
+        self.longest(u64::MAX)
+    }
+
+    /// How many seconds the clocks of the group may differ: so far past `now` a message's moment may lie, and the time of a store. Without it, 10.
     #[must_use]
     pub fn ahead(mut self, seconds: u64) -> Options {
         self.ahead = seconds;
@@ -117,7 +138,8 @@ impl Options {
         self
     }
 
-    /// The store of the group, in the modes [`Strict`](Mode::Strict) and [`Bound`](Mode::Bound), and in no other one.
+    /// The store of the group. In the modes [`Strict`](Mode::Strict) and [`Bound`](Mode::Bound) each token is claimed there, and in all modes but
+    /// strict its [withdrawals](Store::withdrawals) are read.
     #[must_use]
     pub fn store(mut self, store: Arc<dyn Store>) -> Options {
         self.store = Some(store);
@@ -139,18 +161,45 @@ impl Options {
         self
     }
 
-    /// Hears what an operator should read: that the store does not answer, or that the state folder keeps nothing. Threads of the guard call it,
-    /// so let it return at once, and call the guard from nowhere in it.
+    /// Hears what an operator should read: that the store does not answer, that the state folder keeps nothing, or that a bundle can't be read.
+    /// Threads of the guard call it, so let it return at once, and call the guard from nowhere in it. Without it, warnings of the crate `log`.
     #[must_use]
     pub fn warns(mut self, hears: impl Fn(&dyn fmt::Display) + Send + Sync + 'static) -> Options {
-        self.warns = Some(Arc::new(hears));
+        self.warns = Arc::new(hears);
+        self
+    }
+
+    /// Hears why a token is not accepted, of each one. The thread of the check calls it, so let it return at once. No error has anything of
+    /// the token in it. Without it, lines of the level info of the crate `log`.
+    #[must_use]
+    pub fn refuses(mut self, hears: impl Fn(&Error) + Send + Sync + 'static) -> Options {
+        self.refuses = Arc::new(hears);
+        self
+    }
+
+    /// The clock by which tokens are judged, in seconds since 1970, for tests. Without it, [`now`](crate::now). [`Options::wait`] goes by the
+    /// system's own clock.
+    #[must_use]
+    pub fn clock(mut self, now: impl Fn() -> u64 + Send + Sync + 'static) -> Options {
+        self.now = Arc::new(move || Ok(now()));
+        self
+    }
+
+    /// Paths of requests that need no token: "/healthz" is that path alone, and "/static/*" each path below "/static". A path is listed in
+    /// letters, digits and `-._~`, decoded. A request whose path could be read in two ways is on no list.
+    #[must_use]
+    pub fn open_paths<P: Into<String>>(mut self, paths: impl IntoIterator<Item = P>) -> Options {
+        self.open_paths = paths.into_iter().map(Into::into).collect();
         self
     }
 
     /// Whether a guard can have these options.
-    pub(crate) fn fit_a_guard(&self) -> Result<(), Error> {
+    pub(crate) fn fit(&self) -> Result<(), Error> {
         let fault = |why| Err(Error::Options(why));
-        if self.mode.has_claims() != self.store.is_some() {
+        if self.audiences.is_empty() {
+            return fault(OptionsFault::NoAudience);
+        }
+        if self.mode.has_claims() && self.store.is_none() {
             return fault(OptionsFault::Store);
         }
         if self.wait < Duration::from_millis(1) {
@@ -177,12 +226,17 @@ impl Options {
         }
     }
 
-    /// Whether a validator without a member can have these options.
-    pub(crate) fn fit_a_validator(&self) -> Result<(), Error> {
+    /// Whether a member of a log can have these options.
+    pub(crate) fn fit_a_log(&self) -> Result<(), Error> {
         match self.mode != Mode::Once || self.store.is_some() || self.callers.is_some() {
             true => Err(Error::Options(OptionsFault::Guard)),
-            false => Ok(()),
+            false => self.fit(),
         }
+    }
+
+    /// How many seconds a claim may live once it is made.
+    pub(crate) fn lasts(&self) -> u64 {
+        self.longest.saturating_add(self.ahead.saturating_mul(2))
     }
 
     /// The audiences and who may call, each as lines, if not all may.
@@ -191,6 +245,16 @@ impl Options {
             Some(callers) => Ok(Some(Rules { own: lines(&self.audiences)?, callers: lines(callers)? })),
             None => Ok(None),
         }
+    }
+
+    /// Which paths need no token.
+    pub(crate) fn paths(&self) -> Result<Paths, Error> {
+        Paths::of(&self.open_paths).map_err(|number| Error::Options(OptionsFault::Path { number }))
+    }
+
+    /// The names of this service.
+    pub(crate) fn own_audiences(&self) -> &[String] {
+        &self.audiences
     }
 
     pub(crate) fn own_id(&self) -> Result<ValidatorId, Error> {

@@ -7,6 +7,7 @@ use std::io::{self, Read};
 use crate::error::Error;
 use crate::ffi;
 use crate::id::SpiffeId;
+use crate::token::Said;
 
 /// 16 bytes that name a validator among all that share its record. Two validators of one ID accept a token twice, so take a random one for
 /// each process.
@@ -30,11 +31,6 @@ impl ValidatorId {
 #[derive(Clone, Copy, PartialEq, Eq, PartialOrd, Ord, Hash)]
 pub struct TokenKey(pub [u8; 32]);
 
-/// The question if a key made the signature of a token: a SHA-256 over both. So an answer can't be taken for that of another token or key.
-#[derive(Clone, Copy, PartialEq, Eq, PartialOrd, Ord, Hash)]
-#[repr(transparent)]
-pub struct Question(pub [u8; 32]);
-
 macro_rules! hexadecimal {
     ($($kind:ident)*) => {$(
         /// Writes its hexadecimal digits.
@@ -52,7 +48,7 @@ macro_rules! hexadecimal {
     )*};
 }
 
-hexadecimal!(ValidatorId TokenKey Question);
+hexadecimal!(ValidatorId TokenKey);
 
 /// One entry of a record: a token was accepted, or withdrawn. Times are in seconds since 1970.
 #[derive(Debug, Clone, Copy, PartialEq, Eq, Hash)]
@@ -70,7 +66,7 @@ pub struct Use {
 }
 
 impl Use {
-    /// The entry as a message, for [`Validator::take`](crate::Validator::take) of other validators. Messages are put one after the other.
+    /// The entry as a message, for [`Guard::take`](crate::Guard::take) of other guards. Messages are put one after the other.
     ///
     /// # Errors
     ///
@@ -92,16 +88,45 @@ impl Use {
     }
 }
 
-/// A token that a validator accepted, or would accept.
+/// A token that a guard accepted, or would accept.
 #[derive(Debug, Clone, PartialEq, Eq)]
 pub struct Accepted {
     spiffe_id: String,
     used: Use,
+    says: Says,
+}
+
+/// What an accepted token says beside its subject and its expiry. It is read before the token is accepted, so that no want of memory loses it.
+#[derive(Debug, Clone, Default, PartialEq, Eq)]
+pub(crate) struct Says {
+    audience: String,
+    key_id: String,
+    payload: Vec<u8>,
+}
+
+impl Says {
+    /// Reads a token for a service of these names.
+    pub fn of(token: &[u8], own: &[String]) -> Result<Says, Error> {
+        let (said, mut payload, mut told) = (Said::of(token)?, Vec::new(), ffi::Told::default());
+        let written = ffi::written(&mut payload, &mut told, |out, out_len, told| {
+            // SAFETY: the token is a slice with its length, and `out` is another one, with its own.
+            unsafe { ffi::svid_token_payload(token.as_ptr(), token.len(), out, out_len, told) }
+        });
+        payload.truncate(written.map_err(|status| Error::of(status, &told))?);
+        let audience = said.audiences().find(|name| own.iter().any(|it| it == name)).unwrap_or_default();
+        let copied = |text: &str| text_of(text.as_bytes(), &mut Vec::new());
+        Ok(Says { audience: copied(audience)?, key_id: copied(said.key_id())?, payload })
+    }
+
+    /// All of it, for whoever asked.
+    pub fn take(&mut self) -> Says {
+        std::mem::take(self)
+    }
 }
 
 impl Accepted {
-    pub(crate) fn new(spiffe_id: String, used: Use) -> Accepted {
-        Accepted { spiffe_id, used }
+    pub(crate) fn new(spiffe_id: String, used: Use, says: Says) -> Accepted {
+        Accepted { spiffe_id, used, says }
     }
 
     /// The SPIFFE ID of the token's subject, as "spiffe://example.org/billing/api".
@@ -119,9 +144,39 @@ impl Accepted {
         SpiffeId::parse(&self.spiffe_id).map_or("", |id| id.path())
     }
 
+    /// The audience of this service that the token names: the first one, if it names several.
+    pub fn audience(&self) -> &str {
+        &self.says.audience
+    }
+
+    /// The name of the token's key, its `kid`; "" where it has none.
+    pub fn key_id(&self) -> &str {
+        &self.says.key_id
+    }
+
     /// When the token expires, in seconds since 1970.
     pub fn expires(&self) -> u64 {
         self.used.expires
+    }
+
+    /// All claims of the token, as its issuer signed them.
+    ///
+    /// # Errors
+    ///
+    /// What [`serde_json`] can't read though the token is good, such as lists that nest more than 127 deep.
+    ///
+    /// ```
+    /// # #[cfg(feature = "openssl")] {
+    /// # let bundles = include_bytes!(concat!(env!("CARGO_MANIFEST_DIR"), "/../../examples/bundles.json"));
+    /// # let token = include_str!(concat!(env!("CARGO_MANIFEST_DIR"), "/../../examples/token.txt")).trim();
+    /// # let guard = svid::Guard::open(&svid::Options::new(["ledger"]).any_life(), bundles, svid::OpenSsl::new())?;
+    /// let accepted = guard.check(token)?;
+    /// assert_eq!(accepted.claims().unwrap()["sub"], "spiffe://example.org/billing/api");
+    /// # }
+    /// # Ok::<(), svid::Error>(())
+    /// ```
+    pub fn claims(&self) -> Result<serde_json::Map<String, serde_json::Value>, serde_json::Error> {
+        serde_json::from_slice(&self.says.payload)
     }
 
     /// What the record has gained; of a token that was only judged, what it would gain.

@@ -7,45 +7,51 @@
 mod tests;
 
 use std::fmt;
+use std::sync::atomic::{AtomicBool, Ordering};
 use std::sync::{Arc, Mutex, MutexGuard, PoisonError, Weak};
 use std::thread;
 use std::time::Duration;
 
+use crate::bundles::Bundles;
 use crate::claims::{Claims, Clock, Due};
 use crate::error::Error;
 use crate::ffi;
-use crate::handle::{unsupported, Core, Step};
+use crate::handle::{Core, Step};
 use crate::journal::{Journal, JournalError};
 use crate::open_token::OpenToken;
-use crate::options::{Mode, Options, Warns};
+use crate::options::{Mode, Now, Options, Refuses, Warns};
+use crate::paths::Paths;
 use crate::record::{Accepted, TokenKey, Use, ValidatorId};
 use crate::store::{Claim, Found, StoreError};
 use crate::unavailable::Unavailable;
-use crate::validator::Validator;
 use crate::verify::Verify;
 
 /// What all threads share that answer requests.
 pub(crate) struct Requests {
-    validator: Mutex<Validator>,
+    core: Mutex<Core>,
+    now: Arc<Now>,
     clock: Clock,
+    own: Vec<String>,
+    paths: Paths,
     wait: Duration,
     longest: u64,
     life: [u8; 16],
     is_bound: bool,
     pub(crate) claims: Option<Arc<Claims>>,
-    warns: Option<Arc<Warns>>,
+    warns: Arc<Warns>,
+    refuses: Arc<Refuses>,
+    /// Trust bundles were read.
+    is_bundled: AtomicBool,
     /// What the disk did not take last: the number of the request, and its use as a message.
     unkept: Mutex<Option<(u64, [u8; ffi::BATCH_OF_LEN])>>,
 }
 
-/// Gives the time of a call.
-type Now<'a> = &'a dyn Fn() -> Result<u64, Error>;
-
 impl Requests {
     /// Opens a validator and its member, which judges no token before `begin`.
-    pub fn open(options: &Options, bundles: &[u8], has_disk: bool) -> Result<Arc<Requests>, Error> {
-        options.fit_a_guard()?;
-        let mut core = Core::open(options, bundles)?;
+    pub fn open(options: &Options, has_disk: bool) -> Result<Arc<Requests>, Error> {
+        options.fit()?;
+        let paths = options.paths()?;
+        let mut core = Core::open(options)?;
         let (mode, store, clock) = (options.mode, &options.store, Clock::new());
         let life = match store {
             Some(_) => ValidatorId::random().map_err(|_| Error::NoRandom)?.0,
@@ -58,23 +64,26 @@ impl Requests {
             log: 0,
             wait: u64::try_from(options.wait.as_millis()).unwrap_or(u64::MAX).min(1 << 63),
             ahead: options.ahead,
-            lasts: options.longest.saturating_add(options.ahead.saturating_mul(2)),
+            lasts: options.lasts(),
             life,
         })?;
-        let rules = options.rules()?;
-        if let Some(rules) = &rules {
+        if let Some(rules) = options.rules()? {
             core.rules(&rules.own, &rules.callers)?;
         }
-        core.is_guarded = mode != Mode::Once || has_disk || rules.is_some();
         Ok(Arc::new(Requests {
-            validator: Mutex::new(Validator { core }),
+            core: Mutex::new(core),
+            now: Arc::clone(&options.now),
             clock,
+            own: options.own_audiences().to_vec(),
+            paths,
             wait: options.wait,
             longest: options.longest,
             life,
             is_bound: mode == Mode::Bound,
-            claims: store.as_ref().map(|store| Claims::new(Arc::clone(store), clock)),
-            warns: options.warns.clone(),
+            claims: store.as_ref().map(|store| Claims::new(Arc::clone(store), clock, mode != Mode::Strict)),
+            warns: Arc::clone(&options.warns),
+            refuses: Arc::clone(&options.refuses),
+            is_bundled: AtomicBool::new(false),
             unkept: Mutex::new(None),
         }))
     }
@@ -96,26 +105,50 @@ impl Requests {
         self.is_bound
     }
 
-    /// The validator. No thread waits for anything with it in its hands.
-    pub fn validator(&self) -> MutexGuard<'_, Validator> {
-        self.validator.lock().unwrap_or_else(PoisonError::into_inner)
+    /// The record and its member. No thread waits for anything with it in its hands.
+    pub fn core(&self) -> MutexGuard<'_, Core> {
+        self.core.lock().unwrap_or_else(PoisonError::into_inner)
     }
 
-    /// Answers a token.
+    /// The time, in seconds since 1970.
+    pub fn now(&self) -> Result<u64, Error> {
+        (self.now)()
+    }
+
+    /// Whether a path needs no token.
+    pub fn is_open(&self, path: &str) -> bool {
+        self.paths.has(path)
+    }
+
+    /// Answers a token, and tells who hears of that why it is not accepted.
     pub fn check(
         self: &Arc<Requests>,
         text: &[u8],
-        now: Now<'_>,
         caller: [u8; 32],
         verifier: &(impl Verify + ?Sized),
         journal: Option<&Journal>,
     ) -> Result<Accepted, Error> {
-        let mut token = self.read(text, now)?;
+        let answer = self.answer(text, caller, verifier, journal);
+        if let Err(why) = &answer {
+            // (who hears of it must not let the request panic)
+            let _ = std::panic::catch_unwind(std::panic::AssertUnwindSafe(|| (self.refuses)(why)));
+        }
+        answer
+    }
+
+    fn answer(
+        self: &Arc<Requests>,
+        text: &[u8],
+        caller: [u8; 32],
+        verifier: &(impl Verify + ?Sized),
+        journal: Option<&Journal>,
+    ) -> Result<Accepted, Error> {
+        let mut token = self.read(text)?;
         let (number, len) = {
-            let mut validator = self.validator();
-            (validator.core.come(self.clock.up(), caller)?, validator.core.keys_of(&mut token))
+            let mut core = self.core();
+            (core.come(self.clock.up(), caller)?, core.keys_of(&mut token))
         };
-        let mut request = Request { requests: self, number, token, now, subject: None, is_over: false };
+        let mut request = Request { requests: self, number, token, subject: None, is_over: false };
         request.token.look(len?, verifier)?;
         let mut step = request.ask(None, verifier)?;
         loop {
@@ -143,25 +176,26 @@ impl Requests {
     }
 
     /// Says what a check would, and adds nothing.
-    pub fn judge(&self, text: &[u8], now: Now<'_>, verifier: &(impl Verify + ?Sized)) -> Result<Accepted, Error> {
-        let mut token = self.read(text, now)?;
+    pub fn judge(&self, text: &[u8], verifier: &(impl Verify + ?Sized)) -> Result<Accepted, Error> {
+        let mut token = self.read(text)?;
         loop {
-            let len = self.validator().core.keys_of(&mut token)?;
+            let len = self.core().keys_of(&mut token)?;
             token.look(len, verifier)?;
-            let mut validator = self.validator();
-            if validator.core.has_asked(&token) {
-                let judged = validator.core.judge_read(now()?, &mut token);
-                return if token.is_unsupported { Err(unsupported(judged)) } else { judged };
+            let now = self.now()?;
+            let mut core = self.core();
+            if core.has_asked(&token) {
+                return core.judge_read(now, &mut token);
             }
         }
     }
 
     /// Withdraws a token, everywhere.
-    pub fn withdraw(self: &Arc<Requests>, now: u64, key: TokenKey, expires: u64, journal: Option<&Journal>) -> Result<Use, Error> {
+    pub fn withdraw(self: &Arc<Requests>, key: TokenKey, expires: u64, journal: Option<&Journal>) -> Result<Use, Error> {
+        let now = self.now()?;
         let (used, number) = {
-            let mut validator = self.validator();
-            let used = validator.core.withdraw(now, key, expires)?;
-            (used, validator.core.withdrawal_comes(self.clock.up())?)
+            let mut core = self.core();
+            let used = core.withdraw(now, key, expires)?;
+            (used, core.withdrawal_comes(self.clock.up())?)
         };
         let left = Withdrawal { requests: self, number };
         let told = |keeper| Report { to: Arc::downgrade(self), about: About::Withdrawal { number, keeper } };
@@ -175,7 +209,7 @@ impl Requests {
             None => told(ffi::AT_DISK).tell(&Ok(())),
         }
         let ended = loop {
-            let ended = self.validator().core.withdrawal_ended(number);
+            let ended = self.core().withdrawal_ended(number);
             match ended {
                 Some(ended) => break ended,
                 None => self.pause()?,
@@ -189,8 +223,12 @@ impl Requests {
     }
 
     /// The first reason why the validator is to get no tokens.
-    pub fn unready(self: &Arc<Requests>, now: u64, journal: Option<&Journal>) -> Option<Error> {
-        let ticked = self.validator().core.tick(now);
+    pub fn unready(self: &Arc<Requests>, journal: Option<&Journal>) -> Option<Error> {
+        let now = match self.now() {
+            Ok(now) => now,
+            Err(why) => return Some(why),
+        };
+        let ticked = self.core().tick(now);
         let known = match ticked {
             Ok(()) => self.know(now, false),
             Err(Error::Jump) => self.know(now, true),
@@ -199,14 +237,22 @@ impl Requests {
         if let Some(journal) = journal {
             self.keep_again(journal);
         }
-        known.and_then(|()| self.validator().core.ready()).err()
+        known.and_then(|()| self.core().ready()).err()
     }
 
     /// Tells an operator something.
     pub fn warn(&self, what: &dyn fmt::Display) {
-        if let Some(warns) = &self.warns {
-            // (who is warned must not end a thread of the guard)
-            let _ = std::panic::catch_unwind(std::panic::AssertUnwindSafe(|| warns(what)));
+        // (who is warned must not end a thread of the guard)
+        let _ = std::panic::catch_unwind(std::panic::AssertUnwindSafe(|| (self.warns)(what)));
+    }
+
+    /// Takes these trust bundles from now on.
+    pub fn exchange(&self, mut bundles: Bundles) -> Result<(), Error> {
+        // (the old ones are freed at the end, with no lock held)
+        self.core().renew(&mut bundles)?;
+        match self.is_bundled.swap(true, Ordering::AcqRel) {
+            true => Ok(()),
+            false => self.know(0, false),
         }
     }
 
@@ -214,7 +260,7 @@ impl Requests {
 
     /// The claim of a request, if it is to go out now.
     pub fn send(&self, due: &Due) -> Option<Claim> {
-        let caller = self.validator().core.send(self.clock.up(), due.number).ok()??;
+        let caller = self.core().send(self.clock.up(), due.number).ok()??;
         let (mut owner, expires) = ([0; 32], due.used.exp);
         // SAFETY: each input is an array of the length that the call reads, and the owner is another one, which it writes.
         unsafe {
@@ -228,10 +274,19 @@ impl Requests {
 
     /// The store has answered the claim of a request.
     pub fn found(&self, number: u64, found: &Found) {
-        self.validator().core.found(number, ffi::Found { time: found.time, deaf: found.deaf, owner: found.owner });
+        self.core().found(number, ffi::Found { time: found.time, deaf: found.deaf, owner: found.owner });
     }
 
-    /// The store is there.
+    /// Takes a withdrawal that the store got. One of a token that has expired is over.
+    pub fn hears(&self, key: TokenKey, expires: u64) -> Result<(), Error> {
+        let now = self.now()?;
+        match self.core().withdraw(now, key, expires) {
+            Ok(_) | Err(Error::Gone) => Ok(()),
+            Err(why) => Err(why),
+        }
+    }
+
+    /// The store is there, or its withdrawals are read.
     pub fn reached(&self) {
         if let Err(why) = self.know(0, false) {
             self.warn(&why);
@@ -241,9 +296,10 @@ impl Requests {
     // -- The way of a request
 
     /// Reads a token. What is none advances the record too.
-    fn read<'t>(&self, text: &'t [u8], now: Now<'_>) -> Result<OpenToken<'t>, Error> {
-        OpenToken::read(text).or_else(|why| {
-            self.validator().core.tick(now()?)?;
+    fn read<'t>(&self, text: &'t [u8]) -> Result<OpenToken<'t>, Error> {
+        OpenToken::read(text, &self.own).or_else(|why| {
+            let now = self.now()?;
+            self.core().tick(now)?;
             Err(why)
         })
     }
@@ -251,7 +307,7 @@ impl Requests {
     /// Waits for the next step of a request.
     fn next(&self, number: u64) -> Result<Step, Error> {
         loop {
-            let step = self.validator().core.step(self.clock.up(), number)?;
+            let step = self.core().step(self.clock.up(), number)?;
             match step {
                 Some(step) => return Ok(step),
                 None => self.pause()?,
@@ -261,13 +317,13 @@ impl Requests {
 
     /// Waits until this thread is called, or something is due, which is answered then.
     fn pause(&self) -> Result<(), Error> {
-        let at = self.validator().core.due()?;
+        let at = self.core().due()?;
         if at == ffi::NO_NUMBER {
             thread::park();
             return Ok(());
         }
         match at.saturating_sub(self.clock.up()) {
-            0 => self.validator().core.overdue(self.clock.up()),
+            0 => self.core().overdue(self.clock.up()),
             pause => {
                 thread::park_timeout(Duration::from_millis(pause));
                 Ok(())
@@ -278,7 +334,7 @@ impl Requests {
     /// Brings a use to the disk.
     fn keep(self: &Arc<Requests>, journal: &Journal, number: u64, used: &ffi::Use) -> Result<(), Error> {
         let message = Use::of(used, false).message()?;
-        self.validator().core.writes(number, true);
+        self.core().writes(number, true);
         journal.keep(&message, Report { to: Arc::downgrade(self), about: About::Use { number, message } });
         Ok(())
     }
@@ -296,10 +352,10 @@ impl Requests {
         let store = self.claims.as_ref().map(|claims| claims.look(self.wait));
         let lives = u128::from(now) + u128::from(self.longest);
         let known = ffi::Known {
-            bundled: 1,
+            bundled: self.is_bundled.load(Ordering::Acquire).into(),
             loaded: 1,
             opened: store.as_ref().map_or(true, |it| it.is_there).into(),
-            heard: 1,
+            heard: store.as_ref().map_or(true, |it| it.is_heard).into(),
             joined: 1,
             caught_up: 1,
             jumped: has_jumped.into(),
@@ -307,7 +363,7 @@ impl Requests {
             deaf: store.as_ref().map_or(false, |it| u128::from(it.deaf) >= lives).into(),
             ..ffi::Known::default()
         };
-        self.validator().core.know(&known)
+        self.core().know(&known)
     }
 }
 
@@ -317,7 +373,7 @@ impl std::panic::RefUnwindSafe for Requests {}
 
 impl fmt::Debug for Requests {
     fn fmt(&self, f: &mut fmt::Formatter<'_>) -> fmt::Result {
-        f.debug_struct("Requests").field("validator", &self.validator).field("wait", &self.wait).finish_non_exhaustive()
+        f.debug_struct("Requests").field("core", &self.core).field("wait", &self.wait).finish_non_exhaustive()
     }
 }
 
@@ -326,7 +382,6 @@ struct Request<'a, 't> {
     requests: &'a Requests,
     number: u64,
     token: OpenToken<'t>,
-    now: Now<'a>,
     subject: Option<String>,
     is_over: bool,
 }
@@ -336,9 +391,8 @@ impl Request<'_, '_> {
     fn ask(&mut self, found: Option<&ffi::Found>, verifier: &(impl Verify + ?Sized)) -> Result<Option<Step>, Error> {
         loop {
             // (the time of a clock is read without the lock)
-            let now = (self.now)()?;
-            let mut validator = self.requests.validator();
-            let core = &mut validator.core;
+            let now = self.requests.now()?;
+            let mut core = self.requests.core();
             if core.has_asked(&self.token) {
                 let up = self.requests.clock.up();
                 let subject = core.judge_request(now, up, self.number, &mut self.token, found)?;
@@ -348,7 +402,7 @@ impl Request<'_, '_> {
                 return step;
             }
             let len = core.keys_of(&mut self.token)?;
-            drop(validator);
+            drop(core);
             self.token.look(len, verifier)?;
         }
     }
@@ -356,10 +410,10 @@ impl Request<'_, '_> {
     /// What an answer says.
     fn answered(&mut self, deed: &ffi::Deed) -> Result<Accepted, Error> {
         let why = match (deed.status(), self.subject.take()) {
-            (ffi::OK, Some(subject)) => return Ok(Accepted::new(subject, Use::of(&deed.used, false))),
+            (ffi::OK, Some(subject)) => return Ok(Accepted::new(subject, Use::of(&deed.used, false), self.token.says.take())),
             (status, _) => Error::of(status, &ffi::Told::default()),
         };
-        Err(if self.token.is_unsupported { unsupported(Err(why)) } else { why })
+        Err(self.token.why(why))
     }
 }
 
@@ -368,7 +422,7 @@ impl Drop for Request<'_, '_> {
     fn drop(&mut self) {
         if !self.is_over {
             // (whatever fails here, nobody is left to be told)
-            let _ = self.requests.validator().core.leave(self.requests.clock.up(), self.number);
+            let _ = self.requests.core().leave(self.requests.clock.up(), self.number);
         }
     }
 }
@@ -381,7 +435,7 @@ struct Withdrawal<'a> {
 
 impl Drop for Withdrawal<'_> {
     fn drop(&mut self) {
-        self.requests.validator().core.leave_withdrawal(self.number);
+        self.requests.core().leave_withdrawal(self.number);
     }
 }
 
@@ -408,8 +462,7 @@ impl Report {
         if let Err(why) = ended {
             requests.warn(&format_args!("the state folder did not keep an entry: {why}"));
         }
-        let (up, mut validator) = (requests.clock.up(), requests.validator());
-        let core = &mut validator.core;
+        let (up, mut core) = (requests.clock.up(), requests.core());
         let told = match self.about {
             About::Use { number, message } => {
                 core.writes(number, false);
@@ -419,7 +472,7 @@ impl Report {
             }
             About::Withdrawal { number, keeper } => core.withdrawal_told(number, keeper, ended.is_ok()),
         };
-        drop(validator);
+        drop(core);
         if let Err(why) = told {
             requests.warn(&why);
         }
@@ -434,7 +487,7 @@ impl Report {
         if let Err(why) = &ended {
             requests.warn(&format_args!("the group's store did not take a withdrawal: {why}"));
         }
-        let told = requests.validator().core.withdrawal_told(number, keeper, ended.is_ok());
+        let told = requests.core().withdrawal_told(number, keeper, ended.is_ok());
         if let Err(why) = told {
             requests.warn(&why);
         }

@@ -1,10 +1,5 @@
 //! The store of a group: it keeps one claim for each token, the first one that is put.
 
-use std::collections::HashMap;
-use std::fmt;
-use std::sync::{Mutex, PoisonError};
-
-use crate::ffi;
 use crate::record::TokenKey;
 
 /// The owner that a key has whose token was withdrawn.
@@ -63,111 +58,17 @@ pub trait Store: Send + Sync {
     ///
     /// Any error says that the store may not have the withdrawal.
     fn withdraw(&self, key: TokenKey, expires: u64) -> Result<(), StoreError>;
-}
 
-/// A store in the memory of one process, for tests.
-///
-/// ```
-/// use svid::{Claim, MemoryStore, Store, TokenKey};
-///
-/// let (store, key) = (MemoryStore::new(), TokenKey([7; 32]));
-/// let claims = [[1; 32], [2; 32]].map(|owner| Claim { key, owner, expires: 4_102_444_800 });
-/// let found = store.put(&claims)?;
-/// assert_eq!((found[0].owner, found[1].owner), ([1; 32], [1; 32]));
-/// # Ok::<(), svid::StoreError>(())
-/// ```
-pub struct MemoryStore {
-    clock: Box<dyn Fn() -> u64 + Send + Sync>,
-    margin: u64,
-    lasts: u64,
-    held: Mutex<Held>,
-}
-
-#[derive(Default)]
-struct Held {
-    /// The owner of each key, and until when it has it.
-    entries: HashMap<TokenKey, ([u8; 32], u64)>,
-    deaf: u64,
-}
-
-impl MemoryStore {
-    /// An empty store, by the clock of the system. It keeps an entry for 60 seconds after its token has expired.
-    pub fn new() -> MemoryStore {
-        MemoryStore { clock: Box::new(|| crate::now().unwrap_or(0)), margin: 60, lasts: 3600, held: Mutex::default() }
-    }
-
-    /// Gives it another clock, in seconds since 1970.
-    #[must_use]
-    pub fn clock(mut self, clock: impl Fn() -> u64 + Send + Sync + 'static) -> MemoryStore {
-        self.clock = Box::new(clock);
-        self
-    }
-
-    /// For how many seconds an entry stays after its token has expired.
-    #[must_use]
-    pub fn margin(mut self, seconds: u64) -> MemoryStore {
-        self.margin = seconds;
-        self
-    }
-
-    /// How many seconds a token may live that is claimed. Without it, 3,600.
-    #[must_use]
-    pub fn lasts(mut self, seconds: u64) -> MemoryStore {
-        self.lasts = seconds;
-        self
-    }
-
-    /// Loses all entries, as a server does that crashes.
-    pub fn lose(&self) {
-        let (mut held, time) = (self.held(), (self.clock)());
-        held.entries.clear();
-        // SAFETY: the call takes numbers alone.
-        held.deaf = unsafe { ffi::svid_claim_deaf(time, self.lasts, held.deaf) };
-    }
-
-    fn held(&self) -> std::sync::MutexGuard<'_, Held> {
-        self.held.lock().unwrap_or_else(PoisonError::into_inner)
-    }
-
-    fn until(&self, expires: u64) -> u64 {
-        // SAFETY: the call takes numbers alone.
-        unsafe { ffi::svid_claim_until(expires, self.margin) }
-    }
-}
-
-impl Store for MemoryStore {
-    fn put(&self, claims: &[Claim]) -> Result<Vec<Found>, StoreError> {
-        let (mut held, time, mut found) = (self.held(), (self.clock)(), Vec::new());
-        held.entries.try_reserve(claims.len())?;
-        found.try_reserve_exact(claims.len())?;
-        for claim in claims {
-            let entry = held.entries.entry(claim.key).or_insert((claim.owner, 0));
-            if entry.1 <= time {
-                *entry = (claim.owner, self.until(claim.expires));
-            }
-            let owner = entry.0;
-            found.push(Found { owner, time, deaf: held.deaf });
-        }
-        Ok(found)
-    }
-
-    fn withdraw(&self, key: TokenKey, expires: u64) -> Result<(), StoreError> {
-        let mut held = self.held();
-        held.entries.try_reserve(1)?;
-        let entry = held.entries.entry(key).or_insert((WITHDRAWN, 0));
-        *entry = (WITHDRAWN, entry.1.max(self.until(expires)));
-        Ok(())
-    }
-}
-
-impl Default for MemoryStore {
-    fn default() -> MemoryStore {
-        MemoryStore::new()
-    }
-}
-
-impl fmt::Debug for MemoryStore {
-    fn fmt(&self, f: &mut fmt::Formatter<'_>) -> fmt::Result {
-        f.debug_struct("MemoryStore").field("entries", &self.held().entries.len()).finish_non_exhaustive()
+    /// The withdrawals that the store got after a position: the keys of the tokens, and when these expire. Then the position up to which it has
+    /// read. The first position is "", and one that the store does not know reads all again. A guard asks until the position stays, and once a
+    /// second from then on; in mode [`Strict`](crate::Mode::Strict) it asks for none, since the claim of a token tells that it was withdrawn.
+    ///
+    /// Without this method nobody hears of withdrawals before a claim.
+    ///
+    /// # Errors
+    ///
+    /// Any error says that there is no answer.
+    fn withdrawals(&self, after: &str) -> Result<(Vec<(TokenKey, u64)>, String), StoreError> {
+        Ok((Vec::new(), after.to_owned()))
     }
 }

@@ -1,14 +1,14 @@
-//! What the vectors don't have: the order of reasons where a signature is verified, messages, a log's long values, answers to requests.
+//! What the vectors don't have: the order of reasons where a signature is verified, messages, joined bundles, answers to requests.
 
 mod common;
 
 use std::sync::atomic::{AtomicUsize, Ordering};
-use std::sync::{Arc, Mutex};
+use std::sync::Arc;
 
 use common::*;
 use svid::{
-    bearer_token, Bundles, BundlesFault, Candidate, Denied, DocumentFault, Error, Fate, Guard, LogStart, Member, Options, Parts, Pattern,
-    Question, Refusal, Said, SpiffeId, TokenKey, Unverified, Use, Validator, ValidatorId, Verify,
+    bearer_token, BundlesFault, Candidate, Denied, DocumentFault, Error, Fate, Guard, LogMember, LogStart, Mode, Options, OptionsFault,
+    Pattern, Refusal, Said, Sources, SpiffeId, TokenKey, Unverified, Use, ValidatorId, Verify,
 };
 
 const NOW: u64 = 1_767_225_600;
@@ -22,8 +22,19 @@ fn tokens() -> Vec<String> {
     text.lines().map(str::to_owned).collect()
 }
 
-fn opened() -> Validator {
-    Validator::open(&ledger(), &bundles()).expect("it opens")
+/// A guard with this verifier, at the time of the vectors.
+fn opened<V>(verifier: V) -> Guard<V> {
+    opened_at(NOW, verifier)
+}
+
+fn opened_at<V>(now: u64, verifier: V) -> Guard<V> {
+    Guard::open(&Time::at(now).of(ledger()), bundles(), verifier).expect("it opens")
+}
+
+/// What is wrong with bundles that are joined.
+fn join<N: Into<String>, T: Into<Vec<u8>>>(bundles: impl IntoIterator<Item = (N, T)>) -> Result<(), Error> {
+    let sources = bundles.into_iter().fold(Sources::new(), |all, (name, text)| all.bundle(name, text));
+    Guard::open(&ledger(), sources, ()).map(drop)
 }
 
 /// Answers always the same, and counts how often it was asked.
@@ -50,20 +61,21 @@ fn refused(why: Refusal) -> Error {
 #[test]
 fn the_first_reason_counts() {
     let (tokens, good) = (tokens(), Always::new(Ok(true)));
-    let late = 4_102_444_800;
-    let guard = Guard::open(&ledger(), &bundles(), Always::new(Ok(true))).expect("it opens");
+    let late = opened_at(4_102_444_800, &good);
     // (its trust domain is unknown, and it has expired: that comes first)
     for token in [&tokens[4], &tokens[5]] {
-        assert_eq!(opened().check(late, token, &good).unwrap_err(), refused(Refusal::Expired));
-        assert_eq!(guard.check_at(late, token).unwrap_err(), refused(Refusal::Expired));
+        assert_eq!(late.check(token).unwrap_err(), refused(Refusal::Expired));
+        assert_eq!(late.judge(token).unwrap_err(), refused(Refusal::Expired));
     }
-    assert_eq!(opened().check(NOW, &tokens[4], &good).unwrap_err(), refused(Refusal::NoKey));
-    assert_eq!(opened().check(NOW, &tokens[5], &good).unwrap_err(), refused(Refusal::UnknownDomain));
+    assert_eq!(opened(&good).check(&tokens[4]).unwrap_err(), refused(Refusal::NoKey));
+    assert_eq!(opened(&good).check(&tokens[5]).unwrap_err(), refused(Refusal::UnknownDomain));
     assert_eq!(good.1.load(Ordering::Relaxed), 0, "no signature was verified");
     // A refusal by the keys advances the record, as any other does.
-    let mut validator = opened();
-    validator.check(NOW, &tokens[5], &good).unwrap_err();
-    assert_eq!(validator.size().unwrap().moment, NOW);
+    for token in [tokens[5].as_str(), "no token"] {
+        let guard = opened(&good);
+        guard.check(token).unwrap_err();
+        assert_eq!(guard.size().unwrap().moment, NOW);
+    }
 }
 
 #[test]
@@ -74,141 +86,89 @@ fn what_a_verifier_answers() {
         (Err(Unverified::NoMemory), Error::NoMemory),
         (Err(Unverified::Unsupported), Error::Unsupported),
     ] {
-        let verifier = Arc::new(Always::new(answer));
-        let mut validator = opened();
-        assert_eq!(validator.check(NOW, token, &verifier), Err(due));
-        assert_eq!(validator.judge(NOW, token, &verifier), Err(due));
-        let guard = Guard::open(&ledger(), &bundles(), Arc::clone(&verifier)).expect("it opens");
-        assert_eq!(guard.check_at(NOW, token), Err(due));
-        assert_eq!(validator.size().unwrap().uses, 0);
+        let guard = opened(Arc::new(Always::new(answer)));
+        assert_eq!(guard.check(token), Err(due));
+        assert_eq!(guard.judge(token), Err(due));
+        assert_eq!(guard.size().unwrap().uses, 0);
     }
     // What comes before a signature is told of a token that nobody can verify.
-    let verifier = Always::new(Err(Unverified::Unsupported));
-    assert_eq!(opened().check(4_102_444_800, token, &verifier), Err(refused(Refusal::Expired)));
+    let guard = opened_at(4_102_444_800, Always::new(Err(Unverified::Unsupported)));
+    assert_eq!(guard.check(token), Err(refused(Refusal::Expired)));
+    assert_eq!(guard.judge(token), Err(refused(Refusal::Expired)));
 }
 
 #[test]
-fn a_question_is_of_one_token() {
-    let tokens = tokens();
-    let mut validator = opened();
-    let yes: Vec<Question> = validator.ask(&tokens[0]).unwrap().iter().map(|it| it.unwrap().question().unwrap()).collect();
-    assert_eq!(validator.check_answered(NOW, &yes, &tokens[1]), Err(refused(Refusal::BadSignature)));
-    let by_bundles = Bundles::read(&bundles()).unwrap().verify(&tokens[0], &Always::new(Ok(true))).unwrap();
-    assert_eq!(by_bundles, yes.first().copied());
-    let accepted = validator.check_answered(NOW, &yes, &tokens[0]).unwrap();
+fn what_is_told_of_an_accepted_token() {
+    let (token, guard) = (&tokens()[0], opened(Always::new(Ok(true))));
+    let judged = guard.judge(token).unwrap();
+    let accepted = guard.check(token).unwrap();
     assert_eq!((accepted.trust_domain(), accepted.path(), accepted.expires()), ("example.org", "/billing/api", 4_102_444_800));
-    assert_eq!(accepted.used().key, Said::of(&tokens[0]).unwrap().key());
-    assert_eq!(validator.judge_again(NOW, accepted.used()), Err(refused(Refusal::Replayed)));
+    assert_eq!((accepted.audience(), accepted.key_id()), ("ledger", "ec-1"));
+    let claims = accepted.claims().unwrap();
+    assert_eq!((&claims["sub"], &claims["exp"]), (&accepted.spiffe_id().into(), &4_102_444_800u64.into()));
+    assert_eq!(accepted.used().key, Said::of(token).unwrap().key());
+    assert_eq!(judged, accepted);
+    assert_eq!(guard.judge(token), Err(refused(Refusal::Replayed)));
 }
 
 #[test]
 fn a_withdrawal_reaches_others() {
     let (tokens, good) = (tokens(), Always::new(Ok(true)));
-    let (mut here, mut there) = (opened(), opened());
+    let (here, there) = (opened(&good), opened(&good));
     let said = Said::of(&tokens[0]).unwrap();
-    let gone = here.withdraw(NOW, said.key(), said.expires()).unwrap();
+    let gone = here.withdraw(said.key(), said.expires()).unwrap();
     assert!(gone.withdrawn);
-    there.take(NOW, gone.message().unwrap()).unwrap();
-    assert_eq!(there.check(NOW, &tokens[0], &good), Err(refused(Refusal::Withdrawn)));
+    there.take(gone.message().unwrap()).unwrap();
+    assert_eq!(there.check(&tokens[0]), Err(refused(Refusal::Withdrawn)));
     assert_eq!(here.tell(), there.tell());
 
-    let used = *here.check(NOW, &tokens[1], &good).unwrap().used();
-    there.take(NOW, used.message().unwrap()).unwrap();
-    assert_eq!(there.check(NOW, &tokens[1], &good), Err(refused(Refusal::Replayed)));
-    assert_eq!(here.withdraw(NOW, TokenKey([7; 32]), NOW), Err(Error::Gone));
+    let used = *here.check(&tokens[1]).unwrap().used();
+    there.take(used.message().unwrap()).unwrap();
+    assert_eq!(there.check(&tokens[1]), Err(refused(Refusal::Replayed)));
+    assert_eq!(here.withdraw(TokenKey([7; 32]), NOW), Err(Error::Gone));
 }
 
 #[test]
 fn summaries_are_answered() {
-    let (mut here, mut there) = (opened(), opened());
+    let (here, there) = (opened(()), opened(()));
     for number in 0..100 {
-        here.withdraw(NOW, TokenKey([number; 32]), NOW + 100).unwrap();
+        here.withdraw(TokenKey([number; 32]), NOW + 100).unwrap();
     }
-    let answer = here.answer(NOW, there.summary().unwrap()).unwrap();
-    there.take(NOW, answer).unwrap();
+    let answer = here.answer(there.summary().unwrap()).unwrap();
+    there.take(answer).unwrap();
     assert_eq!(here.tell(), there.tell());
     let record = here.tell().unwrap();
-    assert_eq!(here.answer(NOW, record), Err(Error::NotSummary));
-}
-
-#[test]
-fn a_piece_has_room_for_a_use() {
-    let mut validator = opened();
-    let mut parts = Parts::new();
-    assert_eq!(validator.piece(&mut parts, &mut [0; svid::PIECE_LEAST - 1]), Err(Error::TooShort));
-    assert!(!parts.is_done());
-    assert!(validator.piece(&mut parts, &mut [0; svid::PIECE_LEAST]).is_ok());
-    assert!(parts.is_done());
+    assert_eq!(here.answer(record), Err(Error::NotSummary));
 }
 
 #[test]
 fn a_clock_that_jumps() {
-    let mut validator = Validator::open(&ledger().step(60), &bundles()).unwrap();
-    validator.tick(NOW).unwrap();
-    assert_eq!(validator.tick(NOW + 61), Err(Error::Jump));
-    assert_eq!(validator.check(NOW + 61, &tokens()[0], &Always::new(Ok(true))), Err(Error::Jump));
-    let mut late = Validator::open(&ledger(), b"{}").unwrap();
-    late.tick(NOW + 100).unwrap();
-    assert_eq!(validator.take(NOW, late.tell().unwrap()), Err(Error::TooFar));
-}
-
-/// A value of more uses than are read at once.
-#[test]
-fn a_long_value_of_a_log() {
-    let mut member = Member::open(&ledger(), b"{}", &LogStart::of_empty_log(3620)).unwrap();
-    let uses: Vec<Use> = (0..200u8)
-        .map(|number| Use {
-            expires: NOW + 100,
-            key: TokenKey([number; 32]),
-            validator_id: ValidatorId([9; 16]),
-            at: NOW,
-            withdrawn: false,
-        })
-        .collect();
-    let value: Vec<u8> = uses.iter().flat_map(|it| it.message().unwrap()).collect();
-    let (mut fates, mut calls) = (Vec::new(), 0);
-    loop {
-        let from = fates.len();
-        let read = member.read(NOW, 1, &value, &mut fates).unwrap();
-        assert_eq!((read.from, read.fault), (from, None));
-        calls += 1;
-        if read.is_whole {
-            break;
-        }
-    }
-    assert!(calls > 1);
-    assert_eq!(fates, uses.into_iter().map(|it| (it, Fate::First)).collect::<Vec<_>>());
-    assert_eq!(member.size().unwrap().uses, 200);
-    assert_eq!(member.log_position().unwrap().passed, 1);
-}
-
-#[test]
-fn a_member_is_made_of_a_validator() {
-    let (tokens, good) = (tokens(), Always::new(Ok(true)));
-    let mut validator = opened();
-    validator.check(NOW, &tokens[0], &good).unwrap();
-    let start = LogStart { beside: b"none", ..LogStart::of_empty_log(3620) };
-    let (validator, why) = Member::from_validator(validator, &start).unwrap_err();
-    assert!(matches!(why, Error::Messages(_)), "{why}");
-    let mut member = Member::from_validator(validator, &LogStart::of_empty_log(3620)).unwrap();
-    assert_eq!(member.judge(NOW, &tokens[0], &good), Err(refused(Refusal::Replayed)));
-    let claim = member.judge(NOW, &tokens[1], &good).unwrap();
-    let mut fates = Vec::new();
-    member.read(NOW, 1, &claim.used().message().unwrap(), &mut fates).unwrap();
-    assert_eq!(fates, [(*claim.used(), Fate::Accepted)]);
-    assert_eq!(member.judge(NOW, &tokens[1], &good), Err(refused(Refusal::Replayed)));
+    let time = Time::at(NOW);
+    let guard = Guard::open(&time.of(ledger()).step(60), bundles(), Always::new(Ok(true))).unwrap();
+    tick(&guard).unwrap();
+    time.set(NOW + 61);
+    assert_eq!(tick(&guard), Err(Error::Jump));
+    assert_eq!(guard.check(&tokens()[0]), Err(Error::Jump));
+    time.set(NOW);
+    let late = opened_at(NOW + 100, ());
+    tick(&late).unwrap();
+    assert_eq!(guard.take(late.tell().unwrap()), Err(Error::TooFar));
 }
 
 #[test]
 fn bundles_of_several_trust_domains() {
-    let joined = Bundles::join([("a.example", r#"{"keys":[]}"#), ("spiffe://b.example", r#" {"keys":[],"spiffe_sequence":1} "#)]).unwrap();
-    assert_eq!(joined, br#"{"a.example":{"keys":[]},"b.example":{"keys":[],"spiffe_sequence":1}}"#);
-    assert!(Bundles::read(&joined).is_ok());
-    assert_eq!(Bundles::join::<&str, &str>([]), Ok(b"{}".to_vec()));
+    let own: serde_json::Value = serde_json::from_slice(&bundles()).expect("an object");
+    let (own, none, good) = (own["example.org"].to_string(), r#"{"keys":[]}"#, Always::new(Ok(true)));
     // (many, so that each trust domain keeps its own keys)
-    let many: Vec<_> = (0..300).map(|it| (format!("d{it:03}.example"), format!(r#"{{"keys":[],"spiffe_sequence":{it}}}"#))).collect();
-    let each: Vec<_> = many.iter().map(|(name, text)| format!("\"{name}\":{text}")).collect();
-    assert_eq!(Bundles::join(many).unwrap(), format!("{{{}}}", each.join(",")).into_bytes());
+    let others = (0..300).fold(Sources::from(r#"{"text.example":{"keys":[]}}"#), |all, it| all.bundle(format!("d{it:03}.example"), none));
+    for name in ["example.org", "spiffe://example.org"] {
+        let sources = others.clone().bundle(name, own.as_str());
+        let guard = Guard::open(&Time::at(NOW).of(ledger()), sources, &good).unwrap();
+        assert!(guard.check(&tokens()[0]).is_ok());
+        assert_eq!(guard.check(&tokens()[5]), Err(refused(Refusal::UnknownDomain)));
+        guard.follow(others.clone()).unwrap();
+        assert_eq!(guard.check(&tokens()[1]), Err(refused(Refusal::UnknownDomain)));
+    }
 }
 
 /// The first of the bundles that can't be joined is named.
@@ -217,7 +177,7 @@ fn a_bundle_that_holds_up_the_others_is_named() {
     let own: serde_json::Value = serde_json::from_slice(&bundles()).expect("an object");
     let (own, none) = (own["example.org"].to_string(), r#"{"keys":[]}"#);
     let joined = |name: &'static str, bundle: &str| {
-        Bundles::join([("example.org", own.as_str()), ("spiffe://a.example", none), (name, bundle), ("", "")]).unwrap_err()
+        join([("example.org", own.as_str()), ("spiffe://a.example", none), (name, bundle), ("", "")]).unwrap_err()
     };
     let third = |fault| Error::Bundles(BundlesFault::Document { number: 2, fault });
     // (one that ends early would bring keys of another trust domain)
@@ -242,14 +202,111 @@ fn a_bundle_that_holds_up_the_others_is_named() {
 #[test]
 fn a_bundle_that_nests_too_deeply_is_named() {
     let nested = |depth: usize| format!(r#"{{"keys":[],"x":{}{}}}"#, "[".repeat(depth - 1), "]".repeat(depth - 1));
-    let join = |depth| Bundles::join([("example.org", nested(2)), ("foreign.org", nested(depth)), ("last.org", nested(2))]);
-    assert!(Bundles::read(&join(126).unwrap()).is_ok());
+    let join = |depth| join([("example.org", nested(2)), ("foreign.org", nested(depth)), ("last.org", nested(2))]);
+    assert_eq!(join(126), Ok(()));
     for depth in [127, 128, 1000] {
         let why = Error::Bundles(BundlesFault::Document { number: 1, fault: DocumentFault::NotObject });
         assert_eq!(join(depth), Err(why), "{depth}");
     }
     let whence = " (number 1 of the joined bundles, counted from 0): ";
     assert!(join(127).unwrap_err().to_string().contains(whence));
+}
+
+/// A member of a log that has no value.
+fn member<V>(verifier: V) -> LogMember<V> {
+    LogMember::open(&ledger(), bundles(), verifier, &LogStart::default()).expect("it opens")
+}
+
+/// A token is accepted by the log alone, and after a restart its claim is known.
+#[test]
+fn a_token_that_is_claimed_in_a_log() {
+    let (tokens, good, mut fates) = (tokens(), Always::new(Ok(true)), Vec::new());
+    let mut first = member(&good);
+    let claim = *first.judge(NOW, &tokens[0]).unwrap().used();
+    assert_eq!(first.judge(NOW, &tokens[0]).unwrap().used(), &claim, "it was not accepted yet");
+    let mut other = member(&good);
+    for it in [&mut first, &mut other] {
+        assert!(it.read(NOW, 1, claim.message().unwrap(), &mut fates).unwrap().is_whole);
+        assert_eq!(it.judge(NOW, &tokens[0]), Err(refused(Refusal::Replayed)));
+    }
+    let gone = Use { withdrawn: true, key: TokenKey([7; 32]), ..claim };
+    first.read(NOW, 2, gone.message().unwrap(), &mut fates).unwrap();
+    assert_eq!(fates, [(claim, Fate::Accepted), (claim, Fate::First), (gone, Fate::Withdrawal)]);
+    let ((position, accepts), beside, record) = (first.mark().unwrap(), first.beside().unwrap(), first.tell().unwrap());
+    assert_eq!((position.passed, accepts), (2, true));
+    let start = LogStart { position, ready: 2, beside: &beside };
+    let mut next = LogMember::open(&ledger(), bundles(), &good, &start).unwrap();
+    next.take(NOW, &record).unwrap();
+    assert_eq!((next.mark().unwrap(), next.tell().unwrap()), ((position, true), record));
+    assert_eq!(next.judge(NOW, &tokens[0]), Err(refused(Refusal::Replayed)));
+    assert_eq!(next.renew("{}"), Ok(()));
+    assert_eq!(next.judge(NOW, &tokens[1]), Err(refused(Refusal::UnknownDomain)));
+}
+
+/// As a guard does.
+#[test]
+fn what_a_member_of_a_log_answers() {
+    let token = &tokens()[0];
+    for (answer, due) in [
+        (Ok(false), refused(Refusal::BadSignature)),
+        (Err(Unverified::NoMemory), Error::NoMemory),
+        (Err(Unverified::Unsupported), Error::Unsupported),
+    ] {
+        let mut member = member(Always::new(answer));
+        assert_eq!(member.judge(NOW, token), Err(due));
+        // (that there is no token, or that it has expired, comes first; and both advance the record)
+        assert_eq!(member.judge(4_102_444_800, "no token").unwrap_err().refusal(), Some(Refusal::NotThreeParts));
+        assert_eq!(member.judge(NOW, token).map_err(|why| why.refusal()).unwrap_err().is_some(), answer != Err(Unverified::NoMemory));
+    }
+    let log = |options: Options, start: &LogStart<'_>| LogMember::open(&options, b"{}", (), start).map(drop);
+    let none = LogStart { beside: b"none", ..LogStart::default() };
+    assert!(matches!(log(ledger(), &none), Err(Error::Messages(_))));
+    for options in [ledger().mode(Mode::Reuse), ledger().callers(["spiffe://example.org"])] {
+        assert_eq!(log(options, &LogStart::default()), Err(Error::Options(OptionsFault::Guard)));
+    }
+    assert_eq!(log(Options::new([""; 0]), &LogStart::default()), Err(Error::Options(OptionsFault::NoAudience)));
+    assert!(OptionsFault::Guard.to_string().contains(": "), "it says what to do");
+}
+
+/// A clock that is not to be trusted, and values that are missing.
+#[test]
+fn a_log_whose_values_are_missing() {
+    let mut member = LogMember::open(&ledger().longest(100).step(60), b"{}", (), &LogStart::default()).unwrap();
+    member.take(NOW, b"").unwrap();
+    assert_eq!(member.read(NOW + 61, 1, b"", &mut Vec::new()), Err(Error::Jump));
+    assert!(member.read(0, 1, b"", &mut Vec::new()).unwrap().is_whole);
+    assert_eq!(member.read(0, 3, b"", &mut Vec::new()), Err(Error::Jump), "a gap wants a clock");
+    assert!(member.read(NOW, 3, b"", &mut Vec::new()).unwrap().is_whole);
+    // (the longest life, and twice what the clocks may differ)
+    assert_eq!(member.mark().map(|(position, accepts)| (position.passed, position.deaf, accepts)), Ok((3, NOW + 120, false)));
+    member.go_on().unwrap();
+    assert_eq!(member.mark().map(|(position, accepts)| (position.deaf, accepts)), Ok((0, true)));
+}
+
+/// A value of more uses than are read at once.
+#[test]
+fn a_long_value_of_a_log() {
+    let uses = (0..200u8).map(|number| Use {
+        expires: NOW + 100,
+        key: TokenKey([number; 32]),
+        validator_id: ValidatorId([9; 16]),
+        at: NOW,
+        withdrawn: false,
+    });
+    let value: Vec<u8> = uses.clone().flat_map(|it| it.message().unwrap()).collect();
+    let (mut member, mut fates, mut calls) = (member(()), Vec::new(), 0);
+    loop {
+        let from = fates.len();
+        let read = member.read(NOW, 1, &value, &mut fates).unwrap();
+        assert_eq!((read.from, read.fault), (from, None));
+        calls += 1;
+        if read.is_whole {
+            break;
+        }
+    }
+    assert!(calls > 1);
+    assert_eq!(fates, uses.map(|it| (it, Fate::First)).collect::<Vec<_>>());
+    assert_eq!(member.mark().unwrap().0.passed, 1);
 }
 
 #[test]
@@ -262,7 +319,7 @@ fn answers_to_requests() {
         let challenge = format!("Bearer error=\"invalid_token\", error_description=\"{}\"", why.name());
         assert_eq!((denied.status(), denied.challenge()), (401, Some(challenge.as_str())));
     }
-    let guard = Guard::open(&ledger(), &bundles(), Always::new(Ok(true))).unwrap();
+    let guard = opened(Always::new(Ok(true)));
     let header = format!("bearer  {}", tokens()[0]);
     assert_eq!(guard.admit([&header]).unwrap().path(), "/billing/api");
     assert_eq!(guard.admit([&header]).unwrap_err(), Denied::Refused(Refusal::Replayed));
@@ -272,7 +329,7 @@ fn answers_to_requests() {
 
 #[test]
 fn who_may_call() {
-    let guard = Guard::open(&ledger(), &bundles(), Always::new(Ok(true))).unwrap();
+    let guard = opened(Always::new(Ok(true)));
     let header = format!("Bearer {}", tokens()[0]);
     let patterns = |texts: &[&'static str]| texts.iter().map(|text| Pattern::parse(text).unwrap()).collect::<Vec<_>>();
     let others = patterns(&["spiffe://example.org/bill/*", "spiffe://example.org/billing/api/*", "spiffe://example.com"]);
@@ -286,7 +343,7 @@ fn who_may_call() {
     // Of a bad token it says what is wrong with it, and not that its caller may not call: nobody has vouched for that.
     assert_eq!(guard.admit_only(&others, ["Bearer a.b.c"]).unwrap_err(), Denied::Refused(Refusal::HeaderSpelling));
     assert_eq!(guard.admit_only::<str>(&others, []).unwrap_err().challenge(), Some("Bearer realm=\"svid\""));
-    let spoilt = Guard::open(&ledger(), &bundles(), Always::new(Ok(false))).unwrap();
+    let spoilt = opened(Always::new(Ok(false)));
     assert_eq!(spoilt.admit_only(&others, [&header]).unwrap_err(), Denied::Refused(Refusal::BadSignature));
     // The token was not used up.
     let callers = patterns(&["spiffe://example.com", "spiffe://example.org/billing/*"]);
@@ -307,9 +364,8 @@ fn bytes_of_any_kind() {
         state ^= state << 17;
         state
     };
-    let (good, token, record) = (Always::new(Ok(true)), tokens().remove(0), opened().tell().unwrap());
-    let mut validator = opened();
-    let mut member = Member::open(&ledger(), b"{}", &LogStart::of_empty_log(3620)).unwrap();
+    let (guard, token) = (opened_at(0, Always::new(Ok(true))), tokens().remove(0));
+    let (record, mut member) = (guard.tell().unwrap(), member(Always::new(Ok(true))));
     for round in 0..3000u64 {
         let mut bytes = match round % 4 {
             0 => token.clone().into_bytes(),
@@ -322,25 +378,22 @@ fn bytes_of_any_kind() {
             bytes.insert(at, next() as u8);
             bytes.truncate(bytes.len() - next() as usize % (bytes.len() / 8 + 1));
         }
-        let _ = (validator.check(0, &bytes, &good), validator.judge(0, &bytes, &good), validator.ask(&bytes), Said::of(&bytes));
-        let _ = (validator.take(0, &bytes), validator.answer(0, &bytes), Bundles::read(&bytes), Bundles::join([("a", &bytes)]));
+        let _ = (guard.check(&bytes), guard.judge(&bytes), Said::of(&bytes), guard.take(&bytes), guard.answer(&bytes));
+        let _ = (Guard::open(&ledger(), &bytes, ()), join([("a", bytes.as_slice()), ("b", b"{}")]));
+        let _ = (member.read(0, round, &bytes, &mut Vec::new()), member.judge(0, &bytes), member.renew(&bytes), member.take(0, &bytes));
         let _ = (bearer_token([&bytes]), SpiffeId::parse(&String::from_utf8_lossy(&bytes)).map(|id| id.path().len()));
-        let _ = (member.read(0, round, &bytes, &mut Vec::new()), svid::messages::report(&bytes, next()));
     }
 }
 
-/// What goes to another thread, and what threads share.
+/// What threads share.
 #[test]
 fn types_of_threads() {
-    fn goes<T: Send>() {}
     fn is_shared<T: Send + Sync>() {}
-    goes::<Validator>();
-    goes::<Member>();
-    goes::<Bundles>();
-    is_shared::<Mutex<Validator>>();
     is_shared::<Guard<Always>>();
     is_shared::<svid::Journal>();
+    is_shared::<std::sync::Mutex<LogMember<Always>>>();
     is_shared::<Options>();
+    is_shared::<Sources>();
     #[cfg(feature = "openssl")]
     is_shared::<svid::OpenSsl>();
     #[cfg(feature = "ring")]

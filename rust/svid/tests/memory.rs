@@ -10,7 +10,9 @@ use std::cell::Cell;
 use std::os::raw::c_void;
 
 use common::*;
-use svid::{messages, Bundles, Error, LogStart, Member, Question, Said, TokenKey, Validator};
+use svid::{
+    BundlesFault, Candidate, DocumentFault, Error, Guard, LogMember, LogStart, Options, Said, Sources, TokenKey, Unverified, Verify,
+};
 
 extern "C" {
     fn __libc_malloc(size: usize) -> *mut c_void;
@@ -111,78 +113,84 @@ fn token() -> String {
     std::fs::read_to_string(top().join("examples/token.txt")).expect("the token of the examples").trim().to_owned()
 }
 
-fn opened() -> Validator {
-    Validator::open(&ledger().validator_id(svid::ValidatorId([7; 16])), &bundles()).expect("it opens")
+/// Takes each signature for good.
+struct All;
+
+impl Verify for All {
+    fn verify(&self, _: &Candidate<'_>, _: &[u8], _: &[u8]) -> Result<bool, Unverified> {
+        Ok(true)
+    }
 }
 
-fn yes() -> Vec<Question> {
-    opened().ask(token()).expect("it has candidates").iter().map(|it| it.expect("a row").question().expect("it is asked")).collect()
+fn options() -> Options {
+    Time::at(NOW).of(ledger()).validator_id(svid::ValidatorId([7; 16]))
+}
+
+fn opened() -> Guard<All> {
+    Guard::open(&options(), bundles(), All).expect("it opens")
 }
 
 /// A record of some uses.
 fn record() -> Vec<u8> {
-    let mut validator = opened();
+    let guard = opened();
     for number in 0..40 {
-        validator.withdraw(NOW, TokenKey([number; 32]), NOW + 100).expect("it has not expired");
+        guard.withdraw(TokenKey([number; 32]), NOW + 100).expect("it has not expired");
     }
-    validator.tell().expect("it has one")
+    guard.tell().expect("it has one")
 }
 
 #[test]
-fn calls_on_a_validator() {
-    let (options, given, token, yes, record) = (ledger().validator_id(svid::ValidatorId([7; 16])), bundles(), token(), yes(), record());
-    assert!(refused(|| (), |_| Validator::open(&options, &given).and_then(|mut it| it.tell())) > 10);
-    assert!(refused(opened, |it| it.ask(&token).map(|it| it.iter().count())) > 5);
-    assert!(refused(opened, |it| it.check_answered(NOW, &yes, &token)) > 5);
-    assert!(refused(opened, |it| it.judge_answered(NOW, &yes, &token)) > 5);
-    assert!(refused(opened, |it| it.withdraw(NOW, TokenKey([7; 32]), NOW + 1)) > 0);
-    assert!(refused(opened, |it| it.take(NOW, &record)) > 0);
+fn calls_on_a_guard() {
+    let (token, record) = (token(), record());
+    assert!(refused(opened, |it| it.check(&token)) > 5);
+    assert!(refused(opened, |it| it.judge(&token)) > 5);
+    assert!(refused(opened, |it| it.withdraw(TokenKey([7; 32]), NOW + 1)) > 0);
+    assert!(refused(opened, |it| it.take(&record)) > 0);
+    assert!(refused(|| (), |_| Said::of(&token)) > 5);
     let holds = || {
-        let mut validator = opened();
-        validator.take(NOW, &record).expect("it is a record");
-        validator
+        let guard = opened();
+        guard.take(&record).expect("it is a record");
+        guard
     };
     assert!(refused(holds, |it| it.tell()) > 0);
     assert!(refused(holds, |it| it.summary()) > 0);
     let summary = opened().summary().expect("it has one");
-    assert!(refused(holds, |it| it.answer(NOW, &summary)) > 0);
+    assert!(refused(holds, |it| it.answer(&summary)) > 0);
 }
 
 #[test]
-fn calls_on_bundles_and_tokens() {
-    let (given, token, yes, options) = (bundles(), token(), yes(), ledger().validator_id(svid::ValidatorId([7; 16])));
-    let read = || Bundles::read(&given).expect("they are good");
-    assert!(refused(|| (), |_| Bundles::read(&given).map(|_| ())) > 10);
-    assert!(refused(|| (), |_| Bundles::join([("example.org", br#"{"keys":[]}"#), ("other.org", br#"{"keys":[]}"#)])) > 10);
-    assert!(refused(read, |it| it.candidates(&token).map(|it| it.iter().count())) > 5);
-    assert!(refused(read, |it| it.question(&token, 0)) > 5);
-    assert!(refused(read, |it| it.judge(&options, NOW, &yes, &token)) > 5);
-    assert!(refused(|| (), |_| Said::of(&token)) > 5);
-}
-
-#[test]
-fn calls_on_messages() {
-    let (record, summary) = (record(), opened().summary().expect("it has one"));
-    assert!(refused(|| (), |_| messages::join(&record, b"", NOW)) > 0);
-    assert!(refused(|| (), |_| messages::report(&record, NOW)) > 0);
-    assert!(refused(|| (), |_| messages::summary(&record, NOW)) > 0);
-    assert!(refused(|| (), |_| messages::answer(&summary, &record, NOW)) > 0);
-}
-
-#[test]
-fn calls_on_a_member() {
-    let (options, given, token, yes, record) = (ledger().validator_id(svid::ValidatorId([7; 16])), bundles(), token(), yes(), record());
-    let start = LogStart::of_empty_log(3620);
-    let member = || Member::open(&options, &given, &start).expect("it opens");
-    let claim = member().judge_answered(NOW, &yes, &token).expect("it is good");
-    let value = [&claim.used().message().unwrap()[..], &record].concat();
-    assert!(refused(member, |it| it.judge_answered(NOW, &yes, &token)) > 5);
-    let read_all = |it: &mut Member| {
-        let mut fates = Vec::new();
-        while !it.read(NOW, 1, &value, &mut fates)?.is_whole {}
-        Ok(it.size()?.uses)
+fn calls_on_a_member_of_a_log() {
+    let (given, token, record) = (bundles(), token(), record());
+    let member = || LogMember::open(&options(), &given, All, &LogStart::default()).expect("it opens");
+    let claim = *member().judge(NOW, &token).expect("it is good").used();
+    let value = [&claim.message().unwrap()[..], &record].concat();
+    assert!(refused(member, |it| it.judge(NOW, &token)) > 5);
+    assert!(refused(member, |it| it.renew(&given)) > 5);
+    let read_all = |it: &mut LogMember<All>| {
+        while !it.read(NOW, 1, &value, &mut Vec::new())?.is_whole {}
+        it.tell()
     };
     assert!(refused(member, read_all) > 0);
+    let start = LogStart { beside: &record, ..LogStart::default() };
+    assert!(refused(|| LogMember::open(&options(), &given, All, &start).expect("it opens"), |it| it.beside()) > 0);
+}
+
+/// Want of memory is no fault of a bundle.
+#[test]
+fn bundles_that_are_joined() {
+    let (guard, none) = (opened(), r#"{"keys":[]}"#);
+    let fault = BundlesFault::Document { number: 2, fault: DocumentFault::NotObject };
+    let bad = Sources::from(bundles()).bundle("a.example", none).bundle("b.example", "[]");
+    for count in 0.. {
+        let sources = bad.clone();
+        LEFT.with(|left| left.set(count));
+        let why = guard.follow(sources).unwrap_err();
+        if LEFT.with(|left| left.replace(-1)) >= 0 {
+            assert_eq!((why, count > 10), (Error::Bundles(fault), true));
+            break;
+        }
+        assert!([Error::NoMemory, Error::Bundles(fault)].contains(&why), "with allocation {count} refused: {why}");
+    }
 }
 
 /// With the signature. (The first check lets OpenSSL load what it keeps: where that lacks memory, OpenSSL 3.0 may crash.)
@@ -190,21 +198,24 @@ fn calls_on_a_member() {
 #[cfg(feature = "openssl")]
 fn a_signature() {
     let (given, token) = (bundles(), token());
-    let verifier = svid::OpenSsl::new();
-    opened().check(NOW, &token, &verifier).expect("it is good");
+    let guard = || Guard::open(&options(), &given, svid::OpenSsl::new()).expect("it opens");
+    guard().check(&token).expect("it is good");
     // (OpenSSL answers of some that the signature is bad)
     let whys = [Error::NoMemory, Error::Refused(svid::Refusal::BadSignature)];
-    assert!(refused_as(&whys, opened, |it| it.check(NOW, &token, &verifier)) > 10);
-    let guard = || svid::Guard::open(&ledger().validator_id(svid::ValidatorId([7; 16])), &given, svid::OpenSsl::new()).expect("it opens");
-    assert!(refused_as(&whys, guard, |it| it.check_at(NOW, &token)) > 20);
-    assert!(refused(guard, |it| it.renew(&given)) > 20);
-    assert!(refused(guard, |it| it.withdraw_at(NOW, TokenKey([7; 32]), NOW + 1)) > 0);
-    assert!(refused(guard, |it| Ok(it.unready_at(NOW))) == 0);
-    // (the threads of claims have no allocation refused)
+    assert!(refused_as(&whys, guard, |it| it.check(&token)) > 20);
+    assert!(refused_as(&whys, guard, |it| it.judge(&token)) > 10);
+    assert!(refused(guard, |it| Ok(it.unready())) == 0);
+}
+
+/// The threads of claims have no allocation refused.
+#[test]
+#[cfg(feature = "testing")]
+fn a_claim() {
+    let (given, token) = (bundles(), token());
     let strict = || {
-        let store = std::sync::Arc::new(svid::MemoryStore::new().clock(|| NOW));
-        let options = ledger().validator_id(svid::ValidatorId([7; 16])).mode(svid::Mode::Strict).store(store);
-        svid::Guard::open(&options, &given, svid::OpenSsl::new()).expect("it opens")
+        let store = std::sync::Arc::new(svid::testing::MemoryStore::new().clock(|| NOW));
+        Guard::open(&options().mode(svid::Mode::Strict).store(store), &given, All).expect("it opens")
     };
-    assert!(refused_as(&whys, strict, |it| it.check_at(NOW, &token)) > 20);
+    strict().check(&token).expect("it is good");
+    assert!(refused(strict, |it| it.check(&token)) > 20);
 }

@@ -8,7 +8,7 @@ use std::thread;
 
 use common::*;
 use serde_json::Value;
-use svid::{Error, Guard, Refusal, Validator};
+use svid::{Error, Guard, Options, Refusal};
 
 #[cfg(feature = "openssl")]
 type Verifier = svid::OpenSsl;
@@ -63,42 +63,42 @@ fn each_once(tokens: &[String], check: impl Fn(&str) -> Result<svid::Accepted, E
     assert_eq!(accepted.into_inner().unwrap(), vec![1; tokens.len()]);
 }
 
-#[test]
-fn a_validator_behind_a_mutex() {
-    let (bundles, tokens, now) = tokens();
-    let validator = Mutex::new(Validator::open(&ledger(), bundles.as_bytes()).expect("it opens"));
-    let verifier = Verifier::default();
-    each_once(&tokens, |token| validator.lock().unwrap().check(now, token, &verifier));
+fn opened(bundles: &str, now: u64) -> Guard<Verifier> {
+    Guard::open(&at(now), bundles, Verifier::default()).expect("it opens")
+}
+
+fn at(now: u64) -> Options {
+    Time::at(now).of(ledger())
 }
 
 #[test]
 fn a_guard() {
     let (bundles, tokens, now) = tokens();
-    let guard = Arc::new(Guard::open(&ledger(), bundles.as_bytes(), Verifier::default()).expect("it opens"));
-    each_once(&tokens, |token| guard.check_at(now, token));
-    assert_eq!(guard.validator().size().unwrap().uses, tokens.len());
+    let guard = Arc::new(opened(&bundles, now));
+    each_once(&tokens, |token| guard.check(token));
+    assert_eq!(guard.size().unwrap().uses, tokens.len());
 }
 
 /// While the bundles are renewed, each token is accepted once and refused as used behind that: the old and the new ones have its key.
 #[test]
 fn a_guard_that_is_renewed() {
     let (bundles, tokens, now) = tokens();
-    let guard = Guard::open(&ledger(), bundles.as_bytes(), Verifier::default()).expect("it opens");
+    let guard = opened(&bundles, now);
     let others = bundles.replacen("{\"example.org\"", "{\"other.org\":{\"keys\":[]},\"example.org\"", 1);
     thread::scope(|scope| {
         let renews = scope.spawn(|| {
             for _ in 0..1000 {
-                guard.renew(others.as_bytes()).expect("they are good");
-                guard.renew(bundles.as_bytes()).expect("they are good");
+                guard.follow(&others).expect("they are good");
+                guard.follow(&bundles).expect("they are good");
             }
         });
         for token in &tokens {
-            assert!(guard.check_at(now, token).is_ok());
+            assert!(guard.check(token).is_ok());
         }
         // (a bad signature would come before a token that was used)
         while !renews.is_finished() {
             for token in &tokens {
-                assert_eq!(guard.check_at(now, token), Err(Error::Refused(Refusal::Replayed)));
+                assert_eq!(guard.check(token), Err(Error::Refused(Refusal::Replayed)));
             }
         }
     });
@@ -107,13 +107,13 @@ fn a_guard_that_is_renewed() {
 #[test]
 fn a_guard_takes_other_keys() {
     let (bundles, tokens, now) = tokens();
-    let guard = Guard::open(&ledger(), b"{}", Verifier::default()).expect("it opens");
-    assert_eq!(guard.check_at(now, &tokens[0]), Err(Error::Refused(Refusal::UnknownDomain)));
-    guard.renew(bundles.as_bytes()).expect("they are good");
-    assert!(guard.check_at(now, &tokens[0]).is_ok());
-    assert!(matches!(guard.renew(b"[]"), Err(Error::Bundles(_))));
-    assert!(guard.check_at(now, &tokens[1]).is_ok());
-    assert_eq!(guard.check_at(now, &tokens[0]), Err(Error::Refused(Refusal::Replayed)));
+    let guard = opened("{}", now);
+    assert_eq!(guard.check(&tokens[0]), Err(Error::Refused(Refusal::UnknownDomain)));
+    guard.follow(&bundles).expect("they are good");
+    assert!(guard.check(&tokens[0]).is_ok());
+    assert!(matches!(guard.follow(b"[]"), Err(Error::Bundles(_))));
+    assert!(guard.check(&tokens[1]).is_ok());
+    assert_eq!(guard.check(&tokens[0]), Err(Error::Refused(Refusal::Replayed)));
 }
 
 /// Threads may share these, also those that catch panics.
@@ -122,18 +122,4 @@ fn what_threads_may_share() {
     fn all<T: Send + Sync + std::panic::UnwindSafe + std::panic::RefUnwindSafe>() {}
     all::<Guard<Verifier>>();
     all::<svid::Options>();
-}
-
-/// A thread that panics with the validator in its hands takes it from nobody.
-#[test]
-fn a_thread_that_panics() {
-    let (bundles, tokens, now) = tokens();
-    let guard = Arc::new(Guard::open(&ledger(), bundles.as_bytes(), Verifier::default()).expect("it opens"));
-    let other = Arc::clone(&guard);
-    let panics = thread::spawn(move || {
-        let _held = other.validator();
-        std::panic::panic_any("a test");
-    });
-    assert!(panics.join().is_err());
-    assert!(guard.check_at(now, &tokens[0]).is_ok());
 }

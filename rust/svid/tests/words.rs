@@ -6,8 +6,8 @@ use std::collections::HashMap;
 
 use common::*;
 use svid::{
-    bearer_token, BearerFault, Bundles, Error, JournalError, KeyError, KeyFault, MessageFault, MessagesError, Pattern, PatternError,
-    SpiffeId, TokenKey, Use, Validator, ValidatorId,
+    bearer_token, BearerFault, Error, Guard, JournalError, KeyError, KeyFault, MessageFault, MessagesError, Pattern, PatternError, Sources,
+    SpiffeId, TokenKey, Use, ValidatorId,
 };
 
 const NOW: u64 = 1_767_225_600;
@@ -59,26 +59,32 @@ fn fields(row: &str) -> HashMap<String, String> {
     pairs.map(|(name, value)| (name.to_owned(), value.trim_matches('"').to_owned())).collect()
 }
 
+/// Why bundles can't be read.
+fn unread(sources: impl Into<Sources>) -> Error {
+    Guard::open(&ledger(), sources, ()).map(drop).unwrap_err()
+}
+
 #[test]
 fn calls() {
-    let (listed, mut validator) = (Listed::read(), Validator::open(&ledger().step(100), b"{}").expect("it opens"));
-    validator.tick(NOW).expect("the clock");
-    let mut beyond = empty();
-    beyond.tick(NOW + 11).expect("the clock");
+    let (listed, time) = (Listed::read(), Time::at(NOW));
+    let guard = Guard::open(&time.of(ledger()).step(100), b"{}", ()).expect("it opens");
+    tick(&guard).expect("the clock");
+    let beyond = empty(&Time::at(NOW + 11));
+    tick(&beyond).expect("the clock");
     let empty_batch = [b"JSR\x02\x01".as_slice(), &[0; 12]].concat();
     let said = [
-        ("JUMP", validator.tick(NOW + 101).unwrap_err()),
-        ("GONE", validator.withdraw(NOW, TokenKey([0; 32]), NOW).unwrap_err()),
-        ("TOO_FAR", validator.take(NOW, beyond.tell().expect("its record")).unwrap_err()),
-        ("TOO_MUCH", validator.take(NOW, empty_batch.repeat(3_947_581)).unwrap_err()),
-        ("NOT_SUMMARY", validator.answer(NOW, &empty_batch).unwrap_err()),
+        ("GONE", guard.withdraw(TokenKey([0; 32]), NOW).unwrap_err()),
+        ("TOO_FAR", guard.take(beyond.tell().expect("its record")).unwrap_err()),
+        ("TOO_MUCH", guard.take(empty_batch.repeat(3_947_581)).unwrap_err()),
+        ("NOT_SUMMARY", guard.answer(&empty_batch).unwrap_err()),
         ("NO_MEMORY", Error::NoMemory),
-        ("BUNDLES_NOT_OBJECT", Bundles::read(b"[]").unwrap_err()),
+        ("BUNDLES_NOT_OBJECT", unread("[]")),
     ];
     for (name, why) in said {
         assert_eq!(why.to_string(), listed.whole(name), "{name}");
     }
-    assert!(Error::TooShort.to_string().starts_with(&format!("{}: give ", listed.says("TOO_SHORT"))));
+    time.set(NOW + 101);
+    assert_eq!(guard.take(b"").unwrap_err().to_string(), listed.whole("JUMP"));
     let no_memory = [KeyError::NoMemory.to_string(), PatternError::NoMemory.to_string(), JournalError::NoMemory.to_string()];
     assert!(no_memory.iter().all(|it| *it == listed.whole("NO_MEMORY")), "{no_memory:?}");
     assert_eq!(JournalError::Ended.to_string(), listed.whole("FOLDER_ENDED"));
@@ -92,7 +98,7 @@ fn bundles() {
     for (text, name, number) in rows {
         let whence = format!(" (number {number} of the names in rising order, counted from 0): ");
         let due = listed.says(name) + &whence + listed.field(name, "advice");
-        assert_eq!(Bundles::read(text).unwrap_err().to_string(), due);
+        assert_eq!(unread(text).to_string(), due);
     }
     let none = r#"{"keys":[]}"#;
     let rows = [("a", "[]", "NOT_OBJECT"), ("B", none, "DOMAIN"), ("a", "{}", "KEYS"), ("spiffe://b", none, "TWICE")];
@@ -100,7 +106,7 @@ fn bundles() {
         let status = format!("BUNDLES_{status}");
         let whence = " (number 1 of the joined bundles, counted from 0): ";
         let due = listed.says(&status) + whence + listed.field(&status, "advice");
-        assert_eq!(Bundles::join([("b", none), (name, text)]).unwrap_err().to_string(), due);
+        assert_eq!(unread(Sources::new().bundle("b", none).bundle(name, text)).to_string(), due);
     }
 }
 
@@ -112,7 +118,7 @@ fn messages() {
         if due.is_null() {
             return Ok(());
         }
-        let why = empty().take(0, bytes_of(vector, "messages")).unwrap_err();
+        let why = empty(&Time::default()).take(bytes_of(vector, "messages")).unwrap_err();
         let Error::Messages(MessagesError { fault, message, offset, .. }) = why else { return Err(format!("{why:?}")) };
         let mut name = String::new();
         for it in fault.name().chars() {

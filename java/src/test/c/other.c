@@ -1,4 +1,4 @@
 /* The version of a library that the package does not know. */
 unsigned svid_version(void);
 
-unsigned svid_version(void) { return 30000; }
+unsigned svid_version(void) { return 40000; }

@@ -113,9 +113,12 @@ impl Core {
                 &mut told,
             )
         };
-        done(status, &told)?;
+        done(status, &told).map_err(|why| token.why(why))?;
+        if token.is_unsupported {
+            return Err(Error::Unsupported);
+        }
         let id = self.room.get(..told.len).unwrap_or_default();
-        Ok(Accepted::new(text_of(id, &mut self.spare)?, Use::of(&used, false)))
+        Ok(Accepted::new(text_of(id, &mut self.spare)?, Use::of(&used, false), token.says.take()))
     }
 
     /// A request comes: its number. It is to be judged.

@@ -41,6 +41,7 @@ struct Disk {
     here: Option<Name>,
     names: BTreeMap<String, Name>,
     unsynced: BTreeMap<String, ()>,
+    before_writes: Option<Arc<dyn Fn() + Send + Sync>>,
 }
 
 #[cfg(test)]
@@ -48,6 +49,11 @@ impl Faults {
     /// Lets the next call of each of these names fail.
     pub fn let_fail(&self, calls: &[&'static str]) {
         self.0.lock().unwrap().due.extend(calls);
+    }
+
+    /// Lets each write do this first.
+    pub fn before_writes(&self, does: impl Fn() + Send + Sync + 'static) {
+        self.0.lock().unwrap().before_writes = Some(Arc::new(does));
     }
 
     /// By which number of the system a call fails: EIO until this.
@@ -68,6 +74,10 @@ impl Faults {
 
     /// Asked before each call that changes something, with the name that it is about.
     pub fn of(&self, call: &str, name: &str) -> io::Result<()> {
+        let before = self.0.lock().unwrap().before_writes.clone().filter(|_| call == "write");
+        if let Some(does) = before {
+            does();
+        }
         let mut disk = self.0.lock().unwrap();
         let (mut fails, mut is_killed) = (false, false);
         match &mut disk.ends {

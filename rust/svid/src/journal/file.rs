@@ -4,8 +4,7 @@ use std::ops::Range;
 use std::path::PathBuf;
 
 use super::JournalError;
-use crate::ffi::{self, Bears, Frame, Mark, Reader};
-use crate::member::LogPosition;
+use crate::ffi::{self, Bears, Frame, Reader};
 use crate::record::ValidatorId;
 
 /// Where reading a file ends.
@@ -25,8 +24,6 @@ pub enum End {
 pub struct Contents {
     content: Vec<u8>,
     messages: Vec<Range<usize>>,
-    /// Where the member was in its log, as the last payload says that has it.
-    pub log_position: Option<LogPosition>,
     /// Where reading ended, and how many bytes the frames take.
     pub end: End,
     pub at: u64,
@@ -35,11 +32,10 @@ pub struct Contents {
 impl Contents {
     /// Reads the frames of a file of this number: a snapshot has 0.
     pub fn read(content: Vec<u8>, number: u64, id: ValidatorId) -> Result<Contents, JournalError> {
-        let mut made = Contents { content, messages: Vec::new(), log_position: None, end: End::Nothing, at: 0 };
+        let mut made = Contents { content, messages: Vec::new(), end: End::Nothing, at: 0 };
         let (end, at) = frames(&made.content, number, id, |range| {
             let payload = made.content.get(range.clone()).unwrap_or_default();
-            let (log_position, messages) = borne(payload);
-            made.log_position = log_position.or(made.log_position);
+            let messages = front(payload);
             made.messages.try_reserve(1).map_err(|_| JournalError::NoMemory)?;
             made.messages.push(range.start.saturating_add(messages)..range.end);
             Ok(())
@@ -104,20 +100,10 @@ fn begins_as_messages(content: &[u8]) -> bool {
     status != ffi::MAGIC || told.message > 1
 }
 
-/// Where a member was in its log, if a payload says so, and where its messages begin.
-fn borne(payload: &[u8]) -> (Option<LogPosition>, usize) {
+/// Where the messages of a payload begin: svidd may say before them where it is in the log of its group.
+fn front(payload: &[u8]) -> usize {
     let mut bears = Bears::default();
     // SAFETY: the payload is a slice with its length, and nothing overlaps.
     unsafe { ffi::svid_journal_bears(payload.as_ptr(), payload.len(), &mut bears) };
-    ((bears.marked != 0).then(|| LogPosition::of(&bears.mark)), bears.messages)
-}
-
-/// What a payload begins with that says where a member is in its log.
-pub fn front(position: LogPosition) -> Result<[u8; ffi::LOG_POSITION], JournalError> {
-    let (mark, mut text, mut told): (Mark, _, _) = (position.mark(), [0; ffi::LOG_POSITION], ffi::Told::default());
-    // SAFETY: the text is an array with its length, and nothing overlaps.
-    match unsafe { ffi::svid_journal_position(&mark, text.as_mut_ptr(), text.len(), &mut told) } {
-        ffi::OK => Ok(text),
-        status => Err(JournalError::of(status)),
-    }
+    bears.messages
 }

@@ -19,14 +19,12 @@ use std::time::{Duration, Instant};
 
 pub use self::error::JournalError;
 use self::faults::Faults;
-use self::file::{front, Contents, End};
+use self::file::{Contents, End};
 use self::folder::{journal_name, Folder, Growing, Numbers, FRAMES, ID_FILE, SNAPSHOT, UNFINISHED};
 use crate::error::Error;
-use crate::ffi;
-use crate::member::LogPosition;
+use crate::ffi::{self, Part};
 use crate::record::ValidatorId;
 use crate::requests::Report;
-use crate::validator::Parts;
 
 /// What a journal grows by: to force a new length to the disk takes longer than the bytes.
 static GROWTH: [u8; 262_144] = [0; 262_144];
@@ -43,34 +41,9 @@ const PIECE: usize = 256 * 1024;
 /// The most bytes of messages that one write takes.
 const MOST: usize = ffi::PAYLOAD_MOST - ffi::LOG_POSITION;
 
-type Bears = dyn Fn() -> Option<LogPosition> + Send + Sync;
-
 /// The state folder of one validator: what it accepted is found again after a restart, a crash or a loss of power.
 ///
-/// ```
-/// # #[cfg(feature = "openssl")] {
-/// # let bundles = include_bytes!(concat!(env!("CARGO_MANIFEST_DIR"), "/../../examples/bundles.json"));
-/// # let token = include_str!(concat!(env!("CARGO_MANIFEST_DIR"), "/../../examples/token.txt")).trim();
-/// # let folder = std::env::temp_dir().join(format!("svid-doc-{}", std::process::id()));
-/// use std::time::Duration;
-/// use svid::{Guard, Journal, OpenSsl, Options};
-///
-/// let mut journal = Journal::open(&folder)?;
-/// let options = Options::new(["ledger"]).validator_id(journal.validator_id());
-/// let guard = Guard::open(&options, bundles, OpenSsl::new())?;
-/// journal.load(|messages| guard.validator().take(svid::now()?, messages))?;
-///
-/// let accepted = guard.check(token)?;
-/// journal.append(&accepted.used().message()?, Duration::from_secs(2))?; // answer the request after this line
-///
-/// if journal.wants_snapshot() {
-///     journal.snapshot(|parts, room| guard.validator().piece(parts, room))?;
-/// }
-/// # drop(journal);
-/// # std::fs::remove_dir_all(&folder)?;
-/// # }
-/// # Ok::<(), Box<dyn std::error::Error>>(())
-/// ```
+/// [`Guard::with_journal`](crate::Guard::with_journal) takes it, and writes what is to be kept.
 ///
 /// `svidd` and the package for Python write the same files (docs/FORMATS.md, "State folder"), so any of them can go on with the folder of another
 /// one. One process holds a folder at a time, and any number of its threads may use the journal. To drop it waits for what is under way.
@@ -79,7 +52,6 @@ pub struct Journal {
     writer: Option<JoinHandle<()>>,
     validator_id: ValidatorId,
     torn: Vec<PathBuf>,
-    log_position: Option<LogPosition>,
     found: Vec<Contents>,
 }
 
@@ -94,7 +66,6 @@ struct Keeper {
     gate: Mutex<Gate>,
     /// The next write has something to take, or the journal is being closed.
     comes: Condvar,
-    bears: Mutex<Option<Arc<Bears>>>,
     /// A snapshot was due after the last write.
     is_due: AtomicBool,
 }
@@ -174,7 +145,7 @@ impl Journal {
         let (known, journals) = (folder.validator_id()?, folder.journals().map_err(|why| JournalError::io(folder.path(""), why))?);
         let names = std::iter::once((0, SNAPSHOT.to_owned())).chain(journals.iter().map(|it| (*it, journal_name(*it))));
         let mut switch = Switch { wants: journals.len() >= MANY_JOURNALS, kept: 0, pause: None };
-        let (mut found, mut torn, mut log_position, mut older) = (Vec::new(), Vec::new(), None, 0);
+        let (mut found, mut torn, mut older) = (Vec::new(), Vec::new(), 0);
         for (number, name) in names {
             let file = folder.path(&name);
             let content = match folder.read(&name) {
@@ -192,7 +163,6 @@ impl Journal {
             if read.end == End::Tear {
                 torn.push(file);
             }
-            log_position = read.log_position.or(log_position);
             match number {
                 0 => switch.kept = read.at,
                 _ => older += read.at,
@@ -220,14 +190,13 @@ impl Journal {
             writing: Mutex::new(writing),
             gate: Mutex::new(Gate { commit: None, is_closing: false }),
             comes: Condvar::new(),
-            bears: Mutex::new(None),
             is_due: AtomicBool::new(false),
         });
         keeper.make_calls(&mut lock(&keeper.switch), None)?;
         let works = Arc::clone(&keeper);
         let writer = thread::Builder::new().name("svid-journal".to_owned()).spawn(move || works.work());
         let writer = Some(writer.map_err(|why| JournalError::io(keeper.folder.path(""), why))?);
-        Ok(Journal { keeper, writer, validator_id, torn, log_position, found })
+        Ok(Journal { keeper, writer, validator_id, torn, found })
     }
 
     /// The validator ID that was made with the folder, and stands in its file `place`.
@@ -240,50 +209,20 @@ impl Journal {
         &self.torn
     }
 
-    /// Where the member was in its log when the folder was written last, if it says so.
-    pub fn log_position(&self) -> Option<LogPosition> {
-        self.log_position
-    }
-
-    /// Lets each write from now on say where the member is in its log, as `position` does. It gives `None` where there is no log.
-    pub fn bear(&self, position: impl Fn() -> Option<LogPosition> + Send + Sync + 'static) {
-        *lock(&self.keeper.bears) = Some(Arc::new(position));
-    }
-
     /// Gives all messages that were found to `take` of a validator, some at a time. Only the first call that succeeds does.
-    ///
-    /// # Errors
-    ///
-    /// What `take` answers. The messages are still here then.
-    pub fn load<E>(&mut self, mut take: impl FnMut(&[u8]) -> Result<(), E>) -> Result<(), E> {
+    pub(crate) fn load<E>(&mut self, mut take: impl FnMut(&[u8]) -> Result<(), E>) -> Result<(), E> {
         self.found.iter().flat_map(Contents::messages).try_for_each(&mut take)?;
         self.found = Vec::new();
         Ok(())
     }
 
-    /// Returns once the messages are on the disk. Threads that come meanwhile share a write.
-    ///
-    /// No messages are fine if [`bear`](Journal::bear) was called: what is written then is where the member is in its log.
-    ///
-    /// # Errors
-    ///
-    /// [`JournalError::Late`] after `wait`: the disk may have them now, or later, or never. [`JournalError::Io`] if the write fails: a later one
-    /// may succeed. [`JournalError::Moved`] if the path no longer leads to the folder once they are written, and from then on.
-    /// [`JournalError::Ended`], [`JournalError::Full`], [`JournalError::TooLong`], [`JournalError::NoMemory`].
-    pub fn append(&self, messages: &[u8], wait: Duration) -> Result<(), JournalError> {
+    /// Returns once the messages are on the disk, or after `wait`. Threads that come meanwhile share a write.
+    #[cfg(test)]
+    fn append(&self, messages: &[u8], wait: Duration) -> Result<(), JournalError> {
         let commit = self.keeper.join(messages, None)?;
         let waits = commit.ended.wait_timeout_while(lock(&commit.result), wait, |it| it.is_none());
         let (result, _) = waits.unwrap_or_else(PoisonError::into_inner);
         result.clone().unwrap_or(Err(JournalError::Late))
-    }
-
-    /// Lets the messages go to the disk with the next write, and does not wait for that.
-    ///
-    /// # Errors
-    ///
-    /// [`JournalError::Full`], [`JournalError::TooLong`], [`JournalError::NoMemory`].
-    pub fn append_soon(&self, messages: &[u8]) -> Result<(), JournalError> {
-        self.keeper.join(messages, None).map(drop)
     }
 
     /// Lets the messages go to the disk with the next write, and tells how that went. The writer does so, or this thread if there is no room.
@@ -300,26 +239,21 @@ impl Journal {
 
     /// Whether a snapshot is due: there is none, or the journals are many or long. It is not while one is being taken, nor for a minute after
     /// one that failed.
-    pub fn wants_snapshot(&self) -> bool {
+    pub(crate) fn wants_snapshot(&self) -> bool {
         self.keeper.wants_snapshot()
     }
 
-    /// Replaces the snapshot by the record of the validator, and drops the journals before it. `piece` is `piece` of the validator, and is
-    /// called until the record is written. Threads may append all the while.
+    /// Replaces the snapshot by the record of the validator, and drops the journals before it. `piece` writes a piece of the record, and is called
+    /// until all is written. Threads may append all the while. A use must be in the record before it is appended, as a check does it.
     ///
-    /// A use must be in the record before it is appended, as a check does it.
-    ///
-    /// # Errors
-    ///
-    /// [`JournalError::Io`], [`JournalError::Ended`], [`JournalError::Moved`], [`JournalError::NoMemory`], [`JournalError::Record`]. Nothing is
-    /// lost then, and nothing is written to what is there in place of a folder that was moved.
-    pub fn snapshot(&self, piece: impl FnMut(&mut Parts, &mut [u8]) -> Result<usize, Error>) -> Result<(), JournalError> {
+    /// After an error nothing is lost, and nothing is written to what is there in place of a folder that was moved.
+    pub(crate) fn snapshot(&self, piece: impl FnMut(&mut Part, &mut [u8]) -> Result<usize, Error>) -> Result<(), JournalError> {
         let taken = self.take_snapshot(piece);
         self.keeper.is_due.store(self.wants_snapshot(), Ordering::Relaxed);
         taken
     }
 
-    fn take_snapshot(&self, mut piece: impl FnMut(&mut Parts, &mut [u8]) -> Result<usize, Error>) -> Result<(), JournalError> {
+    fn take_snapshot(&self, mut piece: impl FnMut(&mut Part, &mut [u8]) -> Result<usize, Error>) -> Result<(), JournalError> {
         let mut switch = lock(&self.keeper.switch);
         self.keeper.folder.stood()?;
         lock(&self.keeper.writing).numbers.begin()?;
@@ -354,7 +288,7 @@ impl std::fmt::Debug for Journal {
     }
 }
 
-type Piece<'a> = &'a mut dyn FnMut(&mut Parts, &mut [u8]) -> Result<usize, Error>;
+type Piece<'a> = &'a mut dyn FnMut(&mut Part, &mut [u8]) -> Result<usize, Error>;
 
 impl Keeper {
     fn wants_snapshot(&self) -> bool {
@@ -433,22 +367,10 @@ impl Keeper {
 
     fn put_commit(&self, commit: &Commit) -> Result<(), JournalError> {
         let mut writing = lock(&self.writing);
-        let mut payload = self.front()?;
         let messages = lock(&commit.messages);
-        payload.try_reserve_exact(messages.len()).map_err(|_| JournalError::NoMemory)?;
-        payload.extend_from_slice(&messages);
-        match payload.is_empty() {
+        match messages.is_empty() {
             true => Ok(()),
-            false => writing.put(&payload, &self.folder),
-        }
-    }
-
-    /// What a payload begins with.
-    fn front(&self) -> Result<Vec<u8>, JournalError> {
-        let bears = lock(&self.bears).clone();
-        match bears.and_then(|position| position()) {
-            Some(position) => ffi::copied(&front(position)?).map_err(|_| JournalError::NoMemory),
-            None => Ok(Vec::new()),
+            false => writing.put(&messages, &self.folder),
         }
     }
 
@@ -490,11 +412,11 @@ impl Keeper {
         Ok(())
     }
 
-    /// Writes a snapshot: where the member is in its log, each piece of the record, and a mark.
+    /// Writes a snapshot: each piece of the record, and a mark.
     fn write_snapshot(&self, switch: &mut Switch, name: &str, beside: &mut Option<Growing>, piece: Piece<'_>) -> Result<(), JournalError> {
         let made = self.folder.create(name).map_err(|why| JournalError::io(self.folder.path(name), why))?;
         let file = beside.insert(made);
-        let (mut parts, mut at, mut frame, mut room) = (Parts::new(), 0u64, Vec::new(), Vec::new());
+        let (mut part, mut at, mut frame, mut room) = (Part::default(), 0u64, Vec::new(), Vec::new());
         let mut write = |payload: &[u8]| {
             let len = lock(&self.writing).numbers.piece(payload, &mut frame)?;
             let text = frame.get(..len).unwrap_or_default();
@@ -502,13 +424,9 @@ impl Keeper {
             at += len as u64;
             Ok::<(), JournalError>(())
         };
-        let front = self.front()?;
-        if !front.is_empty() {
-            write(&front)?;
-        }
         ffi::grow(&mut room, PIECE).map_err(|_| JournalError::NoMemory)?;
-        while !parts.is_done() {
-            let len = piece(&mut parts, &mut room)?;
+        while part.done == 0 {
+            let len = piece(&mut part, &mut room)?;
             let text = room.get(..len).unwrap_or_default();
             if text.is_empty() {
                 // (a piece of a record has a batch: so this is none)

@@ -7,8 +7,8 @@ use std::sync::Barrier;
 use super::file::frames;
 use super::*;
 use crate::common::*;
+use crate::handle::Core;
 use crate::record::{TokenKey, Use};
-use crate::validator::Validator;
 
 const WAIT: Duration = Duration::from_secs(60);
 const NOW: u64 = 1_767_225_600;
@@ -20,14 +20,19 @@ fn entry(number: u64) -> Use {
     Use { expires: NOW + 3600, key: TokenKey(key), validator_id: ValidatorId([7; 16]), at: NOW, withdrawn: false }
 }
 
+/// A validator that takes messages of any time, and whose record is empty.
+fn empty() -> Core {
+    Core::open(&ledger().ahead(u64::MAX)).expect("it opens")
+}
+
 /// A validator with the record of a folder.
-fn loaded(journal: &mut Journal) -> Validator {
+fn loaded(journal: &mut Journal) -> Core {
     let mut validator = empty();
     journal.load(|messages| validator.take(NOW, messages)).expect("the messages are good");
     validator
 }
 
-fn uses(validator: &mut Validator) -> usize {
+fn uses(validator: &mut Core) -> usize {
     validator.size().expect("it is open").uses
 }
 
@@ -73,7 +78,7 @@ fn folders_of_vectors() {
         match Journal::open(&room.0) {
             Ok(mut journal) => {
                 let mut due = empty();
-                due.take(0, bytes_of(it, "record")).map_err(fault)?;
+                due.take(0, &bytes_of(it, "record")).map_err(fault)?;
                 let mut validator = empty();
                 journal.load(|messages| validator.take(0, messages)).map_err(fault)?;
                 // (the moment of a record may be later than that of its uses)
@@ -99,7 +104,7 @@ fn what_was_appended_is_found_again() {
     for number in 0..3 {
         journal.append(&entry(number).message().unwrap(), WAIT).expect("it is kept");
     }
-    journal.append_soon(&entry(3).message().unwrap()).expect("there is room");
+    drop(journal.keeper.join(&entry(3).message().unwrap(), None).expect("there is room"));
     drop(journal);
 
     let mut journal = Journal::open(&folder).expect("nobody has it");
@@ -113,13 +118,13 @@ fn a_snapshot_replaces_journals() {
     let mut journal = Journal::open(&room.0).expect("it is empty");
     let mut validator = loaded(&mut journal);
     for number in 0..20_000 {
-        validator.take(NOW, entry(number).message().expect("it is a message")).expect("it is taken");
+        validator.take(NOW, &entry(number).message().expect("it is a message")).expect("it is taken");
     }
     journal.append(&entry(0).message().unwrap(), WAIT).expect("it is kept");
     journal.snapshot(|parts, out| validator.piece(parts, out)).expect("the disk is well");
     assert!(!journal.wants_snapshot());
     assert!(!room.0.join("journal.1").exists());
-    validator.take(NOW, entry(20_000).message().expect("it is a message")).expect("it is taken");
+    validator.take(NOW, &entry(20_000).message().expect("it is a message")).expect("it is taken");
     journal.append(&entry(20_000).message().unwrap(), WAIT).expect("it is kept");
     drop(journal);
 
@@ -141,7 +146,7 @@ fn threads_append_while_a_snapshot_is_taken() {
                 begun.wait();
                 for number in 0.. {
                     let used = entry(thread * 1_000_000 + number);
-                    validator.lock().unwrap().take(NOW, used.message().expect("it is a message")).expect("it is taken");
+                    validator.lock().unwrap().take(NOW, &used.message().expect("it is a message")).expect("it is taken");
                     journal.append(&used.message().unwrap(), WAIT).expect("it is kept");
                     count.fetch_add(1, Ordering::Relaxed);
                     if is_done.load(Ordering::Acquire) {
@@ -214,10 +219,10 @@ fn a_snapshot_that_fails_loses_nothing() {
         let room = Room::new("failing");
         let (journal, faults) = failing(&room);
         let mut validator = empty();
-        validator.take(NOW, entry(1).message().expect("it is a message")).expect("it is taken");
+        validator.take(NOW, &entry(1).message().expect("it is a message")).expect("it is taken");
         journal.append(&entry(1).message().unwrap(), WAIT).expect("the disk is well");
         // (the mark of the journal that is closed is written and synced before those of the snapshot)
-        journal.append_soon(b"").expect("there is room");
+        drop(journal.keeper.join(b"", None).expect("there is room"));
         let mut calls = 0;
         let is_first = |it: &str| it == "write" || it == "sync";
         if !is_first(call) {
@@ -248,26 +253,6 @@ fn a_record_that_is_not_given_is_told() {
     assert!(journal.snapshot(|_, _| Ok(0)).is_err());
     assert!(!room.0.join("snapshot").exists());
     assert!(!room.0.join("snapshot.new").exists());
-}
-
-#[test]
-fn each_write_says_where_the_member_is_in_its_log() {
-    let room = Room::new("log");
-    let journal = Journal::open(&room.0).expect("it is empty");
-    let position = LogPosition { passed: 17, begun: 2, deaf: NOW };
-    journal.append(&entry(1).message().unwrap(), WAIT).expect("it is kept");
-    journal.bear(move || Some(position));
-    journal.append(b"", WAIT).expect("it is kept");
-    let mut validator = empty();
-    validator.take(NOW, entry(1).message().expect("it is a message")).expect("it is taken");
-    drop(journal);
-    let mut journal = Journal::open(&room.0).expect("nobody has it");
-    assert_eq!((journal.log_position(), uses(&mut loaded(&mut journal))), (Some(position), 1));
-    journal.bear(move || Some(LogPosition { passed: 18, ..position }));
-    journal.snapshot(|parts, out| validator.piece(parts, out)).expect("the disk is well");
-    drop(journal);
-    let mut journal = Journal::open(&room.0).expect("nobody has it");
-    assert_eq!((journal.log_position().map(|it| it.passed), uses(&mut loaded(&mut journal))), (Some(18), 1));
 }
 
 #[test]
@@ -353,7 +338,7 @@ fn a_folder_that_is_moved_keeps_nothing() {
             let other = Journal::open(&path).unwrap_or_else(|why| panic!("{how}: {why}"));
             other.append(&entry(2).message().unwrap(), WAIT).unwrap();
             let before = files(&path);
-            let snapshot = |validator: &mut Validator| journal.snapshot(|parts, room| validator.piece(parts, room));
+            let snapshot = |validator: &mut Core| journal.snapshot(|parts, room| validator.piece(parts, room));
             if is_snapshot {
                 assert!(is_moved(snapshot(&mut validator)), "{how}");
             }

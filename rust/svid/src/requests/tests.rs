@@ -13,6 +13,7 @@ use crate::journal::Journal;
 use crate::key::Candidate;
 use crate::open_token::OpenToken;
 use crate::requests::{Due, Step};
+use crate::testing::{Clock, MemoryStore};
 use crate::*;
 
 const SUBJECT: &str = "spiffe://example.org/billing/api";
@@ -26,12 +27,6 @@ fn time() -> u64 {
     static TIME: AtomicU64 = AtomicU64::new(0);
     let now = now().expect("the clock is right");
     TIME.compare_exchange(0, now, Ordering::Relaxed, Ordering::Relaxed).map_or_else(|first| first, |_| now)
-}
-
-/// How long a test waits for what must come.
-fn patience() -> Duration {
-    let seconds = std::env::var("SVID_TEST_PATIENCE").ok().and_then(|it| it.parse().ok());
-    Duration::from_secs(seconds.unwrap_or(180))
 }
 
 /// Waits for something that must come.
@@ -59,6 +54,11 @@ fn base64(bytes: &[u8]) -> String {
         (0..=it.len()).map(|at| DIGITS[(word >> (18 - 6 * at) & 63) as usize] as char).collect::<String>()
     };
     bytes.chunks(3).map(digits).collect()
+}
+
+/// The options of these tests, by their time.
+fn ledger() -> Options {
+    crate::common::ledger().clock(time)
 }
 
 const GOOD: &[u8] = b"a good signature";
@@ -107,11 +107,11 @@ fn opened(options: &Options) -> Arc<Plain> {
 }
 
 fn verifying<F: Fn()>(options: &Options, verifier: By<F>) -> Arc<Guard<By<F>>> {
-    Arc::new(Guard::open(options, &bundles(), verifier).expect("it opens"))
+    Arc::new(Guard::open(options, bundles(), verifier).expect("it opens"))
 }
 
 fn kept(options: &Options, journal: Journal) -> Arc<Plain> {
-    Arc::new(Guard::with_journal(options, &bundles(), plain(), journal).expect("it opens"))
+    Arc::new(Guard::with_journal(options, bundles(), plain(), journal).expect("it opens"))
 }
 
 fn at(room: &Room) -> Journal {
@@ -148,7 +148,7 @@ fn check<F: Fn() + Send + Sync + 'static>(guard: &Arc<Guard<By<F>>>, token: &str
 fn soon<F: Fn() + Send + Sync + 'static>(guard: &Arc<Guard<By<F>>>, token: &str) -> JoinHandle<String> {
     let (guard, token) = (Arc::clone(guard), token.to_owned());
     thread::spawn(move || {
-        let answer = guard.check_at(time(), token);
+        let answer = guard.check(token);
         if let Ok(it) = &answer {
             assert_eq!((it.spiffe_id(), it.expires()), (SUBJECT, time() + 600));
         }
@@ -159,7 +159,7 @@ fn soon<F: Fn() + Send + Sync + 'static>(guard: &Arc<Guard<By<F>>>, token: &str)
 /// Why a check is not accepted, in words.
 fn words_of(guard: &Arc<Plain>, token: &str) -> String {
     let (guard, token) = (Arc::clone(guard), token.to_owned());
-    answer(thread::spawn(move || guard.check_at(time(), token))).unwrap_err().to_string()
+    answer(thread::spawn(move || guard.check(token))).unwrap_err().to_string()
 }
 
 fn answer<T>(of: JoinHandle<T>) -> T {
@@ -168,22 +168,22 @@ fn answer<T>(of: JoinHandle<T>) -> T {
 }
 
 fn uses<V>(guard: &Guard<V>) -> usize {
-    guard.validator().size().expect("it is open").uses
+    guard.size().expect("it is open").uses
 }
 
 /// No request and no withdrawal is left behind.
 fn nothing_waits<V>(guard: &Guard<V>) -> bool {
-    guard.validator().core.waits() == 0
+    guard.requests.core().waits() == 0
 }
 
 fn unready<V>(guard: &Guard<V>) -> String {
-    guard.unready_at(time()).map_or(String::new(), |why| why.to_string())
+    guard.unready().map_or(String::new(), |why| why.to_string())
 }
 
 /// A withdrawal of the token of this number, which has the expiry of all.
 fn withdraw(guard: &Arc<Plain>, number: usize) -> Result<Use, Error> {
     let (guard, key) = (Arc::clone(guard), Said::of(fresh(number)).expect("it is a token").key());
-    answer(thread::spawn(move || guard.withdraw_at(time(), key, time() + 600)))
+    answer(thread::spawn(move || guard.withdraw(key, time() + 600)))
 }
 
 /// A store whose calls do `before` what is put, and `after` it, as a test wants.
@@ -192,6 +192,9 @@ struct Fickle {
     puts: Mutex<Vec<Vec<Claim>>>,
     before: Mutex<Arc<Fault>>,
     after: Mutex<Arc<Fault>>,
+    /// How often it was asked for withdrawals, and whether it tells none.
+    asked: AtomicUsize,
+    is_mute: AtomicBool,
 }
 
 type Fault = dyn Fn() -> Result<(), StoreError> + Send + Sync;
@@ -203,7 +206,14 @@ impl Fickle {
 
     fn over(store: MemoryStore) -> Arc<Fickle> {
         let nothing = || Mutex::new(Arc::new(|| Ok(())) as Arc<Fault>);
-        Arc::new(Fickle { store, puts: Mutex::default(), before: nothing(), after: nothing() })
+        Arc::new(Fickle {
+            store,
+            puts: Mutex::default(),
+            before: nothing(),
+            after: nothing(),
+            asked: AtomicUsize::new(0),
+            is_mute: AtomicBool::new(false),
+        })
     }
 
     fn before(&self, fault: impl Fn() -> Result<(), StoreError> + Send + Sync + 'static) {
@@ -252,6 +262,24 @@ impl Store for Fickle {
         before()?;
         self.store.withdraw(key, expires)
     }
+
+    fn withdrawals(&self, after: &str) -> Result<(Vec<(TokenKey, u64)>, String), StoreError> {
+        self.asked.fetch_add(1, Ordering::Relaxed);
+        if self.is_mute.load(Ordering::Acquire) {
+            return Err("the store is away".into());
+        }
+        // (one at a time, as of a store that has many)
+        let (mut all, last) = self.store.withdrawals(after)?;
+        let from = after.split('.').nth(1).filter(|_| after.split('.').next() == last.split('.').next());
+        match all.len() {
+            0 | 1 => Ok((all, last)),
+            _ => {
+                all.truncate(1);
+                let epoch = last.split('.').next().unwrap_or_default();
+                Ok((all, format!("{epoch}.{}", from.and_then(|it| it.parse().ok()).unwrap_or(0) + 1)))
+            }
+        }
+    }
 }
 
 fn away() -> Result<(), StoreError> {
@@ -298,13 +326,12 @@ fn a_token_that_may_come_again() {
 
 #[test]
 fn options_that_cannot_be() {
-    let store = Arc::new(memory());
     let patterns = |of: &[&str]| ledger().callers(of.iter().copied());
     let rows = [
         (ledger().mode(Mode::Strict), OptionsFault::Store),
         (ledger().mode(Mode::Bound), OptionsFault::Store),
-        (ledger().store(store.clone()), OptionsFault::Store),
-        (ledger().mode(Mode::Reuse).store(store.clone()), OptionsFault::Store),
+        (Options::new([""; 0]), OptionsFault::NoAudience),
+        (ledger().open_paths(["/healthz", "/a//b"]), OptionsFault::Path { number: 1 }),
         (ledger().wait(Duration::from_micros(999)), OptionsFault::Wait),
         (patterns(&[]), OptionsFault::Callers),
         (patterns(&["spiffe://example.org", "*"]), OptionsFault::Caller { number: 1, fault: PatternFault::Scheme }),
@@ -313,32 +340,9 @@ fn options_that_cannot_be() {
         (Options::new(["ledger", ""]).callers([SUBJECT]), OptionsFault::Audience),
     ];
     for (options, why) in rows {
-        assert_eq!(Guard::open(&options, &bundles(), plain()).map(drop), Err(Error::Options(why)));
+        assert_eq!(Guard::open(&options, bundles(), plain()).map(drop), Err(Error::Options(why)));
         assert!(why.to_string().contains(": "), "it says what to do");
     }
-    let start = LogStart::of_empty_log(1);
-    for options in [ledger().mode(Mode::Reuse), strict(&store), patterns(&[SUBJECT])] {
-        assert_eq!(Validator::open(&options, b"{}").map(drop), Err(Error::Options(OptionsFault::Guard)));
-        assert_eq!(Member::open(&options, b"{}", &start).map(drop), Err(Error::Options(OptionsFault::Guard)));
-    }
-}
-
-/// Nobody accepts a token beside the member.
-#[test]
-fn a_guard_alone_checks_what_it_guards() {
-    let (store, room) = (Arc::new(memory()), Room::new("guarded"));
-    let guards = [
-        opened(&strict(&store)),
-        opened(&ledger().mode(Mode::Reuse)),
-        opened(&ledger().callers(["spiffe://example.com"])),
-        kept(&ledger(), at(&room)),
-    ];
-    for guard in &guards {
-        let answer = guard.validator().check(time(), fresh(1), &plain());
-        assert_eq!(answer, Err(Error::Options(OptionsFault::Guarded)));
-        assert!(guard.validator().judge(time(), fresh(1), &plain()).is_ok());
-    }
-    assert!(opened(&ledger()).validator().check(time(), fresh(1), &plain()).is_ok());
 }
 
 #[test]
@@ -347,7 +351,7 @@ fn one_of_many_threads_is_accepted() {
     let guard = opened(&strict(&store).wait(LONG));
     let go = store.hold();
     let calls: Vec<_> = (0..THREADS).map(|_| soon(&guard, &fresh(1))).collect();
-    until(|| !store.counts().is_empty() && guard.validator().core.waits() == THREADS);
+    until(|| !store.counts().is_empty() && guard.requests.core().waits() == THREADS);
     go.store(true, Ordering::Release);
     let said: Vec<_> = calls.into_iter().map(answer).collect();
     assert_eq!(said.iter().filter(|it| *it == "accepted").count(), 1, "{said:?}");
@@ -433,12 +437,12 @@ fn a_token_is_bound_to_its_caller() {
     let (one, other) = (opened(&bound(&store)), opened(&bound(&store)));
     let (owner, thief) = (Caller([1; 32]), Caller([2; 32]));
     for guard in [&one, &other, &one] {
-        assert_eq!(word(guard.check_from_at(time(), owner, fresh(1))), "accepted");
-        assert_eq!(word(guard.check_from_at(time(), thief, fresh(1))), "Replayed");
+        assert_eq!(word(guard.check_from(owner, fresh(1))), "accepted");
+        assert_eq!(word(guard.check_from(thief, fresh(1))), "Replayed");
     }
     withdraw(&one, 1).expect("the store is well");
     for guard in [&one, &other] {
-        assert_eq!(word(guard.check_from_at(time(), owner, fresh(1))), "Withdrawn");
+        assert_eq!(word(guard.check_from(owner, fresh(1))), "Withdrawn");
     }
 }
 
@@ -452,9 +456,9 @@ fn a_caller_is_a_digest() {
 #[test]
 fn a_caller_is_given_in_mode_bound_alone() {
     let (store, presenter) = (Arc::new(memory()), Error::Options(OptionsFault::Presenter));
-    assert_eq!(opened(&bound(&store)).check_at(time(), fresh(1)), Err(presenter));
+    assert_eq!(opened(&bound(&store)).check(fresh(1)), Err(presenter));
     for options in [ledger(), strict(&store), ledger().mode(Mode::Reuse)] {
-        assert_eq!(opened(&options).check_from_at(time(), Caller([1; 32]), fresh(1)), Err(presenter));
+        assert_eq!(opened(&options).check_from(Caller([1; 32]), fresh(1)), Err(presenter));
     }
 }
 
@@ -622,15 +626,16 @@ fn a_claim_that_is_late_is_not_put() {
 
 #[test]
 fn a_store_that_has_lost_entries() {
-    let store = Arc::new(memory().lasts(3620));
-    let guard = opened(&strict(&store).longest(3600));
+    let (store, clock) = (Arc::new(memory().lasts(3620)), Clock::at(time()));
+    let guard = opened(&strict(&store).longest(3600).clock(clock.reader()));
     assert_eq!(check(&guard, &fresh(1)), "accepted");
     assert_eq!(unready(&guard), "");
     store.lose();
     let why = words_of(&guard, &fresh(2));
     assert!(why.contains("before the store lost entries"), "{why}");
     assert!(unready(&guard).starts_with("the store has lost entries"));
-    assert_eq!(guard.unready_at(time() + 60), None);
+    clock.advance(60);
+    assert_eq!(guard.unready(), None);
 }
 
 #[test]
@@ -706,6 +711,62 @@ fn a_withdrawal_that_the_disk_may_not_have() {
     assert_eq!(check(&kept(&ledger(), at(&room)), &fresh(1)), "Withdrawn");
 }
 
+/// In the modes that don't ask the store of each token, its withdrawals are read.
+#[test]
+fn withdrawals_are_heard() {
+    let store = Fickle::new();
+    let other = opened(&strict(&store));
+    for mode in [Mode::Once, Mode::Reuse, Mode::Bound] {
+        let (before, after) = (another(), another());
+        withdraw(&other, before).expect("the store is well");
+        let guard = opened(&ledger().mode(mode).store(Arc::clone(&store) as Arc<dyn Store>).wait(LONG));
+        let judged = |number: usize| word(guard.judge(fresh(number)));
+        assert_eq!((unready(&guard).as_str(), judged(before).as_str()), ("", "Withdrawn"));
+        withdraw(&other, after).expect("the store is well");
+        until(|| judged(after) == "Withdrawn");
+        // (what it lost, it tells no more)
+        store.store.lose();
+        let late = another();
+        withdraw(&other, late).expect("the store is well");
+        until(|| judged(late) == "Withdrawn");
+    }
+    // Nobody asks for them in mode strict.
+    let asked = store.asked.load(Ordering::Relaxed);
+    assert!(asked >= 6, "{asked}");
+    let alone = Fickle::new();
+    let guard = opened(&strict(&alone));
+    assert_eq!(check(&guard, &fresh(another())), "accepted");
+    until(|| unready(&guard).is_empty());
+    assert_eq!(alone.asked.load(Ordering::Relaxed), 0);
+}
+
+/// Until they were read, no token is judged.
+#[test]
+fn withdrawals_that_are_not_heard_yet() {
+    let store = Fickle::new();
+    store.is_mute.store(true, Ordering::Release);
+    let (options, heard) = hearing(ledger().store(Arc::clone(&store) as Arc<dyn Store>).wait(SHORT));
+    let guard = opened(&options);
+    let due = "the store's withdrawals are being read";
+    until(|| unready(&guard) == due);
+    assert_eq!(words_of(&guard, &fresh(2)), due);
+    let why = "the withdrawals of the group's store can't be read: the store is away".to_owned();
+    let told = || heard.lock().unwrap().iter().filter(|it| **it == why).count();
+    until(|| told() == 1);
+    // (each fault is told once)
+    let asked = store.asked.load(Ordering::Relaxed);
+    until(|| store.asked.load(Ordering::Relaxed) > asked + 1);
+    assert_eq!(told(), 1);
+    store.is_mute.store(false, Ordering::Release);
+    until(|| unready(&guard).is_empty());
+    assert_eq!(in_time(&guard, &fresh(2)), "accepted");
+    // Later on tokens are judged though it fails again.
+    store.is_mute.store(true, Ordering::Release);
+    until(|| told() == 2);
+    assert_eq!(unready(&guard), "");
+    assert_eq!(in_time(&guard, &fresh(another())), "accepted");
+}
+
 // -- Callers
 
 #[test]
@@ -714,7 +775,7 @@ fn callers() {
     for options in [ledger(), ledger().mode(Mode::Reuse), strict(&store)] {
         let closed = opened(&options.clone().callers(["spiffe://example.org/other", "spiffe://example.com"]));
         for _ in 0..2 {
-            assert_eq!(closed.check_at(time(), fresh(1)), Err(Error::NotAllowed));
+            assert_eq!(closed.check(fresh(1)), Err(Error::NotAllowed));
             assert_eq!(check(&closed, &signed(1, b"a bad signature")), "BadSignature");
         }
         assert_eq!(uses(&closed), 0);
@@ -781,9 +842,8 @@ fn a_claim_of_who_does_not_know_yet_that_it_is_late() {
     let (guard, token) = (opened(&strict(&Arc::new(memory())).wait(Duration::from_secs(2))), fresh(1));
     until(|| unready(&guard).is_empty());
     let requests = &guard.requests;
-    let mut read = OpenToken::read(token.as_bytes()).expect("it is a token");
-    let mut validator = guard.validator();
-    let (core, up) = (&mut validator.core, requests.clock.up());
+    let mut read = OpenToken::read(token.as_bytes(), &[]).expect("it is a token");
+    let (mut core, up) = (requests.core(), requests.clock.up());
     let number = core.come(up, [0; 32]).expect("it judges");
     let len = core.keys_of(&mut read).expect("there is memory");
     read.look(len, &plain()).expect("there is memory");
@@ -793,12 +853,12 @@ fn a_claim_of_who_does_not_know_yet_that_it_is_late() {
         _ => panic!("no claim is due"),
     };
     let at = core.due().expect("it is open");
-    drop(validator);
+    drop(core);
     let due = Due { number, used };
     assert!(requests.send(&due).is_some());
     until(|| requests.clock.up() >= at);
     assert!(requests.send(&due).is_none());
-    assert!(matches!(guard.validator().core.step(at, number), Ok(Some(Step::Deed(deed))) if deed.status() == ffi::LATE));
+    assert!(matches!(guard.requests.core().step(at, number), Ok(Some(Step::Deed(deed))) if deed.status() == ffi::LATE));
     assert!(nothing_waits(&guard));
 }
 
@@ -814,8 +874,21 @@ fn a_panic_leaves_nobody_behind() {
     let guard = verifying(&strict(&store).wait(LONG), verifier);
     assert!(soon(&guard, &fresh(1)).join().is_err());
     assert!(nothing_waits(&guard));
-    assert_eq!(guard.validator().core.due(), Ok(u64::MAX));
+    assert_eq!(guard.requests.core().due(), Ok(u64::MAX));
     assert_eq!(answer(soon(&guard, &fresh(1))), "accepted");
+}
+
+/// A thread that panics with the record in its hands takes it from nobody.
+#[test]
+fn a_thread_that_panics() {
+    let guard = opened(&ledger());
+    let other = Arc::clone(&guard);
+    let panics = thread::spawn(move || {
+        let _held = other.requests.core();
+        std::panic::panic_any("a test");
+    });
+    assert!(panics.join().is_err());
+    assert_eq!(check(&guard, &fresh(1)), "accepted");
 }
 
 /// Nobody waits for a store that hangs.
@@ -825,7 +898,7 @@ fn a_guard_that_is_dropped_ends_its_threads() {
     let guard = opened(&strict(&store));
     assert_eq!(check(&guard, &fresh(1)), "accepted");
     let go = store.hold();
-    assert!(guard.validator().core.waits() == 0);
+    assert!(guard.requests.core().waits() == 0);
     drop(guard);
     go.store(true, Ordering::Release);
     until(|| Arc::strong_count(&store) == 1);
@@ -868,11 +941,9 @@ fn who_is_warned_may_panic() {
 #[test]
 fn a_disk_that_hangs() {
     let (room, goes) = (Room::new("hangs"), Arc::new(AtomicBool::new(true)));
-    let (journal, go) = (at(&room), Arc::clone(&goes));
-    journal.bear(move || {
-        held(&go);
-        None
-    });
+    let (journal, faults) = Journal::failing(&room.0);
+    let go = Arc::clone(&goes);
+    faults.before_writes(move || held(&go));
     let guard = kept(&ledger().wait(SHORT), journal);
     goes.store(false, Ordering::Release);
     until(|| {
@@ -908,11 +979,11 @@ fn a_store_that_is_reached_meanwhile() {
     store.before(away);
     let guard = opened(&strict(&store).wait(SHORT));
     let known = |opened| ffi::Known { bundled: 1, loaded: 1, heard: 1, joined: 1, caught_up: 1, opened, ..ffi::Known::default() };
-    let mut validator = guard.validator();
-    assert!(validator.core.ready().is_err());
+    let mut core = guard.requests.core();
+    assert!(core.ready().is_err());
     for opened in [1, 0] {
-        validator.core.know(&known(opened)).expect("it is open");
-        assert_eq!(validator.core.ready(), Ok(()));
+        core.know(&known(opened)).expect("it is open");
+        assert_eq!(core.ready(), Ok(()));
     }
 }
 
@@ -930,11 +1001,14 @@ fn a_store_that_goes_away() {
 
 #[test]
 fn a_clock_that_jumps() {
-    let guard = opened(&ledger().step(3600));
-    assert_eq!(guard.unready_at(time()), None);
-    let why = guard.unready_at(time() + 7200).expect("it is not ready");
+    let clock = Clock::at(time());
+    let guard = opened(&ledger().step(3600).clock(clock.reader()));
+    assert_eq!(guard.unready(), None);
+    clock.advance(7200);
+    let why = guard.unready().expect("it is not ready");
     assert_eq!(why.to_string(), "the clock went ahead too far at once: set the clock right");
-    assert_eq!(guard.unready_at(time()), None);
+    clock.set(time());
+    assert_eq!(guard.unready(), None);
 }
 
 /// A key that is gone by then lets nobody in.
@@ -944,8 +1018,8 @@ fn renewed_bundles_count_for_who_waits() {
     let guard = opened(&strict(&store).wait(LONG));
     let go = store.hold();
     let calls: Vec<_> = (0..2).map(|_| soon(&guard, &fresh(1))).collect();
-    until(|| !store.counts().is_empty() && guard.validator().core.waits() == 2);
-    guard.renew(br#"{"example.org":{"keys":[]}}"#).expect("they are good");
+    until(|| !store.counts().is_empty() && guard.requests.core().waits() == 2);
+    guard.follow(br#"{"example.org":{"keys":[]}}"#).expect("they are good");
     go.store(true, Ordering::Release);
     assert!(calls.into_iter().map(answer).all(|it| it == "NoKey"));
 }
@@ -959,12 +1033,62 @@ fn keys_are_looked_for_again_in_renewed_bundles() {
     let call = soon(&guard, &fresh(1));
     until(|| !store.counts().is_empty());
     let text = String::from_utf8(bundles()).expect("a text");
-    guard.renew(text.replace("\"ec-1\"", "\"ec-1\", \"alg\": \"ES256\"").as_bytes()).expect("they are good");
+    guard.follow(text.replace("\"ec-1\"", "\"ec-1\", \"alg\": \"ES256\"").as_bytes()).expect("they are good");
     go.store(true, Ordering::Release);
     assert_eq!(answer(call), "accepted");
 }
 
-// -- Answers to requests, and snapshots
+// -- What a service hears, answers to requests, and snapshots
+
+#[test]
+fn who_hears_of_tokens_that_are_not_accepted() {
+    let heard = Arc::new(Mutex::new(Vec::new()));
+    let hears = Arc::clone(&heard);
+    let options = ledger().callers([SUBJECT]).refuses(move |why| {
+        hears.lock().unwrap().push(why.to_string());
+        std::panic::panic_any("a test");
+    });
+    let guard = opened(&options);
+    assert_eq!(check(&guard, &fresh(1)), "accepted");
+    for token in [fresh(1), signed(2, b"a bad signature"), "no token".to_owned()] {
+        assert_ne!(check(&guard, &token), "accepted");
+        let _ = guard.judge(&token);
+    }
+    let said: Vec<String> = heard.lock().unwrap().iter().map(|it| it.split(':').next().unwrap_or_default().to_owned()).collect();
+    assert_eq!(said, ["Replayed", "BadSignature", "NotThreeParts"]);
+}
+
+#[test]
+#[cfg(feature = "http")]
+fn answers_of_a_service() {
+    let store = Fickle::new();
+    store.before(away);
+    let options = strict(&store).wait(SHORT).callers(["spiffe://example.com"]).open_paths(["/healthz", "/static/*"]);
+    let guard = opened(&options);
+    let ask = |path: &str, header: Option<String>| {
+        let mut request = http::Request::get(path);
+        if let Some(header) = header {
+            request = request.header("authorization", header);
+        }
+        guard.admit_request(&request.body(()).expect("it is a request"))
+    };
+    for path in ["/healthz", "/healthz?a=b", "/static/a.css"] {
+        assert!(matches!(ask(path, None), Ok(None)), "{path}");
+    }
+    let answer = |denied: Denied| {
+        let response: http::Response<String> = denied.response();
+        let field = |name: &str| response.headers().get(name).map(|it| it.to_str().expect("a text").to_owned());
+        assert_eq!((field("cache-control").as_deref(), response.body().as_str()), (Some("no-store"), ""));
+        (response.status().as_u16(), field("www-authenticate"), field("retry-after"))
+    };
+    let said = |text: &str| Some(text.to_owned());
+    assert_eq!(answer(ask("/healthz/", None).unwrap_err()), (401, said("Bearer realm=\"svid\""), None));
+    assert_eq!(answer(ask("/", said(&format!("Bearer {}", fresh(1)))).unwrap_err()), (503, None, said("1")));
+    let malformed = "Bearer error=\"invalid_token\", error_description=\"HeaderSpelling\"";
+    assert_eq!(answer(ask("/", said("Bearer a.b.c")).unwrap_err()), (401, said(malformed), None));
+    let scope = "Bearer error=\"insufficient_scope\", error_description=\"NotAllowed\"";
+    assert_eq!(answer(Denied::NotAllowed), (403, said(scope), None));
+}
 
 #[test]
 fn answers_to_requests() {
@@ -994,7 +1118,7 @@ fn a_guard_takes_snapshots_by_itself() {
     assert!(room.0.join("snapshot").exists(), "one is taken at the start");
     std::fs::remove_file(room.0.join("snapshot")).expect("it is there");
     let journal = guard.journal.as_ref().expect("it has one");
-    assert_eq!(guard.validator().validator_id(), journal.validator_id());
+    assert_eq!(guard.validator_id(), journal.validator_id());
     until(|| {
         journal.let_a_snapshot_be_due();
         check(&guard, &fresh(another())) == "accepted" && room.0.join("snapshot").exists()

@@ -2,9 +2,11 @@
 #![allow(dead_code)]
 
 use std::path::{Path, PathBuf};
+use std::sync::atomic::{AtomicU64, Ordering};
+use std::sync::{Arc, Mutex};
 
 use serde_json::Value;
-use svid::{Error, Options, TokenKey, Validator, ValidatorId, Verify};
+use svid::{Candidate, Error, Guard, Options, Said, TokenKey, Unverified, ValidatorId, Verify};
 
 /// The root of the checkout.
 pub fn top() -> PathBuf {
@@ -83,9 +85,75 @@ pub fn limit_of(it: &Value) -> u64 {
     it.as_str().map_or(u64::MAX, |text| text.parse().expect("a number"))
 }
 
-/// The usual options of the vectors: the audience `ledger`. A check may take as long as a busy machine wants.
+/// The usual options of the vectors: the audience `ledger`, and tokens of any life. A check may take as long as a busy machine wants.
 pub fn ledger() -> Options {
-    Options::new(["ledger"]).wait(std::time::Duration::from_secs(500))
+    Options::new(["ledger"]).any_life().wait(std::time::Duration::from_secs(500))
+}
+
+/// How long a test waits for what must come.
+pub fn patience() -> std::time::Duration {
+    let seconds = std::env::var("SVID_TEST_PATIENCE").ok().and_then(|it| it.parse().ok());
+    std::time::Duration::from_secs(seconds.unwrap_or(180))
+}
+
+/// A clock of a test.
+#[derive(Clone, Default)]
+pub struct Time(Arc<AtomicU64>);
+
+impl Time {
+    pub fn at(seconds: u64) -> Time {
+        let time = Time::default();
+        time.set(seconds);
+        time
+    }
+
+    pub fn set(&self, seconds: u64) {
+        self.0.store(seconds, Ordering::Relaxed);
+    }
+
+    /// The same options by this clock.
+    pub fn of(&self, options: Options) -> Options {
+        let time = self.clone();
+        options.clock(move || time.0.load(Ordering::Relaxed))
+    }
+}
+
+/// Advances the record to the time of its clock.
+pub fn tick<V>(guard: &Guard<V>) -> Result<(), Error> {
+    match guard.unready() {
+        None => Ok(()),
+        Some(Error::Unavailable(why)) if why.to_string().starts_with("the clock went ahead too far") => Err(Error::Jump),
+        Some(why) => Err(why),
+    }
+}
+
+/// Answers yes to the questions of a list, as the vectors have them (docs/FORMATS.md, "Question").
+#[cfg(any(feature = "openssl", feature = "ring"))]
+#[derive(Default)]
+pub struct Table(Mutex<(String, Option<Vec<String>>)>);
+
+#[cfg(any(feature = "openssl", feature = "ring"))]
+impl Table {
+    /// The next token, and the questions whose answer is yes: all, if there is no list of them.
+    pub fn set(&self, token: &str, yes: Option<&[Value]>) {
+        let domain = Said::of(token).map_or(String::new(), |it| it.trust_domain().to_owned());
+        let texts = |yes: &[Value]| yes.iter().map(|it| it.as_str().expect("a text").to_owned()).collect();
+        *self.0.lock().unwrap() = (domain, yes.map(texts));
+    }
+}
+
+#[cfg(any(feature = "openssl", feature = "ring"))]
+impl Verify for Table {
+    fn verify(&self, candidate: &Candidate<'_>, signed: &[u8], signature: &[u8]) -> Result<bool, Unverified> {
+        let (domain, yes) = &*self.0.lock().unwrap();
+        let yes = match yes {
+            Some(yes) => yes,
+            None => return Ok(true),
+        };
+        let fields = [domain.as_bytes(), candidate.jwk(), candidate.algorithm().name().as_bytes(), signed, signature];
+        let text: Vec<u8> = fields.iter().flat_map(|it| [&(it.len() as u32).to_be_bytes()[..], it].concat()).collect();
+        Ok(yes.contains(&hex(&svid::Caller::of(text).0)))
+    }
 }
 
 /// The verdict of a check, in the words of the vectors.
@@ -105,9 +173,9 @@ pub fn fault(why: Error) -> String {
     }
 }
 
-/// A validator that takes messages of any time, and whose record is empty.
-pub fn empty() -> Validator {
-    Validator::open(&ledger().ahead(u64::MAX), b"{}").expect("it opens")
+/// A guard that takes messages of any time, and whose record is empty. Its clock stands at 0.
+pub fn empty(time: &Time) -> Guard<()> {
+    Guard::open(&time.of(ledger()).ahead(u64::MAX), b"{}", ()).expect("it opens")
 }
 
 /// A verifier, and whether it can verify by the algorithm.

@@ -1,5 +1,5 @@
 use Rattle.std.proofs.Common.{Some, ap, sym, ◌∙◌}
-use Rattle.svid_c.proofs.SubjectLemmas.{held_token}
+use Rattle.svid_c.proofs.TrustLemmas.{held_token}
 use Rattle.svid_c.proofs.member_found.svid_member_found.Goals as goal
 
 pub returns : goal.returns

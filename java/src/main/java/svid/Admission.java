@@ -1,21 +1,72 @@
 package svid;
 
+import com.google.gson.Gson;
+import com.google.gson.GsonBuilder;
+import com.google.gson.ToNumberPolicy;
 import com.sun.jna.Pointer;
+import java.nio.charset.StandardCharsets;
 import java.time.Instant;
+import java.util.List;
+import java.util.Map;
 
 /** A token that a validator accepted, or would accept. */
 public final class Admission {
+    private static final Gson GSON = new GsonBuilder().setObjectToNumberStrategy(ToNumberPolicy.LONG_OR_DOUBLE).create();
+
     private final SpiffeId spiffeId;
     private final Use use;
+    private final byte[] token;
+    private final List<byte[]> own; // the validator's audiences
 
-    Admission(SpiffeId spiffeId, Use use) {
+    Admission(SpiffeId spiffeId, Use use, byte[] token, List<byte[]> own) {
         this.spiffeId = spiffeId;
         this.use = use;
+        this.token = token;
+        this.own = own;
     }
 
     /** The token's subject. */
     public SpiffeId spiffeId() {
         return spiffeId;
+    }
+
+    /** The first of the token's audiences that is one of the validator's. */
+    public String audience() {
+        List<String> names = own.stream().map(it -> new String(it, StandardCharsets.UTF_8)).toList();
+        return said().audiences().stream().filter(names::contains).findFirst().orElseThrow();
+    }
+
+    /** The name of the key that its header names; "" where it names none. */
+    public String keyId() {
+        return said().keyId();
+    }
+
+    private Says said() {
+        try {
+            return Says.of(token);
+        } catch (Refusal why) {
+            throw new IllegalStateException(why);
+        }
+    }
+
+    /**
+     * All claims, as Gson reads the payload: texts, booleans, lists and maps; a number is a Long, or a Double where it is none of 64 bits.
+     * Of a name that stands there twice the last value counts.
+     *
+     * @return a new map, which you may change
+     */
+    public Map<String, Object> claims() {
+        try (Room room = new Room()) {
+            Told told = new Told(room);
+            Pointer text = room.put(token);
+            Written payload = Written.by(
+                    room, told, token.length, (out, outLen) -> Library.svid_token_payload(text, token.length, out, outLen, told.at));
+            told.must(payload.status());
+            @SuppressWarnings("unchecked") // (the payload of an accepted token is an object)
+            Map<String, Object> claims =
+                    (Map<String, Object>) GSON.fromJson(new String(payload.bytes(), StandardCharsets.UTF_8), Object.class);
+            return claims;
+        }
     }
 
     /** When the token expires; {@link Instant#MAX} for what lies after that. */

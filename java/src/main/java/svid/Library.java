@@ -12,7 +12,7 @@ import java.nio.file.Path;
 /** The C library: its functions and structures as {@code svid.h} has them. */
 final class Library {
     /** The version of the header that this class is written by. */
-    static final int VERSION = 20000;
+    static final int VERSION = 30000;
 
     static final long MOST_CANDIDATES = 3;
 
@@ -20,7 +20,20 @@ final class Library {
     static final long NONE = -1;
 
     /** What is to be done for a request: {@code svid_deeds}. */
-    static final int DEED_NOTHING = 0, DEED_JUDGE = 1, DEED_CLAIM = 3, DEED_ANSWER = 4;
+    static final int DEED_NOTHING = 0, DEED_JUDGE = 1, DEED_APPEND = 2, DEED_CLAIM = 3, DEED_ANSWER = 4;
+
+    /** The calls of the system on a state folder: {@code svid_call}. */
+    static final int CALL_NOTHING = 0, CALL_CREATE_JOURNAL = 1, CALL_SYNC_FOLDER = 2, CALL_WRITE_SNAPSHOT = 3, CALL_SYNC_SNAPSHOT = 4,
+                     CALL_RENAME_SNAPSHOT = 5, CALL_REMOVE_JOURNAL = 6;
+
+    /** How a file of a state folder ends: {@code svid_journal_read}. */
+    static final int FILE_END = 52, FILE_TEAR = 53, FILE_DAMAGE = 54, FILE_OTHER = 55;
+
+    /** The most bytes that one frame of a state folder bears. */
+    static final long PAYLOAD_MOST = 16_777_215;
+
+    /** How many bytes a frame has at most beside its payload. */
+    static final long FRAME_MORE = 39;
 
     /** The keepers of a withdrawal: {@code svid_keepers}. And what a keeper is of that may not have it. */
     static final int AT_DISK = 0, AT_STORE = 1, AT_LOG = 2, MAY_LACK = 2;
@@ -98,6 +111,28 @@ final class Library {
     /** {@code svid_withdrawal}. */
     static final class Withdrawal { static final int NUMBER = 0, DISK = 8, STORE = 16, LOG = 24, SIZE = 32; }
 
+    /** {@code svid_folder}. */
+    static final class Folder {
+        static final int STEP = 0, OLDEST = 8, NEWEST = 16, ENDED = 24, COUNT = 32, END = 40, FLYING = 48, PIECES = 56, SIZE = 64;
+    }
+
+    /** {@code svid_due}. */
+    static final class Due { static final int CALL = 0, JOURNAL = 8, SIZE = 16; }
+
+    /** {@code svid_reader}. */
+    static final class Reader { static final int COUNT = 0, AT = 8, MARKED = 16, SIZE = 24; }
+
+    /** {@code svid_frame}. */
+    static final class Frame { static final int PAYLOAD = 0, LEN = 8, FORMAT = 16, SIZE = 24; }
+
+    /** {@code svid_bears}. */
+    static final class Bears { static final int MARK = 0, MARKED = 24, MESSAGES = 32, SIZE = 40; }
+
+    /** {@code svid_part}. */
+    static final class Part {
+        static final int BEGUN = 0, DONE = 8, WITHDRAWN = 16, EXP = 24, AT = 32, KEY = 40, VALIDATOR_ID = 72, SIZE = 88;
+    }
+
     /** {@code svid_pacing}. */
     static final class Pacing { static final int CALLS = 0, AT = 8, PAUSE = 16, SIZE = 24; }
 
@@ -122,6 +157,8 @@ final class Library {
     static native int svid_validator_take(Pointer v, long now, Pointer messages, long messagesLen, Pointer told);
 
     static native int svid_validator_tell(Pointer v, Pointer out, long outLen, Pointer told);
+
+    static native int svid_validator_parts(Pointer v, Pointer part, Pointer out, long outLen, Pointer told);
 
     static native int svid_validator_size(Pointer v, Pointer out, Pointer told);
 
@@ -151,6 +188,8 @@ final class Library {
     static native int svid_member_found(Pointer v, long now, long up, long number, Pointer caller, Pointer found, Pointer key, long keyLen,
             Pointer input, long inputLen, Pointer signature, long signatureLen, Pointer t, Pointer out, long outLen, Pointer used,
             Pointer deed, Pointer told);
+
+    static native int svid_member_wrote(Pointer v, long up, long number, long ok, Pointer deed);
 
     static native int svid_member_leave(Pointer v, long up, long number, Pointer deed);
 
@@ -200,10 +239,38 @@ final class Library {
     static native int svid_token_says(
             Pointer token, long tokenLen, Pointer said, Pointer lens, long lensLen, Pointer out, long outLen, Pointer told);
 
+    static native int svid_token_payload(Pointer token, long tokenLen, Pointer out, long outLen, Pointer told);
+
     static native int svid_key_spki(
             Pointer key, long keyLen, Pointer alg, long algLen, long mostBits, Pointer out, long outLen, Pointer told);
 
     static native int svid_entries_write(Pointer entries, long entriesLen, Pointer out, long outLen, Pointer told);
+
+    static native int svid_entries_read(Pointer messages, long messagesLen, Pointer out, long outLen, Pointer told);
+
+    static native int svid_journal_open(Pointer f, long oldest, long newest);
+
+    static native int svid_journal_begin(Pointer f);
+
+    static native int svid_journal_due(Pointer f, Pointer due);
+
+    static native int svid_journal_answer(Pointer f, int ok);
+
+    static native int svid_journal_put(
+            Pointer f, Pointer folderId, Pointer payload, long payloadLen, Pointer out, long outLen, Pointer told);
+
+    static native int svid_journal_synced(Pointer f);
+
+    static native int svid_journal_unwritten(Pointer f);
+
+    static native int svid_journal_failed(Pointer f);
+
+    static native int svid_journal_piece(
+            Pointer f, Pointer folderId, Pointer payload, long payloadLen, Pointer out, long outLen, Pointer told);
+
+    static native int svid_journal_read(Pointer folderId, long journal, Pointer bytes, long bytesLen, Pointer reader, Pointer frame);
+
+    static native void svid_journal_bears(Pointer payload, long payloadLen, Pointer bears);
 
     static native int svid_report(Pointer messages, long messagesLen, long now, Pointer out, long outLen, Pointer told);
 

@@ -2,13 +2,17 @@ package svid;
 
 import com.sun.jna.Pointer;
 import java.io.ByteArrayOutputStream;
+import java.io.IOException;
 import java.nio.charset.StandardCharsets;
 import java.util.HashMap;
+import java.util.LinkedHashMap;
 import java.util.List;
 import java.util.Map;
 import java.util.concurrent.BlockingQueue;
 import java.util.concurrent.LinkedBlockingQueue;
 import java.util.concurrent.TimeUnit;
+import java.util.concurrent.atomic.AtomicReference;
+import java.util.function.Consumer;
 import java.util.function.LongSupplier;
 import java.util.stream.Collectors;
 
@@ -17,21 +21,41 @@ import java.util.stream.Collectors;
  * threads that wait for their answers, and what the library says is to be done.
  */
 final class Member extends State {
+    private static final System.Logger LOGGER = System.getLogger("svid");
     private static final byte[] NOBODY = new byte[Owner.LEN];
-    private static final String MAY_LACK = "the token is withdrawn here, but the group's store may not have that: withdraw it again";
+    /** How many withdrawals are known again. */
+    private static final int MOST_HEARD = 65_536;
+    /** How many bytes a part of the record has at most. */
+    private static final long PIECE = 1 << 20;
 
     /** The clock that only goes ahead, in milliseconds. */
     volatile LongSupplier up = Times::up;
     /** Null for no store. */
     final Claims claims;
+    /** Null where withdrawals of a store are not heard of. */
+    private final Hearing hearing;
+    /** The withdrawals that the record has of this process, so that it has one once that the store tells of again. */
+    private final Map<Store.Withdrawal, Boolean> heard = new LinkedHashMap<>() {
+        private static final long serialVersionUID = 1;
+
+        @Override
+        protected boolean removeEldestEntry(Map.Entry<Store.Withdrawal, Boolean> eldest) {
+            return size() > MOST_HEARD;
+        }
+    };
     /** The requests that have no answer yet, by their numbers. */
     final Map<Long, Request> requests = new HashMap<>();
     /** The withdrawals that have not ended, by their numbers. */
     final Map<Long, BlockingQueue<End>> withdrawals = new HashMap<>();
 
+    private final Journal journal; // null for no state folder
+    private final Follower follower; // null for bundles that stay
+    private volatile boolean isBundled;
+    private final LongSupplier clock;
     private final long wait;
     private final long longest;
     private final boolean isBound;
+    private Unkept unkept; // what the disk did not take last
     private final Pointer deed = room.take(Library.Deed.SIZE);
     private final Pointer usedOfDeed = deed.share(Library.Deed.USED);
     private final Pointer due = room.take(Library.Deadline.SIZE);
@@ -41,17 +65,28 @@ final class Member extends State {
     private final Pointer whose = room.take(Owner.LEN);
     private final Pointer owner = room.take(Owner.LEN);
 
-    /** Opens it. It judges no token before {@link #begin}. */
-    Member(Options options, byte[] bundles) {
-        super(options, bundles);
+    /** Opens it with its bundles, and with the state folder that it has, or null. It judges no token before {@link #begin}. */
+    Member(Options options, byte[] bundles, Journal journal) {
+        this(options, bundles, null, journal);
+    }
+
+    /** The same. Where there are sources, they give all bundles. */
+    Member(Options options, byte[] bundles, Sources sources, Journal journal) {
+        super(options, bundles, journal == null ? options.idOrRandom() : journal.validatorId());
+        this.journal = journal;
+        follower = sources == null ? null : new Follower(sources, this::adopt);
+        isBundled = sources == null;
         wait = options.waitMillis();
         longest = options.longest();
         isBound = options.mode() == Mode.BOUND;
         claims = options.store() == null ? null : new Claims(options.store(), this);
+        // (in mode STRICT the claim of a token tells that it was withdrawn)
+        hearing = options.store() == null || options.mode() == Mode.STRICT ? null : new Hearing(options.store(), this);
+        clock = () -> Times.now(options.clock());
         try (Room lent = new Room()) {
             Pointer terms = lent.take(Library.MemberTerms.SIZE);
             terms.setLong(Library.MemberTerms.MODE, options.mode().number());
-            terms.setLong(Library.MemberTerms.DISK, 0);
+            terms.setLong(Library.MemberTerms.DISK, journal == null ? 0 : 1);
             terms.setLong(Library.MemberTerms.STORE, claims == null ? 0 : 1);
             terms.setLong(Library.MemberTerms.LOG, 0);
             terms.setLong(Library.MemberTerms.WAIT, wait);
@@ -83,16 +118,91 @@ final class Member extends State {
         return joined.toByteArray();
     }
 
-    /** Tokens are judged from now on, or once the store is there. Waits for that, but no longer than a request does. */
-    void begin() {
+    /**
+     * Reads the record of the state folder. Tokens are judged from then on, or once the store is there. Waits for that, but no longer than
+     * a request does.
+     */
+    void begin(long now) throws IOException {
+        if (journal != null) {
+            for (String name : journal.torn()) {
+                LOGGER.log(System.Logger.Level.WARNING, "a crash cut off a write at the end of " + name + ": nobody had an answer");
+            }
+            journal.load(messages -> take(now, messages));
+            if (journal.wantsSnapshot()) {
+                journal.snapshot(this::parts);
+            }
+        }
+        if (follower != null) {
+            follower.begin();
+        }
         know(0, false);
+        long end = Times.up() + wait;
+        if (hearing != null) {
+            hearing.begin();
+        }
         if (claims != null) {
             claims.begin(wait);
         }
+        if (hearing != null) {
+            hearing.await(Math.max(end - Times.up(), 0));
+        }
+    }
+
+    /** Takes what the sources of bundles give. */
+    private void adopt(byte[] bundles, int count) {
+        renew(bundles);
+        isBundled = count > 0;
+        know(0, false);
+    }
+
+    /** Whether the bundles come from sources. */
+    boolean isFollowing() {
+        return follower != null;
+    }
+
+    /** Writes a snapshot in the background, if one is due. */
+    void tidy() {
+        if (journal != null && journal.wantsSnapshot()) {
+            journal.snapshotSoon(this::parts);
+        }
+    }
+
+    /** The record, part by part. Other calls may be made in between. */
+    private void parts(Journal.Sink sink) throws IOException {
+        try (Room lent = new Room()) {
+            Told said = new Told(lent);
+            Pointer part = lent.take(Library.Part.SIZE);
+            Pointer to = lent.take(PIECE);
+            part.clear(Library.Part.SIZE);
+            do {
+                said.must(locked(v -> Library.svid_validator_parts(v, part, to, PIECE, said.at)));
+                sink.take(Written.bytesOf(to, said.len()));
+            } while (part.getLong(Library.Part.DONE) == 0);
+        }
+    }
+
+    /** Waits for what is under way on the disk, and frees all. */
+    void close() {
+        if (follower != null) {
+            follower.close();
+        }
+        if (journal != null) {
+            journal.close();
+        }
+        run();
     }
 
     @Override
     public void run() {
+        if (follower != null) {
+            follower.drop();
+        }
+        if (journal != null) {
+            journal.drop();
+        }
+        if (hearing != null) {
+            hearing.close();
+        }
         if (claims != null) {
             claims.close();
         }
@@ -103,7 +213,7 @@ final class Member extends State {
     @Override
     void ended() {
         requests.values().forEach(it -> it.steps.add(new Failure(new SvidException.Closed())));
-        withdrawals.values().forEach(it -> it.add(new End(false, new SvidException.Closed())));
+        withdrawals.values().forEach(it -> it.add(new End(null, new SvidException.Closed())));
         requests.clear();
         withdrawals.clear();
     }
@@ -120,8 +230,11 @@ final class Member extends State {
     /** Why no answer comes. */
     private record Failure(SvidException why) implements Step {}
 
-    /** How a withdrawal ended: whether a keeper may lack it, and why it has no end. */
-    record End(boolean mayLack, SvidException why) {}
+    /** How a withdrawal ended: who may lack it, or null, and why it has no end. */
+    record End(String lacks, SvidException why) {}
+
+    /** A use that the disk did not take. */
+    private record Unkept(Request request, Admission.Use use) {}
 
     /** A token on its way to an answer. Its thread does what comes by {@code steps}. */
     static final class Request {
@@ -133,6 +246,8 @@ final class Member extends State {
         private long end; // when it is late
         private SpiffeId subject;
         private boolean isAnswered;
+        private boolean isWriting; // its use is on its way to the disk
+        private Exception why; // why the disk did not take it
 
         private Request(Token token, LongSupplier clock, byte[] caller) {
             this.token = token;
@@ -152,7 +267,9 @@ final class Member extends State {
             Request request = new Request(token, clock, caller == null ? NOBODY : caller);
             try {
                 come(request);
-                return seenThrough(request);
+                Admission admission = seenThrough(request);
+                tidy();
+                return admission;
             } finally {
                 leave(request);
             }
@@ -161,11 +278,15 @@ final class Member extends State {
 
     /** Withdraws a token, here and in the store, and gives the message of that. */
     byte[] withdraw(long now, TokenKey key, long expiry) {
-        Admission.Use use = withdrawn(now, key, expiry);
-        if (claims != null) {
-            bring(key, expiry);
+        byte[] message = withdrawn(now, key, expiry).message(true);
+        if (hearing != null) {
+            note(new Store.Withdrawal(key, Times.instantOf(expiry)));
         }
-        return use.message(true);
+        if (claims != null || journal != null) {
+            bring(key, expiry, message);
+            tidy();
+        }
+        return message;
     }
 
     /** The first reason why no tokens are to be sent here, as a sentence, or null. */
@@ -176,6 +297,7 @@ final class Member extends State {
         } catch (SvidException.Jump why) {
             know(now, true);
         }
+        keepAgain();
         int status = locked(Library::svid_member_ready);
         if (SvidException.Unavailable.isUnready(status)) {
             return SvidException.Unavailable.saidOf(status);
@@ -219,6 +341,35 @@ final class Member extends State {
         }
     }
 
+    /** Withdraws what another validator withdrew. */
+    void heard(Store.Withdrawal one) {
+        synchronized (heard) {
+            if (heard.containsKey(one)) {
+                return;
+            }
+        }
+        Admission.Use use;
+        try {
+            use = withdrawn(clock.getAsLong(), one.key(), Times.expiryOf(one.expiry()));
+        } catch (SvidException.Gone why) {
+            return;
+        }
+        note(one);
+        if (journal != null) {
+            journal.keep(use.message(true), why -> {
+                if (why != null) {
+                    LOGGER.log(System.Logger.Level.WARNING, "a withdrawal is not kept", why);
+                }
+            });
+        }
+    }
+
+    private void note(Store.Withdrawal one) {
+        synchronized (heard) {
+            heard.put(one, true);
+        }
+    }
+
     /** The store is there. */
     void reached() {
         know(0, false);
@@ -245,6 +396,8 @@ final class Member extends State {
                 ask(request, answer.found);
             } else if (step instanceof Deed read && read.what == Library.DEED_JUDGE) {
                 ask(request, null);
+            } else if (step instanceof Deed read && read.what == Library.DEED_APPEND && journal != null) {
+                keep(request, read.used);
             } else if (step instanceof Deed read && read.what == Library.DEED_CLAIM) {
                 claims.add(read);
             } else if (step instanceof Deed read && read.what == Library.DEED_ANSWER) {
@@ -299,10 +452,62 @@ final class Member extends State {
         }
     }
 
+    /** Brings a use to the disk. */
+    private void keep(Request request, Admission.Use use) {
+        synchronized (this) {
+            request.isWriting = true;
+        }
+        bringToDisk(request, use);
+    }
+
+    private void bringToDisk(Request request, Admission.Use use) {
+        byte[] message;
+        try {
+            message = use.message(false);
+        } catch (SvidException.OutOfMemory why) {
+            wrote(request, use, why);
+            return;
+        }
+        journal.keep(message, why -> wrote(request, use, why));
+    }
+
+    /** The disk has a use, or may not have it. */
+    private synchronized void wrote(Request request, Admission.Use use, Exception why) {
+        request.isWriting = false;
+        request.why = why;
+        unkept = why == null ? null : new Unkept(request, use);
+        must(Library.svid_member_wrote(open(), up.getAsLong(), request.number, why == null ? 1 : 0, deed));
+        hand();
+    }
+
+    /** Tries again to keep the last use that the disk did not take. */
+    private void keepAgain() {
+        Unkept last;
+        synchronized (this) {
+            last = unkept;
+            unkept = null;
+        }
+        if (last != null) {
+            bringToDisk(last.request, last.use);
+        }
+    }
+
     private Admission answered(Request request, Deed read) throws Refusal {
         request.isAnswered = true;
         if (read.status == 0) {
-            return new Admission(request.subject, read.used);
+            return new Admission(request.subject, read.used, request.token.bytes, audiences);
+        }
+        Exception why;
+        synchronized (this) {
+            if (request.isWriting) {
+                // (the disk hangs, until it says otherwise)
+                must(Library.svid_member_wrote(open(), up.getAsLong(), request.number, 0, deed));
+                hand();
+            }
+            why = request.why;
+        }
+        if (why != null) {
+            throw new SvidException.Unavailable(SvidException.Unavailable.saidOf(read.status) + " (" + why.getMessage() + ")", why);
         }
         request.token.found.mustBeKnown(read.status);
         Refusal.Reason reason = Refusal.Reason.of(read.status);
@@ -374,8 +579,8 @@ final class Member extends State {
 
     // -- Withdrawals
 
-    /** Brings a withdrawal to the store. */
-    private void bring(TokenKey key, long expiry) {
+    /** Brings a withdrawal to its keepers. */
+    private void bring(TokenKey key, long expiry, byte[] message) {
         BlockingQueue<End> ends = new LinkedBlockingQueue<>();
         long number;
         long due;
@@ -387,18 +592,32 @@ final class Member extends State {
         }
         try {
             told(number, Library.AT_LOG, true);
-            told(number, Library.AT_DISK, true);
-            Throwable[] cause = new Throwable[1];
-            claims.withdraw(key, Times.instantOf(expiry), why -> {
-                cause[0] = why;
+            AtomicReference<Throwable> cause = new AtomicReference<>();
+            Consumer<Throwable> atDisk = why -> {
+                cause.compareAndSet(null, why);
+                told(number, Library.AT_DISK, why == null);
+            };
+            Consumer<Throwable> atStore = why -> {
+                cause.compareAndSet(null, why);
                 told(number, Library.AT_STORE, why == null);
-            });
+            };
+            if (claims == null) {
+                atStore.accept(null);
+            } else {
+                claims.withdraw(key, Times.instantOf(expiry), atStore);
+            }
+            if (journal == null) {
+                atDisk.accept(null);
+            } else {
+                journal.keep(message, atDisk::accept);
+            }
             End end = next(ends, due);
             if (end.why != null) {
                 throw end.why;
             }
-            if (end.mayLack) {
-                throw new SvidException.Unavailable(MAY_LACK, cause[0]);
+            if (end.lacks != null) {
+                throw new SvidException.Unavailable(
+                        "the token is withdrawn here, but " + end.lacks + " may not have that: withdraw it again", cause.get());
             }
         } finally {
             synchronized (this) {
@@ -418,7 +637,9 @@ final class Member extends State {
         long number = made.getLong(Library.Withdrawal.NUMBER);
         BlockingQueue<End> ends = withdrawals.remove(number);
         if (ends != null) {
-            ends.add(new End(made.getLong(Library.Withdrawal.STORE) == Library.MAY_LACK, null));
+            boolean isAtDisk = made.getLong(Library.Withdrawal.DISK) != Library.MAY_LACK;
+            boolean isAtStore = made.getLong(Library.Withdrawal.STORE) != Library.MAY_LACK;
+            ends.add(new End(isAtDisk ? isAtStore ? null : "the group's store" : "the state folder", null));
         }
         return number != Library.NONE;
     }
@@ -429,7 +650,7 @@ final class Member extends State {
     private Deed deed() {
         int what = (int) deed.getLong(Library.Deed.WHAT);
         int status = (int) deed.getLong(Library.Deed.STATUS);
-        boolean hasUse = what == Library.DEED_CLAIM || what == Library.DEED_ANSWER && status == 0;
+        boolean hasUse = what == Library.DEED_APPEND || what == Library.DEED_CLAIM || what == Library.DEED_ANSWER && status == 0;
         return new Deed(what, deed.getLong(Library.Deed.NUMBER), status, deed.getLong(Library.Deed.NEXT),
                 hasUse ? Admission.Use.read(usedOfDeed) : null);
     }
@@ -466,13 +687,14 @@ final class Member extends State {
 
     /** Tells the library what the validator has. */
     private void know(long now, boolean isJumped) {
-        boolean isAway = claims != null && claims.isAway(wait);
+        boolean isAway = claims != null && claims.isAway(wait) || hearing != null && hearing.isAway(wait);
         boolean isDeaf = claims != null && Long.compareUnsigned(claims.deaf(), Times.sum(now, longest)) >= 0;
         synchronized (this) {
             Pointer v = open();
             known.clear(Library.Known.SIZE);
-            for (int it : new int[] {
-                         Library.Known.BUNDLED, Library.Known.LOADED, Library.Known.HEARD, Library.Known.JOINED, Library.Known.CAUGHT_UP}) {
+            known.setLong(Library.Known.BUNDLED, isBundled ? 1 : 0);
+            known.setLong(Library.Known.HEARD, hearing == null || hearing.isWhole() ? 1 : 0);
+            for (int it : new int[] {Library.Known.LOADED, Library.Known.JOINED, Library.Known.CAUGHT_UP}) {
                 known.setLong(it, 1);
             }
             // (read with the lock held: who looked earlier must not say later that the store was not reached)

@@ -15,6 +15,8 @@ public final class MemoryStore implements Store {
     private final long margin;
     private final long lasts;
     private final Map<TokenKey, Entry> entries = new HashMap<>();
+    private final List<Withdrawal> withdrawals = new ArrayList<>();
+    private int epoch;
     private long deaf;
 
     /** An owner, and until when it stays. */
@@ -63,11 +65,21 @@ public final class MemoryStore implements Store {
         long until = until(expiry);
         boolean isLonger = earlier != null && Long.compareUnsigned(earlier.until, until) > 0;
         entries.put(key, new Entry(Owner.WITHDRAWN, isLonger ? earlier.until : until));
+        withdrawals.add(new Withdrawal(key, expiry));
+    }
+
+    @Override
+    public synchronized Withdrawals withdrawals(String after) {
+        String of = epoch + "-";
+        int from = after.startsWith(of) ? Integer.parseInt(after.substring(of.length())) : 0;
+        return new Withdrawals(List.copyOf(withdrawals.subList(from, withdrawals.size())), of + withdrawals.size());
     }
 
     /** Loses all entries, as a server does that crashes. */
     public synchronized void lose() {
         entries.clear();
+        withdrawals.clear();
+        epoch++;
         deaf = Library.svid_claim_deaf(Times.now(clock), lasts, deaf);
     }
 

@@ -4,6 +4,7 @@ import java.nio.ByteBuffer;
 import java.nio.CharBuffer;
 import java.nio.charset.CharacterCodingException;
 import java.nio.charset.StandardCharsets;
+import java.nio.file.Path;
 import java.security.SecureRandom;
 import java.time.Clock;
 import java.time.Duration;
@@ -11,6 +12,7 @@ import java.util.Arrays;
 import java.util.Collection;
 import java.util.List;
 import java.util.Objects;
+import java.util.function.Consumer;
 
 /**
  * What a validator is given for its whole life. Each method gives new options, and leaves these as they are.
@@ -24,10 +26,11 @@ public final class Options {
     static final long ANY = -1;
 
     static final int ID_LEN = 16;
+    private static final System.Logger LOGGER = System.getLogger("svid");
     private static final Duration LONGEST_WAIT = Duration.ofDays(365_000);
 
     private List<byte[]> audiences;
-    private long longest = ANY;
+    private long longest = 3600;
     private long ahead = 10;
     private long step = ANY;
     private byte[] validatorId;
@@ -36,6 +39,8 @@ public final class Options {
     private Mode mode = Mode.ONCE;
     private Store store; // null for none
     private List<IdPattern> callers; // null for all
+    private Path state; // null for none
+    private Consumer<Denied> denied = Options::log;
     private long wait = 2000;
 
     private Options() {}
@@ -51,27 +56,41 @@ public final class Options {
         mode = from.mode;
         store = from.store;
         callers = from.callers;
+        state = from.state;
+        denied = from.denied;
         wait = from.wait;
     }
 
-    /** Options of a validator with these audiences: this service's own names. A token is for it if one of them is in {@code aud}. */
+    /**
+     * Options of a validator with these audiences: this service's own names. A token is for it if one of them is in {@code aud}.
+     *
+     * @throws IllegalArgumentException where there is none
+     */
     public static Options audiences(String... audiences) {
         return audiences(Arrays.asList(audiences));
     }
 
-    /** Options of a validator with these audiences. */
+    /** The same, of several audiences. */
     public static Options audiences(Collection<String> audiences) {
+        if (audiences.isEmpty()) {
+            throw new IllegalArgumentException("name an audience: without one, no token is for this service");
+        }
         Options made = new Options();
         made.audiences = audiences.stream().map(it -> utf8("an audience", it)).toList();
         return made;
     }
 
     /**
-     * A token that expires more than so long past the record's moment is refused as {@code TooLongLived}. Without it there is no limit. It
-     * bounds how long a use stays in the record.
+     * A token that expires more than so long past the record's moment is refused as {@code TooLongLived}. Without it, an hour. It bounds
+     * how long a use stays in the record.
      */
     public Options longest(Duration limit) {
         return longest(secondsOf(limit));
+    }
+
+    /** Accepts tokens that live for any time. A use then stays in the record until its token expires, however late that is. */
+    public Options anyLife() {
+        return longest(ANY);
     }
 
     Options longest(long seconds) {
@@ -131,6 +150,30 @@ public final class Options {
         return made;
     }
 
+    /**
+     * Is given each answer of a validator that lets somebody not in: {@link Refusal}, {@link Denied.NotAllowed}, and of {@link
+     * Validator#admit(java.util.List)} {@link Denied.NoToken}. It counts them, say. It runs in the thread of the request, and what it
+     * throws is logged. Without it, the system's logger "svid" has a line at the level DEBUG.
+     */
+    public Options denied(Consumer<? super Denied> hook) {
+        Options made = new Options(this);
+        made.denied = hook::accept;
+        return made;
+    }
+
+    private static void log(Denied why) {
+        LOGGER.log(System.Logger.Level.DEBUG, why.getMessage());
+    }
+
+    /** Tells the hook, whatever that does. */
+    void tell(Denied why) {
+        try {
+            denied.accept(why);
+        } catch (RuntimeException failed) {
+            LOGGER.log(System.Logger.Level.WARNING, "the hook of denials failed", failed);
+        }
+    }
+
     /** The clock that tokens are judged by. Without it, that of the system. */
     public Options clock(Clock other) {
         Options made = new Options(this);
@@ -145,10 +188,26 @@ public final class Options {
         return made;
     }
 
-    /** The store of the group, for {@link Mode#STRICT} and {@link Mode#BOUND}, and for no other mode. */
+    /**
+     * The store of the group. In {@link Mode#STRICT} and {@link Mode#BOUND} it is required, and each token is claimed there. In all modes
+     * but
+     * {@code STRICT} its withdrawals are heard of within some two seconds. {@link Validator#withdraw(String)} tells it.
+     */
     public Options store(Store shared) {
         Options made = new Options(this);
         made.store = Objects.requireNonNull(shared);
+        return made;
+    }
+
+    /**
+     * A folder that keeps the record, so that no token that was accepted is accepted again after a restart, a crash or a loss of power. In
+     * {@link Mode#ONCE} a check returns once the disk has the use, and so does a withdrawal in each mode. The validator has the ID that is
+     * in the folder. The folder above must be there. What {@link Validator#take} got is kept from the next snapshot on. One process holds a
+     * folder at a time, and svidd reads and writes the same files.
+     */
+    public Options state(Path folder) {
+        Options made = new Options(this);
+        made.state = Objects.requireNonNull(folder);
         return made;
     }
 
@@ -192,8 +251,11 @@ public final class Options {
 
     /** Throws where these options don't fit each other. */
     void mustFit() {
-        if (mode.hasStore() != (store != null)) {
-            throw new IllegalArgumentException("give a store in the modes STRICT and BOUND, and in no other one");
+        if (mode.hasStore() && store == null) {
+            throw new IllegalArgumentException("give a store in the modes STRICT and BOUND: tokens are claimed there");
+        }
+        if (state != null && validatorId != null) {
+            throw new IllegalArgumentException("a state folder has the validator's ID: give one of the two");
         }
         if (callers != null && audiences.stream().anyMatch(it -> it.length == 0 || new String(it, StandardCharsets.UTF_8).contains("\n"))) {
             throw new IllegalArgumentException("with callers, no audience is empty or has a line feed");
@@ -230,6 +292,11 @@ public final class Options {
 
     Store store() {
         return store;
+    }
+
+    /** Null for none. */
+    Path state() {
+        return state;
     }
 
     /** Null for all. */

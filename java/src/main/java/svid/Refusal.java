@@ -11,7 +11,8 @@ public final class Refusal extends Denied {
     private final Reason reason;
 
     Refusal(Reason reason) {
-        super(reason + ": " + reason.sentence(), 401, "Bearer error=\"invalid_token\", error_description=\"" + reason + "\"");
+        super(reason + ": " + reason.sentence(), 401, reason.toString(),
+                "Bearer error=\"invalid_token\", error_description=\"" + reason + "\"");
         this.reason = reason;
     }
 

@@ -21,7 +21,10 @@ public record Says(String algorithm, SpiffeId spiffeId, String keyId, List<Strin
     private static final int FIRST_AUDIENCE = 4;
 
     static Says of(String token) throws Refusal {
-        byte[] bytes = token.getBytes(StandardCharsets.UTF_8);
+        return of(token.getBytes(StandardCharsets.UTF_8));
+    }
+
+    static Says of(byte[] bytes) throws Refusal {
         try (Room room = new Room()) {
             Told told = new Told(room);
             Pointer said = room.take(Library.Said.SIZE);

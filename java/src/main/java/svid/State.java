@@ -19,15 +19,16 @@ class State implements Runnable {
     private final Pointer handle = room.take(Library.Handle.SIZE);
     private final Signatures signatures;
     private final List<IdPattern> callers; // null for all
+    final List<byte[]> audiences;
     private boolean isClosed;
 
     /** Opens it, with an empty record. */
-    State(Options options, byte[] bundles) {
+    State(Options options, byte[] bundles, byte[] id) {
         signatures = new Signatures(options.rsaBits());
         callers = options.mayCall();
+        audiences = options.audiences();
         handle.clear(Library.Handle.SIZE);
         try (Room lent = new Room()) {
-            List<byte[]> audiences = options.audiences();
             Pointer lens = lent.take(8L * audiences.size());
             long len = 0;
             for (int number = 0; number < audiences.size(); number++) {
@@ -40,7 +41,6 @@ class State implements Runnable {
                 own.write(at, audience, 0, audience.length);
                 at += audience.length;
             }
-            byte[] id = options.idOrRandom();
             Pointer terms = lent.take(Library.Terms.SIZE);
             terms.setLong(Library.Terms.LONGEST, options.longest());
             terms.setLong(Library.Terms.AHEAD, options.ahead());
@@ -84,6 +84,14 @@ class State implements Runnable {
         try (Room lent = new Room()) {
             Told said = new Told(lent);
             said.must(locked(v -> Library.svid_validator_tick(v, now, said.at)));
+        }
+    }
+
+    final void take(long now, byte[] messages) {
+        try (Room lent = new Room()) {
+            Told said = new Told(lent);
+            Pointer text = lent.put(messages);
+            said.must(locked(v -> Library.svid_validator_take(v, now, text, messages.length, said.at)));
         }
     }
 
@@ -147,7 +155,7 @@ class State implements Runnable {
                         found.signature(), found.signatureLen(), token.at, out, Library.ID_ROOM, used, told.at);
                 found.mustBeKnown(status);
                 told.accept(status);
-                return new Admission(subject(), Admission.Use.read(used));
+                return new Admission(subject(), Admission.Use.read(used), token.bytes, audiences);
             }
         }
     }

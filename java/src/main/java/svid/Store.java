@@ -5,7 +5,8 @@ import java.util.List;
 import java.util.Objects;
 
 /**
- * The store of a group, which validators of the modes {@link Mode#STRICT} and {@link Mode#BOUND} share. Write it over the client of your
+ * The store of a group, where validators of the modes {@link Mode#STRICT} and {@link Mode#BOUND} claim tokens, and those of all modes share
+ * withdrawals. Write it over the client of your
  * database.
  *
  * <p>It keeps the first claim of each token key:
@@ -34,6 +35,33 @@ public interface Store {
      * with this expiry does.
      */
     void withdraw(TokenKey key, Instant expiry) throws Exception;
+
+    /**
+     * Tells of the withdrawals after a position, for validators of all modes but {@link Mode#STRICT}: they ask once a second, again and
+     * again until the position stays. Without this method they hear of none.
+     *
+     * @param after the {@code last} of an earlier call, or "" at first. A position that the store does not know gives all again
+     * @return at most some thousands
+     */
+    default Withdrawals withdrawals(String after) throws Exception {
+        return new Withdrawals(List.of(), after);
+    }
+
+    /**
+     * A token that nobody accepts any more.
+     *
+     * @param key by which all uses of the token are known
+     * @param expiry when the token expires; {@link Instant#MAX} for what lies after that
+     */
+    record Withdrawal(TokenKey key, Instant expiry) {}
+
+    /**
+     * Withdrawals, and up to where they were read.
+     *
+     * @param these in their order
+     * @param last the position after them; that of the call where there are none
+     */
+    record Withdrawals(List<Withdrawal> these, String last) {}
 
     /**
      * What is put under a key that has no owner yet.

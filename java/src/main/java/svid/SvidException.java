@@ -237,6 +237,39 @@ public abstract sealed class SvidException extends RuntimeException {
         }
     }
 
+    /** Another process has the state folder. Stop it, or give this one a folder of its own. */
+    public static final class Held extends SvidException {
+        private static final long serialVersionUID = 1;
+
+        Held(String folder, String holder) {
+            super("the state folder " + folder + " is held by " + holder + ": stop it, or give this one a folder of its own", null);
+        }
+    }
+
+    /** The state folder can't be read: a file is damaged, missing or of another version. No crash leaves such a file. */
+    public static final class BadFolder extends SvidException {
+        private static final long serialVersionUID = 1;
+
+        private final String file;
+        private final long offset;
+
+        BadFolder(String file, long offset, String message) {
+            super(message, null);
+            this.file = file;
+            this.offset = offset;
+        }
+
+        /** The path of the file at fault. */
+        public String file() {
+            return file;
+        }
+
+        /** Which byte of it is at fault, counted from 0; 0 where it is the whole file. */
+        public long offset() {
+            return offset;
+        }
+    }
+
     /** A text is no SPIFFE ID, or no pattern of such. */
     public static final class BadId extends SvidException {
         private static final long serialVersionUID = 1;

@@ -1,6 +1,8 @@
 package svid;
 
 import com.sun.jna.Pointer;
+import java.io.IOException;
+import java.io.UncheckedIOException;
 import java.lang.ref.Cleaner;
 import java.lang.ref.Reference;
 import java.nio.charset.StandardCharsets;
@@ -27,6 +29,7 @@ import java.util.function.LongSupplier;
 public final class Validator implements AutoCloseable {
     private static final Cleaner CLEANER = Cleaner.create();
     private static final long USUAL = 8192;
+    private static final byte[] NO_BUNDLES = {'{', '}'};
 
     private final Options options;
     private final Member member;
@@ -48,15 +51,58 @@ public final class Validator implements AutoCloseable {
      *
      * @throws SvidException.BadBundles where the bundles can't be read
      * @throws SvidException.TooMuch where they are too long
+     * @throws SvidException.Held where another process has the state folder
+     * @throws SvidException.BadFolder where the state folder is damaged
+     * @throws SvidException.TooFar where the clock is behind the record that the state folder has
+     * @throws UncheckedIOException where the state folder can't be read or made
      * @throws IllegalArgumentException where the options don't fit each other: a store without {@link Mode#STRICT} or {@link Mode#BOUND},
      *         say
      */
     public static Validator open(Options options, byte[] bundles) {
+        return open(options, bundles, null);
+    }
+
+    /**
+     * Opens a validator that follows sources of trust bundles, until it is closed. Those that can't be read now may come later: until there
+     * is one bundle, the validator is not ready, and accepts no token.
+     *
+     * @throws SvidException.Held where another process has the state folder
+     * @throws SvidException.BadFolder where the state folder is damaged
+     * @throws SvidException.TooFar where the clock is behind the record that the state folder has
+     * @throws UncheckedIOException where the state folder can't be read or made
+     * @throws IllegalArgumentException where the options don't fit each other
+     */
+    public static Validator open(Options options, Sources sources) {
+        return open(options, NO_BUNDLES, Objects.requireNonNull(sources));
+    }
+
+    private static Validator open(Options options, byte[] bundles, Sources sources) {
         options.mustFit();
-        Member member = new Member(options, bundles);
-        Validator made = new Validator(options, member);
-        member.begin();
-        return made;
+        try {
+            Member member = member(options, bundles, sources);
+            try {
+                Validator made = new Validator(options, member);
+                member.begin(made.now());
+                return made;
+            } catch (Throwable why) {
+                member.close();
+                throw why;
+            }
+        } catch (IOException why) {
+            throw new UncheckedIOException(why);
+        }
+    }
+
+    private static Member member(Options options, byte[] bundles, Sources sources) throws IOException {
+        Journal journal = options.state() == null ? null : new Journal(options.state(), new Disk());
+        try {
+            return new Member(options, bundles, sources, journal);
+        } catch (Throwable why) {
+            if (journal != null) {
+                journal.close();
+            }
+            throw why;
+        }
     }
 
     /** The same, with the bundles as a text. */
@@ -96,6 +142,18 @@ public final class Validator implements AutoCloseable {
     }
 
     private Admission check(LongSupplier clock, String token, byte[] caller) throws Refusal {
+        try {
+            return checked(clock, token, caller);
+        } catch (Refusal why) {
+            options.tell(why);
+            throw why;
+        } catch (SvidException.NotAllowed why) {
+            options.tell(new Denied.NotAllowed());
+            throw why;
+        }
+    }
+
+    private Admission checked(LongSupplier clock, String token, byte[] caller) throws Refusal {
         if (caller == null == (options.mode() == Mode.BOUND)) {
             throw new IllegalArgumentException("give a caller in the mode BOUND, and in no other one");
         }
@@ -174,7 +232,15 @@ public final class Validator implements AutoCloseable {
 
     /** The same, for all callers where there is no list, and without a caller where that does not count. */
     Admission admit(List<String> values, Collection<IdPattern> callers, byte[] caller) throws Denied {
-        String token = bearer(values);
+        try {
+            return admitted(bearer(values), callers, caller);
+        } catch (Denied why) {
+            options.tell(why);
+            throw why;
+        }
+    }
+
+    private Admission admitted(String token, Collection<IdPattern> callers, byte[] caller) throws Denied {
         try {
             if (callers != null) {
                 SpiffeId subject = says(token).spiffeId();
@@ -183,7 +249,7 @@ public final class Validator implements AutoCloseable {
                     throw new Denied.NotAllowed();
                 }
             }
-            return check(this::now, token, caller);
+            return checked(this::now, token, caller);
         } catch (SvidException.NotAllowed why) {
             throw new Denied.NotAllowed();
         }
@@ -298,10 +364,10 @@ public final class Validator implements AutoCloseable {
     }
 
     void take(long now, byte[] messages) {
-        try (Room room = new Room()) {
-            Told told = new Told(room);
-            Pointer text = room.put(messages);
-            told.must(locked(v -> Library.svid_validator_take(v, now, text, messages.length, told.at)));
+        try {
+            member.take(now, messages);
+        } finally {
+            Reference.reachabilityFence(this);
         }
     }
 
@@ -372,8 +438,12 @@ public final class Validator implements AutoCloseable {
      *
      * @throws SvidException.BadBundles where the bundles can't be read: the old ones stay
      * @throws SvidException.TooMuch where they are too long: the old ones stay
+     * @throws IllegalStateException of a validator that follows sources
      */
     public void renew(byte[] bundles) {
+        if (member.isFollowing()) {
+            throw new IllegalStateException("the validator follows its sources: change what they give");
+        }
         try {
             member.renew(bundles);
         } finally {
@@ -387,14 +457,14 @@ public final class Validator implements AutoCloseable {
     }
 
     /**
-     * Frees the record and the bundles. It waits for calls of the library by other threads. Threads that wait for an answer get
+     * Frees the record and the bundles. It waits for calls of the library by other threads, and for what is on its way to the disk. Threads
+     * that wait for an answer get
      * {@link SvidException.Closed}. Closing twice does nothing.
      */
     @Override
     public void close() {
+        member.close();
         cleanable.clean();
-        // (another thread may have begun with that, and not have ended)
-        member.run();
     }
 
     private long now() {

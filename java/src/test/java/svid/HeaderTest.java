@@ -91,12 +91,14 @@ public class HeaderTest {
 
     @Test
     public void numbersOfTheHeader() throws Exception {
-        List<String> names = new ArrayList<>(List.of(
-                "SVID_VERSION", "SVID_MOST_CANDIDATES", "SVID_USUAL_RSA_BITS", "SVID_ID_ROOM", "SVID_SPKI_ROOM", "SVID_SUMMARY_LEN"));
+        List<String> names = new ArrayList<>(List.of("SVID_VERSION", "SVID_MOST_CANDIDATES", "SVID_USUAL_RSA_BITS", "SVID_ID_ROOM",
+                "SVID_SPKI_ROOM", "SVID_SUMMARY_LEN", "SVID_PAYLOAD_MOST", "SVID_FRAME_MORE"));
         List<Long> got = new ArrayList<>(List.of((long) Library.VERSION, Library.MOST_CANDIDATES, (long) Library.USUAL_RSA_BITS,
-                Library.ID_ROOM, Library.SPKI_ROOM, Library.SUMMARY_LEN));
-        for (String it : List.of("DEED_NOTHING", "DEED_JUDGE", "DEED_CLAIM", "DEED_ANSWER", "AT_DISK", "AT_STORE", "AT_LOG", "CLAIM_FAR",
-                     "CLAIM_DEAF", "LATE", "LEFT", "ENDED", "DEAF")) {
+                Library.ID_ROOM, Library.SPKI_ROOM, Library.SUMMARY_LEN, Library.PAYLOAD_MOST, Library.FRAME_MORE));
+        for (String it : List.of("DEED_NOTHING", "DEED_JUDGE", "DEED_APPEND", "DEED_CLAIM", "DEED_ANSWER", "CALL_NOTHING",
+                     "CALL_CREATE_JOURNAL", "CALL_SYNC_FOLDER", "CALL_WRITE_SNAPSHOT", "CALL_SYNC_SNAPSHOT", "CALL_RENAME_SNAPSHOT",
+                     "CALL_REMOVE_JOURNAL", "FILE_END", "FILE_TEAR", "FILE_DAMAGE", "FILE_OTHER", "AT_DISK", "AT_STORE", "AT_LOG",
+                     "CLAIM_FAR", "CLAIM_DEAF", "LATE", "LEFT", "ENDED", "DEAF")) {
             names.add("SVID_" + it);
             got.add((long) Library.class.getDeclaredField(it).getInt(null));
         }

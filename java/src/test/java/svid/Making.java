@@ -12,6 +12,7 @@ import java.time.Instant;
 import java.util.Base64;
 import java.util.UUID;
 import java.util.concurrent.Callable;
+import java.util.concurrent.CountDownLatch;
 import java.util.concurrent.TimeUnit;
 
 /** Tokens of now, and what tests wait for. */
@@ -69,6 +70,17 @@ final class Making {
             signer.update(signed.getBytes(StandardCharsets.UTF_8));
             return signed + "." + base64(signer.sign());
         } catch (GeneralSecurityException why) {
+            throw new AssertionError(why);
+        }
+    }
+
+    /** Waits in a call of a disk or a store until a test lets it go on. */
+    static void await(CountDownLatch latch) {
+        try {
+            if (!latch.await(PATIENCE, TimeUnit.SECONDS)) {
+                throw new AssertionError("nobody lets it go on");
+            }
+        } catch (InterruptedException why) {
             throw new AssertionError(why);
         }
     }

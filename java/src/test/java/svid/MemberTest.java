@@ -140,7 +140,7 @@ public class MemberTest {
     }
 
     private static Options ledger() {
-        return Options.audiences("ledger");
+        return Options.audiences("ledger").anyLife();
     }
 
     private static Options strict(Store store) {
@@ -243,10 +243,9 @@ public class MemberTest {
     @Test
     public void aModeAndItsStore() {
         Store store = new MemoryStore();
-        for (Options options : List.of(ledger().mode(Mode.STRICT), ledger().mode(Mode.BOUND), ledger().store(store),
-                     ledger().mode(Mode.REUSE).store(store))) {
+        for (Options options : List.of(ledger().mode(Mode.STRICT), ledger().mode(Mode.BOUND))) {
             String said = assertThrows(IllegalArgumentException.class, () -> open(options)).getMessage();
-            assertEquals("give a store in the modes STRICT and BOUND, and in no other one", said);
+            assertEquals("give a store in the modes STRICT and BOUND: tokens are claimed there", said);
         }
         assertThrows(IllegalArgumentException.class, () -> ledger().wait(Duration.ZERO));
         assertThrows(IllegalArgumentException.class, () -> ledger().wait(Duration.ofSeconds(-1)));
@@ -305,7 +304,7 @@ public class MemberTest {
         List<String> tokens = Stream.generate(Making::token).limit(40).toList();
         List<String> won = new CopyOnWriteArrayList<>();
         Set<String> said = Collections.synchronizedSet(new HashSet<>());
-        Options options = strict(store).wait(Duration.ofMillis(50));
+        Options options = strict(store).wait(Duration.ofMillis(200));
         try (Validator one = open(options); Validator other = open(options)) {
             store.before = fault;
             store.after = fault;
@@ -696,7 +695,8 @@ public class MemberTest {
 
     @Test
     public void callers() throws Exception {
-        for (Options options : List.of(ledger(), ledger().mode(Mode.REUSE), strict(new MemoryStore()).wait(patience()))) {
+        for (Options each : List.of(ledger(), ledger().mode(Mode.REUSE), strict(new MemoryStore()))) {
+            Options options = each.wait(patience());
             String token = token();
             String bad = token.substring(0, token.length() - 6) + "AAAAAA";
             try (Validator validator = open(options.callers(OTHERS))) {

@@ -11,12 +11,16 @@ import static svid.Vectors.ledgerAt;
 import static svid.Vectors.tokens;
 
 import com.sun.jna.Function;
+import java.io.IOException;
 import java.nio.charset.StandardCharsets;
+import java.nio.file.Path;
 import java.time.Duration;
 import java.util.List;
 import java.util.Map;
 import java.util.function.Supplier;
+import org.junit.Rule;
 import org.junit.Test;
+import org.junit.rules.TemporaryFolder;
 
 /**
  * Want of memory: in each call, each allocation of the library is refused once. The call says so, or does without; nothing is accepted by
@@ -25,6 +29,8 @@ import org.junit.Test;
  * <p>The library is one whose allocations go through {@code refusing.c}: java/test links it.
  */
 public class MemoryTest {
+    @Rule public final TemporaryFolder room = new TemporaryFolder();
+
     private static final Function REFUSE = Function.getFunction(System.getProperty(Library.PROPERTY), "svid_test_refuse");
     private static final Function LEFT = Function.getFunction(System.getProperty(Library.PROPERTY), "svid_test_left");
 
@@ -94,6 +100,8 @@ public class MemoryTest {
         // (an OutOfMemory with the use in the record would make the second call a refusal)
         assertTrue(refused(MemoryTest::nothing, it -> it.check(token).spiffeId()) > 0);
         assertTrue(refused(MemoryTest::nothing, it -> it.judge(token).spiffeId()) > 0);
+        assertTrue(refused(MemoryTest::nothing, it -> it.judge(token).claims()) > 0);
+        assertTrue(refused(MemoryTest::nothing, it -> it.judge(token).audience()) > 0);
         assertTrue(refused(MemoryTest::nothing, it -> it.admit(List.of("Bearer " + token)).key()) > 0);
         assertTrue(refused(it -> it.check(token), it -> assertThrows(Refusal.class, () -> rethrown(it, token)).reason()) > 0);
     }
@@ -119,6 +127,43 @@ public class MemoryTest {
                 return it.size();
             }) > 0);
         }
+    }
+
+    /** A check and a withdrawal that wait for the disk, and a start that reads the folder. */
+    @Test
+    public void stateFolders() throws Exception {
+        String token = tokens().get(0);
+        Supplier<Options> fresh = () -> {
+            try {
+                return ledgerAt(NOW).wait(Duration.ofSeconds(Making.PATIENCE)).state(room.newFolder().toPath());
+            } catch (IOException why) {
+                throw new AssertionError(why);
+            }
+        };
+        SpiffeId due = SpiffeId.parse("spiffe://example.org/billing/api");
+        assertTrue(refused(fresh, MemoryTest::nothing, it -> {
+            try {
+                return it.check(token).spiffeId();
+            } catch (SvidException.Unavailable why) {
+                // (its use is in the record, and was not to be brought to the disk)
+                assertTrue(why.getCause() instanceof SvidException.OutOfMemory);
+                Making.until(it::isReady);
+                return due;
+            }
+        }) > 0);
+        assertTrue(refused(fresh, MemoryTest::nothing, it -> {
+            it.withdraw(token);
+            return it.size();
+        }) > 0);
+        Path kept = room.newFolder().toPath();
+        try (Validator validator = Validator.open(ledgerAt(NOW).state(kept), bundles())) {
+            validator.check(token);
+        }
+        assertTrue(refused(MemoryTest::nothing, it -> {
+            try (Validator other = Validator.open(ledgerAt(NOW).state(kept), bundles())) {
+                return other.size();
+            }
+        }) > 0);
     }
 
     /** A call whose want of memory is no answer. */

@@ -5,6 +5,8 @@ import static org.junit.Assert.assertEquals;
 import static org.junit.Assert.assertThrows;
 import static org.junit.Assert.assertTrue;
 
+import com.google.gson.JsonObject;
+import com.google.gson.JsonParser;
 import com.sun.net.httpserver.HttpServer;
 import java.io.BufferedReader;
 import java.io.File;
@@ -35,7 +37,7 @@ import org.w3c.dom.Element;
 /** The jar by itself, and what README.md shows. */
 public class PackageTest {
     private static final int MOST_LINES = 15;
-    private static final String JNA = "/usr/share/java/jna.jar";
+    private static final String JARS = "/usr/share/java/jna.jar:/usr/share/java/gson.jar";
 
     @ClassRule public static final TemporaryFolder ROOM = new TemporaryFolder();
 
@@ -48,7 +50,7 @@ public class PackageTest {
 
     private static Path built(String name) throws Exception {
         File folder = ROOM.newFolder(name);
-        return Path.of(HeaderTest.ran("bash", Vectors.JAVA + "/build", folder.toString()).strip());
+        return Path.of(HeaderTest.ran("bash", Vectors.JAVA + "/build", folder.toString()).lines().findFirst().orElseThrow());
     }
 
     /** The blocks of README.md in this language. */
@@ -66,7 +68,7 @@ public class PackageTest {
     private static ProcessBuilder program(String name) throws Exception {
         String source = source(name);
         Path folder = ROOM.getRoot().toPath().resolve(name);
-        String path = jar + ":" + JNA + ":" + folder;
+        String path = jar + ":" + JARS + ":" + folder;
         if (!Files.exists(folder)) {
             Files.createDirectory(folder);
             Path file = folder.resolve(name + ".java");
@@ -83,7 +85,11 @@ public class PackageTest {
 
     @Test
     public void theJarIsTheSameEachTime() throws Exception {
-        assertArrayEquals(Files.readAllBytes(jar), Files.readAllBytes(built("second")));
+        Path again = built("second");
+        for (String it : List.of(".jar", "-sources.jar", "-javadoc.jar")) {
+            String name = jar.getFileName().toString().replace(".jar", it);
+            assertArrayEquals(it, Files.readAllBytes(jar.resolveSibling(name)), Files.readAllBytes(again.resolveSibling(name)));
+        }
     }
 
     @Test
@@ -99,13 +105,29 @@ public class PackageTest {
             }
         }
         List<String> others =
-                names.stream().filter(it -> !it.matches("META-INF/(MANIFEST\\.MF)?|svid/[\\w$]+\\.class|svid/\\w+/libsvid\\.so")).toList();
+                names.stream()
+                        .filter(it -> !it.matches("META-INF/(MANIFEST\\.MF)?|svid/(testing/)?[\\w$]+\\.class|svid/\\w+/libsvid\\.so"))
+                        .toList();
         assertEquals(List.of(), others);
+    }
+
+    /** The sources are those that are compiled, and the documentation has each public type. */
+    @Test
+    public void whatTheOtherJarsHave() throws Exception {
+        for (String it : List.of("-sources.jar java", "-javadoc.jar html")) {
+            String[] parts = it.split(" ");
+            try (JarFile file = new JarFile(jar.toString().replace(".jar", parts[0]))) {
+                for (String name : List.of("Validator", "Sources", "Store", "testing/Issuer", "testing/TestClock")) {
+                    assertTrue(name, file.getEntry("svid/" + name + "." + parts[1]) != null);
+                }
+                assertEquals(parts[1].equals("java"), file.getEntry("svid/Member." + parts[1]) != null);
+            }
+        }
     }
 
     @Test
     public void whatReadmeShows() throws Exception {
-        List<String> names = List.of("Hello", "Group");
+        List<String> names = List.of("Hello");
         for (String name : names) {
             Process process = program(name).start();
             String said = new String(process.getInputStream().readAllBytes(), StandardCharsets.UTF_8);
@@ -114,16 +136,34 @@ public class PackageTest {
         }
     }
 
+    /** The lines by which a service tests its own use of the package. */
+    @Test
+    public void theTestOfReadme() throws Exception {
+        String lines = blocks("java").stream().filter(it -> it.startsWith("TestClock clock")).findFirst().orElseThrow();
+        assertTrue(lines.lines().count() <= 6);
+        Path folder = ROOM.newFolder("own").toPath();
+        Files.writeString(folder.resolve("Own.java"),
+                "import static org.junit.Assert.*;\nimport svid.*;\nimport svid.testing.*;\npublic class Own {\n"
+                        + "public static void main(String[] args) throws Exception {\n" + lines
+                        + "System.out.println(\"passed\");\n}\n}\n");
+        String path = jar + ":" + JARS + ":/usr/share/java/junit4.jar:/usr/share/java/hamcrest.jar:" + folder;
+        String[] words = {"-Xlint:all", "-Werror", "-cp", path, "-d", folder.toString(), folder.resolve("Own.java").toString()};
+        assertEquals(0, ToolProvider.getSystemJavaCompiler().run(null, null, null, words));
+        String java = System.getProperty("java.home") + "/bin/java";
+        assertEquals("passed\n", HeaderTest.ran(java, "-XX:TieredStopAtLevel=1", "-XX:+UseSerialGC", "-cp", path, "Own"));
+    }
+
     /** The service accepts a token once, and refuses it the second time, also while others send half of a request. */
     @Test
     public void theServiceOfReadme() throws Exception {
-        for (String name : List.of("Group", "Service")) {
-            Stream<String> own =
-                    source(name).lines().filter(it -> !it.isBlank() && !it.startsWith("import ") && !it.matches("[\\s{}();]*"));
-            assertTrue(name, own.count() <= MOST_LINES);
-        }
+        Stream<String> own =
+                source("Service").lines().filter(it -> !it.isBlank() && !it.startsWith("import ") && !it.matches("[\\s{}();]*"));
+        assertTrue(own.count() <= MOST_LINES);
         ProcessBuilder builder = program("Service");
-        builder.command().addAll(List.of("examples/bundles.json", "0"));
+        Path bundles = ROOM.newFolder("bundles").toPath();
+        JsonObject all = JsonParser.parseString(Vectors.bundles()).getAsJsonObject();
+        Files.writeString(bundles.resolve("example.org.json"), all.get("example.org").toString());
+        builder.command().addAll(List.of(bundles.toString(), ROOM.getRoot() + "/state", "0"));
         Process service = builder.start();
         List<Socket> slows = new ArrayList<>();
         try (BufferedReader lines = service.inputReader()) {
@@ -268,7 +308,7 @@ public class PackageTest {
             boolean isGood = named.endsWith("64/libsvid.so");
             assertEquals(said, isGood, process.waitFor() == 0);
             assertEquals(said, isGood, said.equals(blocks("text").get(0)));
-            String due = named.endsWith("other.so") ? "libsvid.so has the version 30000, and 20000 is wanted" : named;
+            String due = named.endsWith("other.so") ? "libsvid.so has the version 40000, and 30000 is wanted" : named;
             assertTrue(said, isGood || said.contains("UnsatisfiedLinkError") && said.contains(due));
         }
     }
@@ -277,8 +317,8 @@ public class PackageTest {
     public void everythingPublicIsDocumented() throws Exception {
         List<String> bare = new ArrayList<>();
         List<Path> sources;
-        try (Stream<Path> found = Files.list(Vectors.JAVA.resolve("src/main/java/svid"))) {
-            sources = found.sorted().toList();
+        try (Stream<Path> found = Files.walk(Vectors.JAVA.resolve("src/main/java/svid"))) {
+            sources = found.filter(it -> it.toString().endsWith(".java")).sorted().toList();
         }
         for (Path source : sources) {
             List<String> lines = Files.readAllLines(source);

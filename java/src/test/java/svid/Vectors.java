@@ -100,9 +100,9 @@ final class Vectors {
         return made;
     }
 
-    /** The usual options: the audience `ledger`. */
+    /** The usual options: the audience `ledger`. (The tokens of the examples live until 2100.) */
     static Options ledger() {
-        return Options.audiences("ledger");
+        return Options.audiences("ledger").anyLife();
     }
 
     /** The same at a time. */

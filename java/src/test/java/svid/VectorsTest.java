@@ -18,7 +18,10 @@ import static svid.Vectors.orNull;
 
 import com.google.gson.JsonElement;
 import com.google.gson.JsonObject;
+import java.io.File;
 import java.nio.charset.StandardCharsets;
+import java.nio.file.Files;
+import java.nio.file.Path;
 import java.util.ArrayList;
 import java.util.Comparator;
 import java.util.HexFormat;
@@ -155,6 +158,59 @@ public class VectorsTest {
                     return accepted(validator.check(now(file), of(it, "token")));
                 });
                 assertEquals(of(it, "answer"), renewed);
+            }
+        });
+    }
+
+    @Test
+    public void files() {
+        Map<Integer, String> ends =
+                Map.of(Library.FILE_END, "end", Library.FILE_TEAR, "tear", Library.FILE_DAMAGE, "damage", Library.FILE_OTHER, "format");
+        each("files", "rust", (file, it) -> {
+            try (Room room = new Room()) {
+                Kept.Reading reading = new Kept.Reading(room, bytes(it, "folder_id"), number(it, "journal"), bytes(it, "content"));
+                List<String> payloads = new ArrayList<>();
+                int[] status = {0};
+                for (byte[] payload = reading.next(status); payload != null; payload = reading.next(status)) {
+                    payloads.add(hex(payload));
+                }
+                assertEquals(list(it, "payloads"), payloads);
+                assertEquals(of(it, "end"), ends.get(status[0]));
+                assertEquals(number(it, "at"), reading.at());
+                assertTrue(!it.has("format") || number(it, "format") == reading.format());
+            }
+        });
+    }
+
+    @Test
+    public void folders() {
+        each("folders", "rust", (file, it) -> {
+            Path folder = Files.createTempDirectory("svid-folder");
+            try {
+                for (Map.Entry<String, JsonElement> content : it.getAsJsonObject("files").entrySet()) {
+                    Files.write(folder.resolve(content.getKey()), HexFormat.of().parseHex(content.getValue().getAsString()));
+                }
+                Options options = ledger().ahead(Options.ANY).state(folder);
+                if (it.has("record")) {
+                    try (Validator validator = Validator.open(options, "{}"); Validator same = empty()) {
+                        same.take(0, bytes(it, "record"));
+                        String uses = "(?m)^(moment|uses) .*\n";
+                        assertEquals(same.report().replaceAll(uses, ""), validator.report().replaceAll(uses, ""));
+                    }
+                    return;
+                }
+                SvidException.BadFolder why = assertThrows(SvidException.BadFolder.class, () -> Validator.open(options, "{}").close());
+                assertEquals(folder.resolve(it.has("damaged") ? of(it, "damaged") : of(it, "of_format")).toString(), why.file());
+                if (it.has("damaged")) {
+                    assertEquals(number(it, "at"), why.offset());
+                } else {
+                    assertTrue(why.getMessage(), why.getMessage().contains(" has format " + number(it, "format") + ","));
+                }
+            } finally {
+                for (File left : folder.toFile().listFiles()) {
+                    Files.delete(left.toPath());
+                }
+                Files.delete(folder);
             }
         });
     }

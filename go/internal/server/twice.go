@@ -1,0 +1,107 @@
+package server
+
+import (
+	"errors"
+	"sort"
+	"strings"
+
+	"svid.example/go/v3/svid"
+)
+
+// Two sidecars of mode once may accept one token before they hear of each other. Each of the two says so, once for each token: when it takes the
+// message that tells of the other's use. Whether two uses are of one token the library's report says.
+
+// errTwice: another sidecar of the group accepted a token that this one accepted too.
+var errTwice = errors.New("two sidecars of the group accepted this token, since neither had heard of the other: it may be stolen, or its client sent it twice")
+
+// ownUses are this sidecar's acceptances, until they have expired, or others take their room. There are two generations, so that dropping the old ones
+// takes one step.
+type ownUses struct {
+	young, old map[svid.TokenKey]ownUse
+	turned     uint64 // when young began, in seconds since 1970
+}
+
+// An ownUse is what is not the same of all of them.
+type ownUse struct{ expires, at uint64 }
+
+// mostOwn is how many there are in a generation.
+const mostOwn = 1 << 16
+
+// add takes note of an acceptance. No token lives for longer than longest.
+func (o *ownUses) add(now, longest uint64, use svid.Use) {
+	if len(o.young) >= mostOwn || now > o.turned+longest {
+		o.young, o.old, o.turned = nil, o.young, now
+	}
+	if o.young == nil {
+		o.young = map[svid.TokenKey]ownUse{}
+	}
+	o.young[use.Key] = ownUse{use.Expires, use.At}
+}
+
+// find returns the acceptance of this key.
+func (o *ownUses) find(key svid.TokenKey) (own ownUse, is bool) {
+	if own, is = o.young[key]; !is {
+		own, is = o.old[key]
+	}
+	return own, is
+}
+
+// drop lets go of it.
+func (o *ownUses) drop(key svid.TokenKey) {
+	delete(o.young, key)
+	delete(o.old, key)
+}
+
+// noteOwn takes note of an acceptance as it is judged: another's may come while this one is on its way to the disk.
+func (m *Machine) noteOwn(use svid.Use) {
+	if m.Mode == Once && m.Grouped {
+		m.own.add(m.now.Wall, m.Longest, use)
+	}
+}
+
+// lookTwice looks at a message that the record took.
+func (m *Machine) lookTwice(message []byte) {
+	if len(m.own.young)+len(m.own.old) == 0 {
+		return
+	}
+	uses, err := svid.Uses(message)
+	if err != nil {
+		m.Log.Error("report", err)
+		return
+	}
+	for _, use := range uses {
+		if own, is := m.own.find(use.Key); is && use.ValidatorID != m.ValidatorID {
+			m.sayTwice(svid.Use{Key: use.Key, Expires: own.expires, At: own.at, ValidatorID: m.ValidatorID}, use)
+		}
+	}
+}
+
+// sayTwice says that a token was accepted twice, if it was.
+func (m *Machine) sayTwice(own, other svid.Use) {
+	twice, err := isTwice(own, other)
+	if err != nil {
+		m.Log.Error("report", err)
+	}
+	if !twice {
+		return
+	}
+	m.own.drop(own.Key)
+	m.metrics.AcceptedTwice.Add(1)
+	ids := []string{own.ValidatorID.String(), other.ValidatorID.String()}
+	sort.Strings(ids)
+	m.Log.Error("accepted twice", errTwice, "key", own.Key.String(), "validator_ids", strings.Join(ids, " "))
+}
+
+// isTwice says whether two uses accept one token, by the library's report (docs/FORMATS.md, "Report").
+func isTwice(own, other svid.Use) (bool, error) {
+	messages, err := svid.Batches([]svid.Use{own, other})
+	if err != nil {
+		return false, err
+	}
+	report, err := svid.Report(messages)
+	if err != nil {
+		return false, err
+	}
+	_, keys, _ := strings.Cut(report, "\ntwice ")
+	return strings.Contains(keys, own.Key.String()), nil
+}

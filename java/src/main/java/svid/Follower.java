@@ -1,0 +1,337 @@
+package svid;
+
+import java.io.Closeable;
+import java.io.IOException;
+import java.nio.file.Files;
+import java.nio.file.Path;
+import java.util.ArrayList;
+import java.util.Arrays;
+import java.util.HashMap;
+import java.util.HashSet;
+import java.util.List;
+import java.util.Map;
+import java.util.Set;
+import java.util.TreeMap;
+import java.util.concurrent.TimeUnit;
+import java.util.stream.Stream;
+
+/** Follows the sources of trust bundles, and hands on all bundles whenever one has changed. */
+final class Follower {
+    static final String THREAD = "svid-bundles";
+    /** How many bytes a bundle has at the most. */
+    static final int MOST = 1 << 20;
+
+    private static final System.Logger LOGGER = System.getLogger("svid");
+    private static final String SUFFIX = ".json";
+    /** How many milliseconds lie between two looks at files. */
+    private static final long EVERY = 1000;
+    /** For how many milliseconds an address is left alone after a fault, at first and at most. */
+    private static final long FIRST_PAUSE = 1000;
+    private static final long LONGEST_PAUSE = 60_000;
+    /** For how many milliseconds a close waits for a thread. */
+    private static final long CLOSING = 5000;
+
+    /** How many characters of a fault are logged: a server may have said much. */
+    private static final int SAID = 500;
+
+    /** How many milliseconds one answer of an address may take. */
+    volatile int limit = 15_000;
+
+    private final Sources sources;
+    private final Taker taker;
+    private final List<Thread> threads = new ArrayList<>();
+
+    /** It guards what follows. */
+    private final Object gate = new Object();
+    private final Map<String, Held> held = new TreeMap<>(); // by trust domain
+    private final Map<String, String> faults = new HashMap<>(); // by source: what was last wrong with it
+    private final Set<Closeable> sockets = new HashSet<>(); // of requests that are under way
+    private boolean isClosing;
+
+    /** Held while bundles are handed on, so that the newest come last. */
+    private final Object telling = new Object();
+    private volatile boolean isUntaken;
+
+    /** The last good bundle of a trust domain, and its source. */
+    private record Held(byte[] text, String source) {}
+
+    /** Takes all bundles. */
+    interface Taker {
+        /**
+         * Takes them as one text.
+         *
+         * @param count of how many trust domains they are
+         */
+        void take(byte[] text, int count);
+    }
+
+    /** It follows nothing before {@link #begin}. */
+    Follower(Sources sources, Taker taker) {
+        this.sources = sources;
+        this.taker = taker;
+    }
+
+    /** Reads the files now, and begins to follow all. */
+    void begin() {
+        readFiles();
+        start(this::look);
+        for (Sources.Source it : sources.all) {
+            if (it.address() != null) {
+                start(() -> ask(it));
+            }
+        }
+    }
+
+    private void start(Runnable work) {
+        Thread thread = new Thread(work, THREAD);
+        thread.setDaemon(true);
+        threads.add(thread);
+        thread.start();
+    }
+
+    /** Lets its threads end. Waits for nothing. */
+    void drop() {
+        List<Closeable> open;
+        synchronized (gate) {
+            isClosing = true;
+            gate.notifyAll();
+            open = List.copyOf(sockets);
+        }
+        open.forEach(Follower::closed);
+    }
+
+    /** Lets its threads end, and waits for that, but not for a file system that hangs. */
+    void close() {
+        drop();
+        long end = Times.up() + CLOSING;
+        for (Thread it : threads) {
+            try {
+                it.join(Math.max(1, end - Times.up()));
+            } catch (InterruptedException why) {
+                Thread.currentThread().interrupt();
+                return;
+            }
+        }
+    }
+
+    private static void closed(Closeable it) {
+        try {
+            it.close();
+        } catch (IOException why) {
+            // (its connection is over)
+        }
+    }
+
+    /** Lets a request go on that has this socket, or throws at the end. */
+    void opened(Closeable socket) throws IOException {
+        synchronized (gate) {
+            if (!isClosing) {
+                sockets.add(socket);
+                return;
+            }
+        }
+        socket.close();
+        throw new IOException("the validator is closed");
+    }
+
+    /** Forgets the socket of a request that has ended. */
+    void ended(Closeable socket) {
+        synchronized (gate) {
+            sockets.remove(socket);
+        }
+        closed(socket);
+    }
+
+    /** Waits for so many milliseconds. False at the end. */
+    private boolean pause(long millis) {
+        long end = Times.up() + millis;
+        synchronized (gate) {
+            while (!isClosing) {
+                long left = end - Times.up();
+                if (left <= 0) {
+                    return true;
+                }
+                try {
+                    gate.wait(left);
+                } catch (InterruptedException why) {
+                    // (nobody ends this thread so)
+                }
+            }
+            return false;
+        }
+    }
+
+    /** The last good bundle of a trust domain, or null. */
+    byte[] bundleOf(String domain) {
+        synchronized (gate) {
+            Held it = held.get(domain);
+            return it == null ? null : it.text;
+        }
+    }
+
+    // -- Files
+
+    /** Looks at the files again and again. */
+    private void look() {
+        while (pause(EVERY)) {
+            try {
+                readFiles();
+            } catch (RuntimeException | OutOfMemoryError why) {
+                LOGGER.log(System.Logger.Level.WARNING, "bundles not read", why);
+            }
+        }
+    }
+
+    private void readFiles() {
+        boolean isChanged = false;
+        for (Sources.Source it : sources.all) {
+            if (it.where() != null && it.domain().isEmpty()) {
+                isChanged |= readFolder(it.where());
+            } else if (it.where() != null) {
+                isChanged |= readFile(it.domain(), it.where());
+            }
+        }
+        if (isChanged || isUntaken) {
+            tell();
+        }
+    }
+
+    private boolean readFile(String domain, Path file) {
+        try {
+            return adopt(domain, file.toString(), Disk.read(file, MOST + 1));
+        } catch (IOException why) {
+            fault(file.toString(), why);
+            return false;
+        }
+    }
+
+    /** Reads each bundle of a folder, and drops those whose file is gone. */
+    private boolean readFolder(Path folder) {
+        List<Path> files;
+        try (Stream<Path> found = Files.list(folder)) {
+            files = found.filter(it -> it.getFileName().toString().endsWith(SUFFIX)).sorted().toList();
+        } catch (IOException | java.io.UncheckedIOException why) {
+            fault(folder.toString(), why);
+            return false;
+        }
+        fault(folder.toString(), null);
+        boolean isChanged = false;
+        for (Path it : files) {
+            String name = it.getFileName().toString();
+            String domain = name.substring(0, name.length() - SUFFIX.length());
+            if (sources.name(domain)) {
+                fault(it.toString(), new IOException("the bundle of " + domain + " has another source"));
+            } else {
+                isChanged |= readFile(domain, it);
+            }
+        }
+        return dropGone(folder, files.stream().map(Path::toString).toList()) || isChanged;
+    }
+
+    private boolean dropGone(Path folder, List<String> there) {
+        synchronized (gate) {
+            faults.keySet().removeIf(it -> isIn(folder, it) && !isNamed(it) && !there.contains(it));
+            return held.entrySet().removeIf(it -> {
+                String source = it.getValue().source;
+                return isIn(folder, source) && !sources.name(it.getKey()) && !there.contains(source);
+            });
+        }
+    }
+
+    private static boolean isIn(Path folder, String source) {
+        return folder.equals(Path.of(source).getParent());
+    }
+
+    private boolean isNamed(String source) {
+        return sources.all.stream().anyMatch(it -> it.name().equals(source));
+    }
+
+    // -- Addresses
+
+    /** Asks an address again and again: as its bundle wants that, and sooner after a fault. */
+    private void ask(Sources.Source source) {
+        Endpoint endpoint = new Endpoint(source, this);
+        long pause = FIRST_PAUSE;
+        long wait;
+        do {
+            try {
+                byte[] text = endpoint.fetched();
+                if (adopt(source.domain(), source.name(), text)) {
+                    tell();
+                }
+                wait = TimeUnit.SECONDS.toMillis(Endpoint.refreshOf(bundleOf(source.domain())));
+                pause = FIRST_PAUSE;
+            } catch (IOException | RuntimeException | OutOfMemoryError why) {
+                fault(source.name(), why);
+                wait = pause;
+                pause = Math.min(2 * pause, LONGEST_PAUSE);
+            }
+        } while (pause(wait));
+    }
+
+    // -- Bundles
+
+    /** Puts a bundle in the place of the last good one, if it is one. Whether that is another one than before. */
+    private boolean adopt(String domain, String source, byte[] text) throws IOException {
+        synchronized (gate) {
+            Held last = held.get(domain);
+            if (last != null && last.source.equals(source) && Arrays.equals(last.text, text)) {
+                fault(source, null);
+                return false;
+            }
+        }
+        if (text.length > MOST) {
+            throw new IOException("it has more than " + MOST + " bytes");
+        }
+        try {
+            Bundles.join(Map.of(domain, text));
+        } catch (SvidException.BadBundles why) {
+            throw new IOException(why.getMessage(), why);
+        }
+        synchronized (gate) {
+            held.put(domain, new Held(text, source));
+        }
+        fault(source, null);
+        return true;
+    }
+
+    /** Hands on all bundles. Where they are not taken, the next look at the files hands them on again. */
+    private void tell() {
+        synchronized (telling) {
+            Map<String, byte[]> all = new TreeMap<>();
+            synchronized (gate) {
+                held.forEach((domain, it) -> all.put(domain, it.text));
+            }
+            isUntaken = true;
+            try {
+                taker.take(Bundles.join(all), all.size());
+                isUntaken = false;
+                fault("the validator", null);
+            } catch (SvidException.Closed ended) {
+                isUntaken = false;
+            } catch (SvidException why) {
+                fault("the validator", why);
+            }
+        }
+    }
+
+    /** Logs what is wrong with a source, or null, if that is something else than before. */
+    private void fault(String source, Throwable why) {
+        String said = why == null ? null : why.toString().substring(0, Math.min(SAID, why.toString().length()));
+        String before;
+        boolean stays;
+        synchronized (gate) {
+            before = said == null ? faults.remove(source) : faults.put(source, said);
+            stays = held.values().stream().anyMatch(it -> it.source.equals(source));
+            if (isClosing) {
+                return;
+            }
+        }
+        if (said != null && !said.equals(before)) {
+            LOGGER.log(System.Logger.Level.WARNING,
+                    "bundle not read" + (stays ? "; the last good one stays" : "") + ": " + source + ": " + said);
+        } else if (said == null && before != null) {
+            LOGGER.log(System.Logger.Level.INFO, "bundle source is well again: " + source);
+        }
+    }
+}

@@ -1,0 +1,483 @@
+package svid;
+
+import static org.junit.Assert.assertEquals;
+import static org.junit.Assert.assertFalse;
+import static org.junit.Assert.assertThrows;
+import static org.junit.Assert.assertTrue;
+import static svid.Making.until;
+
+import com.sun.net.httpserver.HttpsConfigurator;
+import com.sun.net.httpserver.HttpsServer;
+import java.io.IOException;
+import java.io.InputStream;
+import java.net.InetAddress;
+import java.net.InetSocketAddress;
+import java.net.ServerSocket;
+import java.net.Socket;
+import java.net.URI;
+import java.nio.charset.StandardCharsets;
+import java.nio.file.Files;
+import java.nio.file.Path;
+import java.nio.file.StandardCopyOption;
+import java.security.KeyStore;
+import java.util.ArrayList;
+import java.util.Arrays;
+import java.util.List;
+import java.util.concurrent.CopyOnWriteArrayList;
+import java.util.concurrent.ExecutorService;
+import java.util.concurrent.Executors;
+import java.util.concurrent.TimeUnit;
+import java.util.logging.Handler;
+import java.util.logging.LogRecord;
+import java.util.logging.Logger;
+import javax.net.ssl.KeyManagerFactory;
+import javax.net.ssl.SSLContext;
+import org.junit.After;
+import org.junit.Before;
+import org.junit.BeforeClass;
+import org.junit.ClassRule;
+import org.junit.Rule;
+import org.junit.Test;
+import org.junit.rules.TemporaryFolder;
+import svid.testing.Issuer;
+
+/** Bundles that follow: files, folders, and addresses of both profiles. */
+@SuppressWarnings("try") // (some are only held)
+public class FollowTest {
+    @ClassRule public static final TemporaryFolder SECRETS = new TemporaryFolder();
+    @Rule public final TemporaryFolder room = new TemporaryFolder();
+
+    private static final String SERVER = "spiffe://example.org/server";
+    private static final Logger LOGGER = Logger.getLogger("svid");
+
+    private final List<String> said = new CopyOnWriteArrayList<>();
+    private final Handler handler = new Handler() {
+        @Override
+        public void publish(LogRecord line) {
+            said.add(line.getMessage());
+        }
+
+        @Override
+        public void flush() {}
+
+        @Override
+        public void close() {}
+    };
+    private final Issuer issuer = new Issuer("example.org");
+
+    @Before
+    public void listen() {
+        LOGGER.addHandler(handler);
+    }
+
+    /** Nothing of a validator stays that is closed. */
+    @After
+    public void nothingStays() throws Exception {
+        LOGGER.removeHandler(handler);
+        until(() -> !isFollowing());
+    }
+
+    private static boolean isFollowing() {
+        return Thread.getAllStackTraces().keySet().stream().anyMatch(it -> it.getName().equals(Follower.THREAD));
+    }
+
+    private Path path(String name) {
+        return room.getRoot().toPath().resolve(name);
+    }
+
+    private static void write(Path path, byte[] content) throws IOException {
+        Path fresh = path.resolveSibling("fresh");
+        Files.write(fresh, content);
+        Files.move(fresh, path, StandardCopyOption.ATOMIC_MOVE);
+    }
+
+    private static String checked(Validator validator, String token) {
+        try {
+            return validator.check(token).spiffeId().toString();
+        } catch (Refusal why) {
+            return why.reason().toString();
+        } catch (SvidException why) {
+            return why.getClass().getSimpleName();
+        }
+    }
+
+    private String fresh() {
+        return issuer.token("/billing/api", "ledger");
+    }
+
+    private void becomes(Validator validator, String due) throws Exception {
+        until(() -> checked(validator, fresh()).equals(due));
+    }
+
+    /** A bundle that has blanks behind it, and is too long by one. */
+    private static byte[] padded(byte[] bundle) {
+        byte[] all = new byte[Follower.MOST + 1];
+        Arrays.fill(all, (byte) ' ');
+        System.arraycopy(bundle, 0, all, 0, bundle.length);
+        return all;
+    }
+
+    @Test
+    public void aFileIsFollowed() throws Exception {
+        Path file = path("a.json");
+        write(file, issuer.bundle());
+        Options options = Vectors.ledger().state(path("state"));
+        try (Validator validator = Validator.open(options, Sources.file("example.org", file))) {
+            String used = fresh();
+            assertEquals(Making.SUBJECT, checked(validator, used));
+            assertTrue(validator.isReady());
+            issuer.rotate();
+            issuer.rotate();
+            assertEquals("NoKey", checked(validator, fresh()));
+            long begun = System.nanoTime();
+            write(file, issuer.bundle());
+            becomes(validator, Making.SUBJECT);
+            long took = TimeUnit.NANOSECONDS.toMillis(System.nanoTime() - begun);
+            assertTrue(took + " ms", took < 2000 || Making.PATIENCE > 100);
+            assertEquals("NoKey", checked(validator, used));
+            assertThrows(IllegalStateException.class, () -> validator.renew("{}"));
+        }
+    }
+
+    /** Of a text that is no bundle the last good one stays, and the fault is told once, with the path. */
+    @Test
+    public void theLastGoodOneStays() throws Exception {
+        Path file = path("a.json");
+        write(file, issuer.bundle());
+        try (Validator validator = Validator.open(Vectors.ledger(), Sources.file("example.org", file))) {
+            List<byte[]> bads = List.of("[]".getBytes(), "{\"keys\":1}".getBytes(), padded(issuer.bundle()));
+            for (byte[] bad : bads) {
+                said.clear();
+                write(file, bad);
+                until(() -> !said.isEmpty());
+                // (the next looks say no more of it)
+                Files.writeString(path("more"), "");
+                long looks = Times.up() + 2500;
+                until(() -> Times.up() > looks);
+                assertEquals(said.toString(), 1, said.size());
+                assertTrue(said.get(0), said.get(0).startsWith("bundle not read; the last good one stays: " + file));
+                assertEquals(Making.SUBJECT, checked(validator, fresh()));
+            }
+            Files.delete(file);
+            until(() -> said.size() == 2);
+            assertEquals(Making.SUBJECT, checked(validator, fresh()));
+            write(file, issuer.bundle());
+            until(() -> said.contains("bundle source is well again: " + file));
+        }
+    }
+
+    /** Until there is a bundle, the validator is not ready. */
+    @Test
+    public void aBundleThatComesLater() throws Exception {
+        Path file = path("a.json");
+        Options options = Vectors.ledger().wait(java.time.Duration.ofMillis(50));
+        try (Validator validator = Validator.open(options, Sources.file("example.org", file))) {
+            assertFalse(validator.isReady());
+            assertEquals("Unavailable", checked(validator, fresh()));
+            write(file, issuer.bundle());
+            until(validator::isReady);
+            becomes(validator, Making.SUBJECT);
+        }
+    }
+
+    @Test
+    public void aFolderIsFollowed() throws Exception {
+        Path folder = Files.createDirectory(path("bundles"));
+        Issuer other = new Issuer("example.com");
+        Path own = path("own.json");
+        write(own, issuer.bundle());
+        // (a file of the folder does not replace what has a source of its own)
+        write(folder.resolve("example.org.json"), "{\"keys\":[]}".getBytes());
+        write(folder.resolve("notes.txt"), "no bundle".getBytes());
+        Sources sources = Sources.folder(folder).and(Sources.file("example.org", own));
+        assertThrows(IllegalArgumentException.class, () -> sources.and(Sources.file("example.org", own)));
+        try (Validator validator = Validator.open(Vectors.ledger(), sources)) {
+            assertEquals(Making.SUBJECT, checked(validator, fresh()));
+            assertEquals("UnknownDomain", checked(validator, other.token("/a", "ledger")));
+            write(folder.resolve("example.com.json"), other.bundle());
+            until(() -> checked(validator, other.token("/a", "ledger")).equals("spiffe://example.com/a"));
+            assertEquals(Making.SUBJECT, checked(validator, fresh()));
+            Files.delete(folder.resolve("example.com.json"));
+            until(() -> checked(validator, other.token("/a", "ledger")).equals("UnknownDomain"));
+            assertEquals(said.toString(), 1, said.size());
+        }
+    }
+
+    // -- Addresses
+
+    /** What openssl makes of these words, in the folder of secrets. */
+    private static void openssl(String... words) throws Exception {
+        List<String> all = new ArrayList<>(List.of("openssl"));
+        all.addAll(List.of(words));
+        Process process = new ProcessBuilder(all).directory(SECRETS.getRoot()).redirectErrorStream(true).start();
+        String text = new String(process.getInputStream().readAllBytes(), StandardCharsets.UTF_8);
+        assertEquals(text, 0, process.waitFor());
+    }
+
+    private static final String[] KEY = {"-newkey", "ec", "-pkeyopt", "ec_paramgen_curve:P-256", "-nodes", "-keyout"};
+
+    private static void authority(String name) throws Exception {
+        openssl("req", "-x509", KEY[0], KEY[1], KEY[2], KEY[3], KEY[4], KEY[5], name + ".key", "-out", name + ".pem", "-days", "30",
+                "-subj", "/O=" + name, "-addext", "keyUsage=critical,keyCertSign");
+    }
+
+    /** A server whose certificate an authority signed, with these extensions. */
+    private static void identity(String name, String by, String extensions) throws Exception {
+        Files.writeString(SECRETS.getRoot().toPath().resolve(name + ".ext"), extensions);
+        openssl("req", "-new", KEY[0], KEY[1], KEY[2], KEY[3], KEY[4], KEY[5], name + ".key", "-out", name + ".csr", "-subj", "/O=" + name);
+        openssl("x509", "-req", "-in", name + ".csr", "-CA", by + ".pem", "-CAkey", by + ".key", "-CAcreateserial", "-days", "30",
+                "-extfile", name + ".ext", "-out", name + ".pem");
+        openssl("pkcs12", "-export", "-in", name + ".pem", "-inkey", name + ".key", "-out", name + ".p12", "-passout", "pass:secret");
+    }
+
+    @BeforeClass
+    public static void secrets() throws Exception {
+        authority("ca");
+        authority("stranger");
+        String names = "subjectAltName=DNS:localhost,IP:127.0.0.1\n";
+        identity("web", "ca", names);
+        identity("svid", "ca", "subjectAltName=URI:" + SERVER + "\nkeyUsage=digitalSignature\n");
+        identity("other", "ca", "subjectAltName=URI:" + SERVER + "2\n");
+        identity("two", "ca", "subjectAltName=URI:" + SERVER + ",URI:" + SERVER + "2\n");
+        identity("strange", "stranger", "subjectAltName=URI:" + SERVER + "\n");
+        identity("signer", "ca", "subjectAltName=URI:" + SERVER + "\nkeyUsage=keyCertSign\n");
+        identity("client", "ca", "subjectAltName=URI:" + SERVER + "\nextendedKeyUsage=clientAuth\n");
+    }
+
+    private static Path secret(String name) {
+        return SECRETS.getRoot().toPath().resolve(name);
+    }
+
+    /** A server that answers each request as the test wants. */
+    private static final class Server implements AutoCloseable {
+        final List<String> asked = new CopyOnWriteArrayList<>();
+        volatile byte[] answer = {};
+        volatile int status = 200;
+        volatile String leadsTo;
+        private final HttpsServer server;
+        private final ExecutorService threads = Executors.newCachedThreadPool();
+
+        Server(String identity) throws Exception {
+            KeyStore store = KeyStore.getInstance("PKCS12");
+            try (InputStream file = Files.newInputStream(secret(identity + ".p12"))) {
+                store.load(file, "secret".toCharArray());
+            }
+            KeyManagerFactory keys = KeyManagerFactory.getInstance(KeyManagerFactory.getDefaultAlgorithm());
+            keys.init(store, "secret".toCharArray());
+            SSLContext context = SSLContext.getInstance("TLS");
+            context.init(keys.getKeyManagers(), null, null);
+            server = HttpsServer.create(new InetSocketAddress(InetAddress.getLoopbackAddress(), 0), 0);
+            server.setHttpsConfigurator(new HttpsConfigurator(context));
+            server.setExecutor(threads);
+            server.createContext("/", exchange -> {
+                asked.add(exchange.getRequestURI().toString());
+                if (leadsTo != null && exchange.getRequestURI().getPath().equals("/bundle")) {
+                    exchange.getResponseHeaders().set("Location", leadsTo);
+                    exchange.sendResponseHeaders(302, -1);
+                } else {
+                    exchange.sendResponseHeaders(status, answer.length == 0 ? -1 : answer.length);
+                    exchange.getResponseBody().write(answer);
+                }
+                exchange.close();
+            });
+            server.start();
+        }
+
+        URI address() {
+            return URI.create("https://localhost:" + server.getAddress().getPort() + "/bundle");
+        }
+
+        @Override
+        public void close() {
+            server.stop(0);
+            threads.shutdownNow();
+        }
+    }
+
+    private boolean isSaid(String part) {
+        return said.stream().anyMatch(it -> it.contains(part));
+    }
+
+    @Test
+    public void httpsWeb() throws Exception {
+        try (Server server = new Server("web")) {
+            server.answer = issuer.bundle();
+            Sources sources = Sources.web("example.org", server.address(), secret("ca.pem"));
+            try (Validator validator = Validator.open(Vectors.ledger(), sources)) {
+                until(validator::isReady);
+                assertEquals(Making.SUBJECT, checked(validator, fresh()));
+                assertEquals(List.of("/bundle"), server.asked);
+            }
+            // (a redirect within https is followed, and one that leads elsewhere is not)
+            server.leadsTo = "/moved";
+            try (Validator validator = Validator.open(Vectors.ledger(), sources)) {
+                until(validator::isReady);
+            }
+            server.leadsTo = "http://localhost:1/";
+            try (Validator validator = Validator.open(Vectors.ledger(), sources)) {
+                until(() -> isSaid("it answers with status 302"));
+                assertFalse(validator.isReady());
+            }
+        }
+    }
+
+    /** Who is not known by the system's authorities, has another name, answers too much or something else. */
+    @Test
+    public void httpsWebThatIsNone() throws Exception {
+        assertThrows(IllegalArgumentException.class, () -> Sources.web("example.org", URI.create("http://localhost/")));
+        assertThrows(IllegalArgumentException.class, () -> Sources.web("example.org/x", URI.create("https://localhost/")));
+        try (Server server = new Server("web"); Server named = new Server("svid")) {
+            server.answer = issuer.bundle();
+            named.answer = issuer.bundle();
+            for (Sources it : List.of(Sources.web("example.org", server.address()),
+                         Sources.web("example.org", server.address(), secret("stranger.pem")),
+                         Sources.web("example.org", named.address(), secret("ca.pem")))) {
+                said.clear();
+                try (Validator validator = Validator.open(Vectors.ledger(), it)) {
+                    until(() -> isSaid("SSLHandshakeException") || isSaid("wrong, should be") || isSaid("IOException"));
+                    assertFalse(validator.isReady());
+                }
+            }
+            Sources sources = Sources.web("example.org", server.address(), secret("ca.pem"));
+            for (byte[] it : List.of(padded(issuer.bundle()), "{}".getBytes(), new byte[] {'x'})) {
+                said.clear();
+                server.answer = it;
+                try (Validator validator = Validator.open(Vectors.ledger(), sources)) {
+                    until(() -> !said.isEmpty());
+                    assertFalse(validator.isReady());
+                }
+            }
+            server.status = 404;
+            said.clear();
+            try (Validator validator = Validator.open(Vectors.ledger(), sources)) {
+                until(() -> isSaid("it answers with status 404"));
+                // (it is asked again, and is then well)
+                server.status = 200;
+                server.answer = issuer.bundle();
+                until(validator::isReady);
+            }
+        }
+    }
+
+    /** A bundle with the authorities that sign the certificates of servers, beside the keys of tokens. */
+    private byte[] withAuthorities(String... names) throws IOException {
+        StringBuilder entries = new StringBuilder();
+        for (String it : names) {
+            String pem = Files.readString(secret(it + ".pem"));
+            String der = pem.replaceAll("-----.*-----|\\s", "");
+            entries.append("{\"use\":\"x509-svid\",\"kty\":\"EC\",\"x5c\":[\"").append(der).append("\"]},");
+        }
+        String bundle = new String(issuer.bundle(), StandardCharsets.UTF_8);
+        return bundle.replace("\"keys\":[", "\"keys\":[" + entries).getBytes(StandardCharsets.UTF_8);
+    }
+
+    @Test
+    public void httpsSpiffe() throws Exception {
+        write(path("first.json"), withAuthorities("ca"));
+        SpiffeId id = SpiffeId.parse(SERVER);
+        try (Server server = new Server("svid")) {
+            server.answer = issuer.bundle();
+            Sources own = Sources.spiffe("example.org", server.address(), id, path("first.json"));
+            try (Validator validator = Validator.open(Vectors.ledger(), own)) {
+                until(validator::isReady);
+                assertEquals(Making.SUBJECT, checked(validator, fresh()));
+            }
+            // (the bundle of the ID's trust domain, from a source of its own)
+            Issuer other = new Issuer("example.com");
+            server.answer = other.bundle();
+            Sources both = Sources.spiffe("example.com", server.address(), id).and(Sources.file("example.org", path("first.json")));
+            try (Validator validator = Validator.open(Vectors.ledger(), both)) {
+                until(() -> checked(validator, other.token("/a", "ledger")).equals("spiffe://example.com/a"));
+            }
+            server.leadsTo = server.address() + "/moved";
+            try (Validator validator = Validator.open(Vectors.ledger(), own)) {
+                until(() -> isSaid("it answers with status 302"));
+                assertFalse(validator.isReady());
+            }
+            // (its authorities were not read yet, or there are none)
+            for (byte[] it : List.of(issuer.bundle(), "{\"keys\":[{\"use\":\"x509-svid\",\"x5c\":[\"AAAA\"]}]}".getBytes())) {
+                said.clear();
+                write(path("first.json"), it);
+                try (Validator validator = Validator.open(Vectors.ledger(), own)) {
+                    until(() -> isSaid("no entry of it has the use"));
+                    assertFalse(validator.isReady());
+                }
+            }
+            try (Validator validator = Validator.open(Vectors.ledger(), Sources.spiffe("example.com", server.address(), id))) {
+                until(() -> isSaid("was not read yet"));
+            }
+        }
+    }
+
+    /** The last good bundle has the authorities, once there is one: the file no longer counts. */
+    @Test
+    public void theAuthoritiesFollowToo() throws Exception {
+        write(path("first.json"), withAuthorities("ca"));
+        try (Server server = new Server("svid")) {
+            server.answer = withAuthorities("stranger");
+            Sources own = Sources.spiffe("example.org", server.address(), SpiffeId.parse(SERVER), path("first.json"));
+            List<byte[]> taken = new CopyOnWriteArrayList<>();
+            Follower follower = new Follower(own, (text, count) -> taken.add(text));
+            Endpoint endpoint = new Endpoint(own.all.get(0), follower);
+            endpoint.fetched();
+            follower.begin();
+            until(() -> taken.size() == 1);
+            assertTrue(assertThrows(IOException.class, endpoint::fetched).getMessage().contains("no authority of the bundle vouches"));
+            follower.close();
+        }
+    }
+
+    /** Of each certificate that is none of the server, it is said why. */
+    @Test
+    public void whoIsNotTheServer() throws Exception {
+        write(path("first.json"), withAuthorities("ca"));
+        for (String it : List.of("other that of another ID", "two not exactly one URI", "web not exactly one URI",
+                     "strange no authority of the bundle vouches", "signer may sign others", "client is for no server")) {
+            said.clear();
+            String name = it.split(" ")[0];
+            try (Server server = new Server(name)) {
+                server.answer = issuer.bundle();
+                Sources sources = Sources.spiffe("example.org", server.address(), SpiffeId.parse(SERVER), path("first.json"));
+                try (Validator validator = Validator.open(Vectors.ledger(), sources)) {
+                    until(() -> isSaid(it.substring(name.length() + 1)));
+                    assertFalse(validator.isReady());
+                    assertEquals(List.of(), server.asked);
+                }
+            }
+        }
+    }
+
+    /** A server that accepts, and says nothing or a byte now and then, is left in time; and a close waits for none. */
+    @Test
+    public void aServerThatHangs() throws Exception {
+        try (ServerSocket silent = new ServerSocket(0, 5, InetAddress.getLoopbackAddress())) {
+            URI address = URI.create("https://127.0.0.1:" + silent.getLocalPort() + "/");
+            Sources sources = Sources.web("example.org", address);
+            Follower follower = new Follower(sources, (text, count) -> {});
+            follower.limit = 300;
+            follower.begin();
+            until(() -> isSaid("it did not answer within 300 milliseconds") || isSaid("Read timed out"));
+            follower.close();
+        }
+        try (ServerSocket silent = new ServerSocket(0, 5, InetAddress.getLoopbackAddress())) {
+            Sources sources = Sources.web("example.org", URI.create("https://127.0.0.1:" + silent.getLocalPort() + "/"));
+            try (Validator validator = Validator.open(Vectors.ledger(), sources); Socket first = silent.accept()) {
+                // (the client has sent its first bytes, and waits)
+                assertTrue(first.getInputStream().read() >= 0);
+                validator.close();
+                assertFalse(isFollowing());
+            }
+        }
+    }
+
+    @Test
+    public void aHintOfABundle() {
+        for (String it : List.of("1 10", "10 10", "77 77", "86401 86400", "0 300", "-5 300", "\"x\" 300", "null 300")) {
+            String[] parts = it.split(" ");
+            byte[] bundle = ("{\"keys\":[],\"spiffe_refresh_hint\":" + parts[0] + "}").getBytes();
+            assertEquals(it, Long.parseLong(parts[1]), Endpoint.refreshOf(bundle));
+        }
+        assertEquals(300, Endpoint.refreshOf("{}".getBytes()));
+        assertEquals(300, Endpoint.refreshOf("no".getBytes()));
+    }
+}

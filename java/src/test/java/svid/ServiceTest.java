@@ -1,0 +1,326 @@
+package svid;
+
+import static org.junit.Assert.assertEquals;
+import static org.junit.Assert.assertFalse;
+import static org.junit.Assert.assertThrows;
+import static org.junit.Assert.assertTrue;
+import static svid.Making.until;
+
+import com.sun.net.httpserver.HttpServer;
+import java.io.IOException;
+import java.io.InputStream;
+import java.net.HttpURLConnection;
+import java.net.InetAddress;
+import java.net.InetSocketAddress;
+import java.net.URL;
+import java.nio.charset.StandardCharsets;
+import java.time.Duration;
+import java.time.Instant;
+import java.util.ArrayList;
+import java.util.List;
+import java.util.Map;
+import java.util.concurrent.CopyOnWriteArrayList;
+import org.junit.After;
+import org.junit.Rule;
+import org.junit.Test;
+import org.junit.rules.TemporaryFolder;
+import svid.testing.Issuer;
+import svid.testing.TestClock;
+
+/** What a service gets: claims, hooks, answers, open paths, withdrawals, and what its tests use. */
+@SuppressWarnings("try") // (some are only held)
+public class ServiceTest {
+    @Rule public final TemporaryFolder room = new TemporaryFolder();
+
+    private final TestClock clock = new TestClock();
+    private final Issuer issuer = new Issuer("example.org", clock);
+
+    private Options options() {
+        return Options.audiences("ledger", "books").clock(clock);
+    }
+
+    private Validator open(Options options) {
+        return Validator.open(options, issuer.bundles());
+    }
+
+    /** No thread stays of a validator that is closed. */
+    @After
+    public void nothingStays() throws Exception {
+        until(() -> Thread.getAllStackTraces().keySet().stream().noneMatch(it -> it.getName().equals(Hearing.THREAD)));
+    }
+
+    @Test
+    public void whatAServiceGets() throws Exception {
+        try (Validator validator = open(options())) {
+            String token = issuer.token("/billing/api",
+                    Map.of("aud", List.of("x", "books", "ledger"), "team", "pay", "level", 7, "share", 0.5, "roles", List.of("a", true)));
+            for (Admission it : List.of(validator.judge(token), validator.check(token))) {
+                assertEquals("books", it.audience());
+                assertEquals(SpiffeId.parse("spiffe://example.org/billing/api"), it.spiffeId());
+                assertTrue(it.keyId(), it.keyId().length() == 36);
+                Map<String, Object> claims = it.claims();
+                assertEquals("pay", claims.get("team"));
+                assertEquals(7L, claims.get("level"));
+                assertEquals(0.5, claims.get("share"));
+                assertEquals(List.of("a", true), claims.get("roles"));
+                assertEquals(it.expirySeconds(), claims.get("exp"));
+                assertEquals(it.spiffeId().toString(), claims.get("sub"));
+                claims.clear();
+                assertFalse(it.claims().isEmpty());
+            }
+        }
+    }
+
+    /** Without an audience no validator is made; the life of a token has a limit unless the caller says otherwise. */
+    @Test
+    public void whatIsUsual() throws Exception {
+        assertThrows(IllegalArgumentException.class, () -> Options.audiences(List.of()));
+        long now = clock.instant().getEpochSecond();
+        try (Validator validator = open(options()); Validator any = open(options().anyLife())) {
+            validator.check(issuer.token("/a", Map.of("aud", "ledger", "exp", now + 3600)));
+            String late = issuer.token("/a", Map.of("aud", "ledger", "exp", now + 3601));
+            assertEquals("TooLongLived", assertThrows(Refusal.class, () -> validator.check(late)).reason().toString());
+            any.check(late);
+        }
+    }
+
+    @Test
+    public void eachDenialIsTold() throws Exception {
+        List<String> told = new CopyOnWriteArrayList<>();
+        Options options = options().denied(why -> {
+            told.add(why.word());
+            throw new IllegalStateException("a hook may fail");
+        });
+        try (Validator validator = open(options.callers(IdPattern.of("spiffe://example.org/billing/*")))) {
+            String token = issuer.token("/billing/api", "ledger");
+            validator.check(token);
+            assertThrows(Refusal.class, () -> validator.check(token));
+            assertThrows(SvidException.NotAllowed.class, () -> validator.check(issuer.token("/other", "ledger")));
+            assertThrows(Denied.NoToken.class, () -> validator.admit(null));
+            assertThrows(Denied.NoToken.class, () -> validator.admit(List.of("Basic x")));
+            assertThrows(Refusal.class, () -> validator.admit(List.of("Bearer " + token)));
+            assertThrows(Denied.NotAllowed.class, () -> validator.admit(List.of("Bearer " + issuer.token("/other", "ledger"))));
+        }
+        assertEquals(List.of("Replayed", "NotAllowed", "NoToken", "NotBearer", "Replayed", "NotAllowed"), told);
+    }
+
+    // -- Answers
+
+    /** The status of an answer and its headers, and the body. */
+    private static String asked(String method, int port, String path, String... values) throws IOException {
+        HttpURLConnection connection = (HttpURLConnection) new URL("http://127.0.0.1:" + port + path).openConnection();
+        connection.setReadTimeout(30_000);
+        connection.setRequestMethod(method);
+        for (String it : values) {
+            connection.addRequestProperty("Authorization", it);
+        }
+        StringBuilder said = new StringBuilder().append(connection.getResponseCode());
+        for (String it : List.of("WWW-Authenticate", "Retry-After", "Cache-Control", "Content-Type")) {
+            String value = connection.getHeaderField(it);
+            said.append(value == null ? "" : " | " + value);
+        }
+        try (InputStream body = connection.getResponseCode() < 400 ? connection.getInputStream() : connection.getErrorStream()) {
+            String text = body == null ? "" : new String(body.readAllBytes(), StandardCharsets.UTF_8).strip();
+            return text.isEmpty() ? said.toString() : said + " | " + text;
+        }
+    }
+
+    @Test
+    public void answersAsSvidd() throws Exception {
+        String json = " | no-store | application/json | ";
+        TestClock ahead = new TestClock();
+        try (Validator validator = Validator.open(options().clock(ahead).step(Duration.ofHours(1)), issuer.bundles())) {
+            HttpServer server = HttpServer.create(new InetSocketAddress(InetAddress.getLoopbackAddress(), 0), 0);
+            ProtectedHandler handler = new ProtectedHandler(validator, List.of(IdPattern.of("spiffe://example.org/billing/*")),
+                    (exchange, admission) -> exchange.sendResponseHeaders(admission == null ? 202 : 204, -1));
+            server.createContext("/", handler.open("/healthz", "/static/*"));
+            server.start();
+            int port = server.getAddress().getPort();
+            try {
+                String bearer = "Bearer " + issuer.token("/billing/api", "ledger");
+                assertEquals("204", asked("GET", port, "/", bearer));
+                String replayed = "401 | Bearer error=\"invalid_token\", error_description=\"Replayed\"" + json;
+                assertEquals(replayed + "{\"reason\":\"Replayed\",\"result\":\"refused\"}", asked("GET", port, "/", bearer));
+                assertEquals(replayed.substring(0, replayed.length() - 3), asked("HEAD", port, "/", bearer));
+                assertEquals(
+                        "401 | Bearer realm=\"svid\"" + json + "{\"reason\":\"NoToken\",\"result\":\"refused\"}", asked("GET", port, "/"));
+                assertEquals("401 | Bearer realm=\"svid\"" + json + "{\"reason\":\"NotBearer\",\"result\":\"refused\"}",
+                        asked("GET", port, "/", "Basic x"));
+                assertEquals("401 | Bearer error=\"invalid_request\", error_description=\"NotBearer\"" + json
+                                + "{\"reason\":\"NotBearer\",\"result\":\"refused\"}",
+                        asked("GET", port, "/", "Bearer"));
+                assertEquals("403 | Bearer error=\"insufficient_scope\", error_description=\"NotAllowed\"" + json
+                                + "{\"reason\":\"NotAllowed\",\"result\":\"refused\"}",
+                        asked("GET", port, "/", "Bearer " + issuer.token("/other", "ledger")));
+                for (String path : List.of("/healthz", "/static/a", "/static/a/b.css")) {
+                    assertEquals("202", asked("GET", port, path));
+                    assertEquals("202", asked("GET", port, path + "?x=..", "Bearer none"));
+                }
+                for (String path : List.of("/healthz/", "/Healthz", "/static", "/static/", "/static/../", "/static/%2e%2e/x", "/static//x",
+                             "/%68ealthz", "/static/./x")) {
+                    assertTrue(path, asked("GET", port, path).startsWith("401"));
+                }
+                ahead.advance(Duration.ofHours(2));
+                assertEquals("503 | 1" + json + "{\"reason\":\"ClockJump\",\"result\":\"unavailable\"}",
+                        asked("GET", port, "/", "Bearer " + issuer.token("/billing/api", "ledger")));
+            } finally {
+                server.stop(0);
+            }
+            for (String path : List.of("healthz", "", "/a/../b", "/a//b", "/a%20b", "/*/a", "/a*")) {
+                assertThrows(path, IllegalArgumentException.class, () -> handler.open(path));
+            }
+        }
+    }
+
+    // -- Withdrawals
+
+    private static String judged(Validator validator, String token) {
+        try {
+            return validator.judge(token).spiffeId().path();
+        } catch (Refusal why) {
+            return why.reason().toString();
+        }
+    }
+
+    /** In each mode but STRICT a validator hears of withdrawals, keeps them over a restart, and is ready once it knows all. */
+    @Test
+    public void withdrawalsAreHeard() throws Exception {
+        for (Mode mode : List.of(Mode.ONCE, Mode.BOUND, Mode.REUSE)) {
+            MemoryStore store = new MemoryStore();
+            Options options = options().mode(mode).state(room.getRoot().toPath().resolve(mode.name()));
+            String before = issuer.token("/a", "ledger");
+            String meanwhile = issuer.token("/b", "ledger");
+            String other = issuer.token("/c", "ledger");
+            try (Validator from = open(options().mode(Mode.REUSE).store(store))) {
+                from.withdraw(before);
+                try (Validator validator = open(options.store(store))) {
+                    until(validator::isReady);
+                    assertEquals("Withdrawn", judged(validator, before));
+                    assertEquals("/b", judged(validator, meanwhile));
+                    from.withdraw(meanwhile);
+                    until(() -> judged(validator, meanwhile).equals("Withdrawn"));
+                    assertEquals("/c", judged(validator, other));
+                    long uses = validator.size().uses();
+                    validator.withdraw(other);
+                    assertEquals(uses + 1, validator.size().uses());
+                    store.lose();
+                    from.withdraw(issuer.token("/d", "ledger"));
+                    until(() -> validator.size().uses() == uses + 2);
+                }
+            }
+            try (Validator validator = open(options.store(new MemoryStore()))) {
+                assertEquals("Withdrawn", judged(validator, before));
+                assertEquals("Withdrawn", judged(validator, meanwhile));
+            }
+        }
+    }
+
+    /** A store that tells of them as a test wants. */
+    private static class Telling implements Store {
+        final MemoryStore store = new MemoryStore();
+        final List<String> asked = new CopyOnWriteArrayList<>();
+        volatile boolean isAway;
+        volatile boolean isNew; // it knows no position
+        volatile List<Withdrawal> all = List.of();
+
+        @Override
+        public List<Found> put(List<Claim> claims) {
+            return store.put(claims);
+        }
+
+        @Override
+        public void withdraw(TokenKey key, Instant expiry) {
+            store.withdraw(key, expiry);
+        }
+
+        @Override
+        public Withdrawals withdrawals(String after) throws Exception {
+            asked.add(after);
+            if (isAway) {
+                throw new IOException("the store is away");
+            }
+            int from = after.isEmpty() || isNew ? 0 : Integer.parseInt(after);
+            isNew = false;
+            int to = Math.min(all.size(), from + 1);
+            return new Withdrawals(all.subList(from, to), Integer.toString(to));
+        }
+    }
+
+    /** They are read page by page; a store that is away is asked again, and the validator is not ready meanwhile. */
+    @Test
+    public void aStoreThatTellsOfThem() throws Exception {
+        Telling store = new Telling();
+        store.isAway = true;
+        List<String> tokens = new ArrayList<>();
+        List<Store.Withdrawal> all = new ArrayList<>();
+        for (int n = 0; n < 3; n++) {
+            tokens.add(issuer.token("/a", "ledger"));
+            Says said = Validator.says(tokens.get(n));
+            all.add(new Store.Withdrawal(said.key(), said.expiry()));
+        }
+        // (one of a token that has expired is passed over, and one that comes twice stands there once)
+        all.add(1, new Store.Withdrawal(all.get(0).key(), clock.instant().minusSeconds(5)));
+        all.add(all.get(0));
+        store.all = all;
+        try (Validator validator = open(options().mode(Mode.BOUND).store(store).wait(Duration.ofMillis(200)))) {
+            until(() -> store.asked.size() > 1);
+            assertFalse(validator.isReady());
+            try (Validator once = open(options().store(store).wait(Duration.ofMillis(1)))) {
+                until(() -> once.unready().orElse("").equals("The store's withdrawals are being read."));
+            }
+            store.isAway = false;
+            until(validator::isReady);
+            for (String it : tokens) {
+                assertEquals("Withdrawn", judged(validator, it));
+            }
+            assertEquals(3, validator.size().uses());
+            store.asked.clear();
+            until(() -> store.asked.size() > 1);
+            assertEquals(List.of("5", "5"), store.asked.subList(0, 2));
+            clock.advance(Duration.ofSeconds(1));
+            store.isNew = true;
+            until(() -> store.asked.contains("4"));
+            until(() -> store.asked.get(store.asked.size() - 1).equals("5"));
+            assertEquals(3, validator.size().uses());
+            store.isAway = true;
+            until(() -> !validator.isReady());
+            assertTrue(validator.unready().orElse("").contains("store"));
+        }
+        int before = store.asked.size();
+        try (Validator strict = open(options().mode(Mode.STRICT).store(store))) {
+            until(strict::isReady);
+            assertEquals(before, store.asked.size());
+        }
+    }
+
+    // -- What tests of a service use
+
+    @Test
+    public void whatTestsUse() throws Exception {
+        MemoryStore store = new MemoryStore(clock, Duration.ofMinutes(1), Duration.ofHours(1));
+        try (Validator validator = open(options().mode(Mode.STRICT).store(store))) {
+            Map<Issuer.Wrong, String> reasons =
+                    Map.of(Issuer.Wrong.EXPIRED, "Expired", Issuer.Wrong.NOT_YET, "NotYet", Issuer.Wrong.AUDIENCE, "NotAudience",
+                            Issuer.Wrong.SIGNATURE, "BadSignature", Issuer.Wrong.KEY, "NoKey", Issuer.Wrong.MALFORMED, "NotThreeParts");
+            for (Issuer.Wrong it : Issuer.Wrong.values()) {
+                String token = issuer.wrong(it, "/a", "ledger");
+                assertEquals(reasons.get(it), assertThrows(Refusal.class, () -> validator.check(token)).reason().toString());
+            }
+            String token = issuer.token("/a", "ledger");
+            clock.advance(Duration.ofMinutes(59));
+            assertEquals("/a", validator.check(token).spiffeId().path());
+            clock.advance(Duration.ofMinutes(1));
+            assertEquals("Expired", assertThrows(Refusal.class, () -> validator.check(token)).reason().toString());
+            // (a store that lost entries lets in no token that may have been used)
+            store.lose();
+            assertThrows(SvidException.Unavailable.class, () -> validator.check(issuer.token("/a", "ledger")));
+            clock.set(clock.instant().plus(Duration.ofHours(2)));
+            validator.check(issuer.token("/a", Map.of("aud", "ledger", "iat", 1)));
+            issuer.rotate();
+            String rotated = issuer.token("/a", "ledger");
+            assertEquals("NoKey", assertThrows(Refusal.class, () -> validator.check(rotated)).reason().toString());
+            validator.renew(issuer.bundles());
+            validator.check(rotated);
+        }
+    }
+}

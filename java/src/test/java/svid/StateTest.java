@@ -1,0 +1,872 @@
+package svid;
+
+import static org.junit.Assert.assertArrayEquals;
+import static org.junit.Assert.assertEquals;
+import static org.junit.Assert.assertFalse;
+import static org.junit.Assert.assertNotEquals;
+import static org.junit.Assert.assertThrows;
+import static org.junit.Assert.assertTrue;
+import static svid.Making.PATIENCE;
+import static svid.Making.token;
+import static svid.Making.until;
+
+import com.google.gson.JsonObject;
+import com.sun.jna.Pointer;
+import java.io.IOException;
+import java.io.UncheckedIOException;
+import java.nio.ByteBuffer;
+import java.nio.file.Files;
+import java.nio.file.NoSuchFileException;
+import java.nio.file.Path;
+import java.nio.file.StandardCopyOption;
+import java.nio.file.attribute.PosixFilePermissions;
+import java.time.Duration;
+import java.time.Instant;
+import java.util.ArrayList;
+import java.util.Comparator;
+import java.util.HashMap;
+import java.util.HashSet;
+import java.util.List;
+import java.util.Map;
+import java.util.Set;
+import java.util.TreeSet;
+import java.util.concurrent.CompletableFuture;
+import java.util.concurrent.ConcurrentSkipListSet;
+import java.util.concurrent.CopyOnWriteArrayList;
+import java.util.concurrent.CountDownLatch;
+import java.util.concurrent.TimeUnit;
+import java.util.concurrent.atomic.AtomicInteger;
+import java.util.stream.Stream;
+import org.junit.Rule;
+import org.junit.Test;
+import org.junit.rules.TemporaryFolder;
+
+/** A state folder: what it keeps over restarts, kills, losses of power, and calls that fail. */
+@SuppressWarnings("try") // (some are only held)
+public class StateTest {
+    private static final long BEGUN = Instant.now().getEpochSecond();
+    private static final int USES = 8;
+
+    @Rule public final TemporaryFolder temporary = new TemporaryFolder();
+
+    private Path room() {
+        return temporary.getRoot().toPath().toAbsolutePath();
+    }
+
+    /** The message of a use of now, by a number. */
+    private static byte[] use(int number) {
+        byte[] key = ByteBuffer.allocate(TokenKey.LEN).put(TokenKey.LEN - 1, (byte) number).array();
+        return new Admission.Use(BEGUN + 3600, BEGUN, key, new byte[16]).message(false);
+    }
+
+    /** Keeps messages, and awaits that. */
+    private static void append(Journal journal, byte[] messages) throws Exception {
+        CompletableFuture<Exception> told = new CompletableFuture<>();
+        journal.keep(messages, told::complete);
+        Exception why = told.get(PATIENCE, TimeUnit.SECONDS);
+        if (why != null) {
+            throw why;
+        }
+    }
+
+    private static Journal open(Path folder) throws IOException {
+        return new Journal(folder, new Disk());
+    }
+
+    /** The numbers of the uses that a start finds in a folder. */
+    private static Set<Integer> found(Path folder) throws Exception {
+        try (Journal journal = open(folder); Validator validator = Vectors.empty()) {
+            journal.load(validator::take);
+            Set<Integer> numbers = new TreeSet<>();
+            validator.report()
+                    .lines()
+                    .filter(it -> it.matches("\\d+ [0-9a-f]{64} .*"))
+                    .forEach(it -> numbers.add(Integer.parseInt(it.split(" ")[1].substring(62), 16)));
+            return numbers;
+        }
+    }
+
+    private static List<String> names(Path folder) throws IOException {
+        try (Stream<Path> files = Files.list(folder)) {
+            return files.map(it -> it.getFileName().toString()).sorted().toList();
+        }
+    }
+
+    private static void removeAll(Path folder) throws IOException {
+        List<Path> all;
+        try (Stream<Path> found = Files.walk(folder)) {
+            all = found.sorted(Comparator.reverseOrder()).toList();
+        }
+        for (Path it : all) {
+            Files.delete(it);
+        }
+    }
+
+    private static Validator validator(Path folder) {
+        return Validator.open(Vectors.ledger().state(folder), Making.bundles());
+    }
+
+    private static String refused(Validator validator, String token) {
+        return assertThrows(Refusal.class, () -> validator.check(token)).reason().toString();
+    }
+
+    @Test
+    public void goesOnWithItsRecord() throws Exception {
+        Path folder = room().resolve("state");
+        String used = token();
+        String withdrawn = token();
+        String taken = token();
+        byte[] id;
+        try (Validator validator = validator(folder); Validator other = Validator.open(Vectors.ledger(), Making.bundles())) {
+            id = Vectors.bytes(use(validator, used), "id");
+            validator.withdraw(withdrawn);
+            other.check(taken);
+            assertEquals("Replayed", refused(validator, used));
+        }
+        try (Validator validator = validator(folder)) {
+            assertEquals("Replayed", refused(validator, used));
+            assertEquals("Withdrawn", refused(validator, withdrawn));
+            assertArrayEquals(id, Vectors.bytes(use(validator, token()), "id"));
+            assertEquals(3, validator.size().uses());
+            assertTrue(validator.isReady());
+        }
+        assertEquals(Vectors.hex(id) + "\n", Files.readString(folder.resolve("place")));
+        assertEquals(Set.of("rw-------"), permissions(folder));
+        assertEquals("rwx------", PosixFilePermissions.toString(Files.getPosixFilePermissions(folder)));
+        assertThrows(IllegalArgumentException.class,
+                () -> { Validator.open(Vectors.ledger().state(folder).validatorId(new byte[16]), "{}").close(); });
+        assertThrows(UncheckedIOException.class, () -> validator(room().resolve("none/state")));
+    }
+
+    /** The ID of the validator in the message of an acceptance, as hexadecimal digits. */
+    private static JsonObject use(Validator validator, String token) throws Refusal {
+        String line = "";
+        Admission admission = validator.check(token);
+        for (String it : validator.report().lines().toList()) {
+            line = it.contains(admission.key().toString()) ? it : line;
+        }
+        JsonObject found = new JsonObject();
+        found.addProperty("id", line.split(" ")[2]);
+        return found;
+    }
+
+    private static Set<String> permissions(Path folder) throws IOException {
+        Set<String> all = new HashSet<>();
+        for (String it : names(folder)) {
+            all.add(PosixFilePermissions.toString(Files.getPosixFilePermissions(folder.resolve(it))));
+        }
+        return all;
+    }
+
+    /** Each mode keeps withdrawals. A store of another group has none of them. */
+    @Test
+    public void eachModeKeepsWithdrawals() throws Exception {
+        for (Mode mode : Mode.values()) {
+            Path folder = room().resolve(mode.name());
+            String token = token();
+            for (boolean isFirst : List.of(true, false)) {
+                Options options = Vectors.ledger().state(folder).mode(mode);
+                options = mode.hasStore() ? options.store(new MemoryStore()) : options;
+                try (Validator validator = Validator.open(options, Making.bundles())) {
+                    if (isFirst) {
+                        validator.withdraw(token);
+                    } else {
+                        assertEquals("Withdrawn", assertThrows(Refusal.class, () -> validator.judge(token)).reason().toString());
+                    }
+                }
+            }
+        }
+    }
+
+    /** One process holds a folder: others see that by flock, as svidd and the packages of other languages do. */
+    @Test
+    public void oneProcessHoldsAFolder() throws Exception {
+        Path folder = room().resolve("state");
+        String[] ask = {"flock", "-n", folder.resolve("lock").toString(), "true"};
+        try (Validator validator = validator(folder)) {
+            SvidException.Held held = assertThrows(SvidException.Held.class, () -> validator(folder));
+            assertTrue(held.getMessage(), held.getMessage().contains("process " + ProcessHandle.current().pid() + " since 20"));
+            assertNotEquals(0, new ProcessBuilder(ask).start().waitFor());
+        }
+        assertEquals(0, new ProcessBuilder(ask).start().waitFor());
+        // (one that is not opened lets go of it at once)
+        assertThrows(SvidException.BadBundles.class, () -> Validator.open(Vectors.ledger().state(folder), "[]"));
+        validator(folder).close();
+        Process other = new ProcessBuilder("flock", folder.resolve("lock").toString(), "cat").start();
+        until(() -> {
+            try {
+                validator(folder).close();
+                return false;
+            } catch (SvidException.Held why) {
+                return true;
+            }
+        });
+        other.getOutputStream().close();
+        other.waitFor();
+        validator(folder).close();
+    }
+
+    @Test
+    public void aDroppedValidatorLetsGo() throws Exception {
+        Path folder = room().resolve("state");
+        dropped(folder);
+        until(() -> {
+            System.gc();
+            try {
+                validator(folder).close();
+                return true;
+            } catch (SvidException.Held why) {
+                return false;
+            }
+        });
+    }
+
+    private static void dropped(Path folder) throws Refusal {
+        validator(folder).check(token());
+    }
+
+    @Test
+    public void closed() throws Exception {
+        Path folder = room().resolve("state");
+        Validator validator = validator(folder);
+        validator.close();
+        validator.close();
+        assertThrows(SvidException.Closed.class, () -> validator.check(token()));
+        Journal journal = open(folder);
+        journal.close();
+        journal.close();
+        assertThrows(SvidException.Closed.class, () -> append(journal, use(1)));
+        assertThrows(SvidException.Closed.class, () -> journal.snapshot(sink -> {}));
+        assertFalse(Thread.getAllStackTraces().keySet().stream().anyMatch(it -> it.getName().equals(Journal.THREAD) && it.isAlive()));
+    }
+
+    @Test
+    public void startsDoNotFillTheFolder() throws Exception {
+        Path folder = room().resolve("state");
+        for (int n = 0; n < 30; n++) {
+            validator(folder).close();
+        }
+        assertTrue(names(folder).toString(), names(folder).size() < 13);
+    }
+
+    /** A long journal becomes a snapshot, while others append. */
+    @Test
+    public void aLongJournalBecomesASnapshot() throws Exception {
+        Path folder = room().resolve("state");
+        try (Journal journal = open(folder)) {
+            journal.snapshot(sink -> {});
+            assertFalse(journal.wantsSnapshot());
+            for (int n = 0; n < 4; n++) {
+                append(journal, concatenated(2_200_000));
+            }
+            assertTrue(journal.wantsSnapshot());
+            journal.snapshot(sink -> sink.take(use(1)));
+            append(journal, use(2));
+            assertFalse(journal.wantsSnapshot());
+        }
+        assertEquals(Set.of(1, 2), found(folder));
+        assertFalse(names(folder).contains("journal.1"));
+    }
+
+    /** So many bytes of messages. */
+    private static byte[] concatenated(int least) {
+        byte[] one = use(3);
+        ByteBuffer all = ByteBuffer.allocate((least / one.length + 1) * one.length);
+        while (all.hasRemaining()) {
+            all.put(one);
+        }
+        return all.array();
+    }
+
+    @Test
+    public void whatIsNoFile() throws Exception {
+        for (String name : List.of("lock", "place", "snapshot", "journal.1")) {
+            Path folder = room().resolve(name);
+            Files.createDirectory(folder);
+            HeaderTest.ran("mkfifo", folder.resolve(name).toString());
+            IOException why = assertThrows(name, IOException.class, () -> open(folder));
+            assertTrue(why.getMessage(), why.getMessage().contains("it is no regular file"));
+        }
+        Path file = Files.createFile(room().resolve("file"));
+        assertThrows(IOException.class, () -> open(file));
+    }
+
+    @Test
+    public void anIdThatIsLostOrBad() throws Exception {
+        Path folder = room().resolve("state");
+        try (Journal journal = open(folder)) {
+            append(journal, use(1));
+        }
+        Files.writeString(folder.resolve("place"), "no ID");
+        SvidException.BadFolder bad = assertThrows(SvidException.BadFolder.class, () -> open(folder));
+        assertEquals(folder.resolve("place").toString(), bad.file());
+        Files.delete(folder.resolve("place"));
+        for (int n = 0; n < 2; n++) { // (each time it lets go of the folder)
+            bad = assertThrows(SvidException.BadFolder.class, () -> open(folder));
+            assertTrue(bad.getMessage(), bad.getMessage().contains("place is missing"));
+        }
+        assertFalse(names(folder).contains("place"));
+    }
+
+    @Test
+    public void aFolderOfAnOlderVersion() throws Exception {
+        Path folder = Files.createDirectory(room().resolve("state"));
+        Files.write(folder.resolve("journal.1"), use(1));
+        Files.writeString(folder.resolve("place"), "07".repeat(16));
+        assertTrue(assertThrows(SvidException.BadFolder.class, () -> open(folder)).getMessage().contains("is of an older svidd"));
+        Files.createFile(folder.resolve("frames"));
+        assertTrue(assertThrows(SvidException.BadFolder.class, () -> open(folder)).getMessage().contains("is of an older svidd"));
+    }
+
+    /** Each changed bit of what was synced is found, and the file is named. */
+    @Test
+    public void damageIsFound() throws Exception {
+        Path folder = room().resolve("state");
+        try (Journal journal = open(folder)) {
+            append(journal, use(1));
+            append(journal, use(2));
+        }
+        byte[] good = Files.readAllBytes(folder.resolve("journal.1"));
+        for (int at = 0; at < 100; at += 7) {
+            byte[] bad = good.clone();
+            bad[at] ^= 4;
+            Files.write(folder.resolve("journal.1"), bad);
+            SvidException.BadFolder why = assertThrows(SvidException.BadFolder.class, () -> open(folder));
+            assertEquals(folder.resolve("journal.1").toString(), why.file());
+        }
+    }
+
+    // -- A disk that hangs, or fails
+
+    /** A disk that does something before each call that changes it. */
+    private static class Fickle extends Disk {
+        interface Before {
+            void call(String name) throws IOException;
+        }
+
+        volatile Before before = name -> {};
+
+        @Override
+        void makeFolder(Path path) throws IOException {
+            if (Files.exists(path)) {
+                super.makeFolder(path);
+            }
+            before.call("makeFolder");
+            super.makeFolder(path);
+        }
+
+        @Override
+        void remove(Path path) throws IOException {
+            if (Files.exists(path)) {
+                before.call("remove");
+            }
+            super.remove(path);
+        }
+
+        @Override
+        void rename(Path old, Path name) throws IOException {
+            before.call("rename");
+            super.rename(old, name);
+        }
+
+        @Override
+        int create(Path path) throws IOException {
+            before.call("create");
+            return super.create(path);
+        }
+
+        @Override
+        void write(int file, Pointer bytes, long len, long at) throws IOException {
+            before.call("write");
+            super.write(file, bytes, len, at);
+        }
+
+        @Override
+        void sync(int folder) throws IOException {
+            before.call("sync");
+        }
+
+        @Override
+        void syncData(int file) throws IOException {
+            before.call("syncData");
+        }
+    }
+
+    private static final Fickle.Before FULL = name -> {
+        if (name.equals("write")) {
+            throw new IOException("no space left");
+        }
+    };
+
+    /** A full disk is a passing fault: a validator says that, is not ready, tries again, and is well again. */
+    @Test
+    public void aFullDiskIsAPassingFault() throws Exception {
+        Fickle disk = new Fickle();
+        String late = token();
+        try (Journal journal = new Journal(room().resolve("state"), disk)) {
+            Options options = Vectors.ledger();
+            Member member = new Member(options, Making.bundles().getBytes(), journal);
+            member.begin(BEGUN);
+            member.check(token().getBytes(), () -> BEGUN, null);
+            disk.before = FULL;
+            SvidException.Unavailable why =
+                    assertThrows(SvidException.Unavailable.class, () -> member.check(late.getBytes(), () -> BEGUN, null));
+            assertTrue(why.getMessage(), why.getMessage().contains("no space left"));
+            assertNotEquals(null, member.unready(BEGUN));
+            disk.before = name -> {};
+            until(() -> member.unready(BEGUN) == null);
+            member.check(token().getBytes(), () -> BEGUN, null);
+            // (its use is there, so that nobody is let in by it again)
+            assertEquals(
+                    "Replayed", assertThrows(Refusal.class, () -> member.check(late.getBytes(), () -> BEGUN, null)).reason().toString());
+            member.close();
+        }
+    }
+
+    /** A check waits for the disk, but no longer than it wants. A withdrawal then may not last. */
+    @Test
+    public void aDiskThatHangs() throws Exception {
+        Fickle disk = new Fickle();
+        CountDownLatch open = new CountDownLatch(1);
+        try (Journal journal = new Journal(room().resolve("state"), disk)) {
+            Member member = new Member(Vectors.ledger().wait(Duration.ofMillis(200)), Making.bundles().getBytes(), journal);
+            member.begin(BEGUN);
+            disk.before = name -> Making.await(open);
+            assertThrows(SvidException.Unavailable.class, () -> member.check(token().getBytes(), () -> BEGUN, null));
+            assertNotEquals(null, member.unready(BEGUN));
+            Says said = Says.of(token());
+            SvidException.Unavailable why =
+                    assertThrows(SvidException.Unavailable.class, () -> member.withdraw(BEGUN, said.key(), said.expiry().getEpochSecond()));
+            assertTrue(why.getMessage(), why.getMessage().contains("withdraw it again"));
+            open.countDown();
+            until(() -> member.unready(BEGUN) == null);
+            member.close();
+        }
+    }
+
+    @Test
+    public void threadsShareASync() throws Exception {
+        Fickle disk = new Fickle();
+        try (Journal journal = new Journal(room().resolve("state"), disk)) {
+            CountDownLatch open = new CountDownLatch(1);
+            AtomicInteger syncs = new AtomicInteger();
+            disk.before = name -> {
+                syncs.addAndGet(name.equals("syncData") ? 1 : 0);
+                Making.await(open);
+            };
+            List<CompletableFuture<Exception>> told = new ArrayList<>();
+            for (int n = 0; n < 20; n++) {
+                told.add(new CompletableFuture<>());
+                journal.keep(use(n), told.get(n)::complete);
+            }
+            open.countDown();
+            for (CompletableFuture<Exception> it : told) {
+                assertEquals(null, it.get(PATIENCE, TimeUnit.SECONDS));
+            }
+            assertTrue(syncs + " syncs", syncs.get() <= 3);
+        }
+        assertEquals(20, found(room().resolve("state")).size());
+    }
+
+    /** Too much that waits for a disk is answered so. */
+    @Test
+    public void aDiskThatDoesNotAnswerHoldsSoMuch() throws Exception {
+        Fickle disk = new Fickle();
+        CountDownLatch open = new CountDownLatch(1);
+        try (Journal journal = new Journal(room().resolve("state"), disk)) {
+            disk.before = name -> Making.await(open);
+            List<Exception> told = new CopyOnWriteArrayList<>();
+            byte[] much = concatenated(8_000_000);
+            for (int n = 0; n < 4 && told.isEmpty(); n++) {
+                journal.keep(much, told::add);
+            }
+            assertTrue(told.toString(), told.get(0) instanceof SvidException.Unavailable);
+            open.countDown();
+        }
+    }
+
+    @Test
+    public void aMarkStandsBehindABurst() throws Exception {
+        Path folder = room().resolve("state");
+        try (Journal journal = open(folder)) {
+            append(journal, use(1));
+            until(() -> marks(folder, journal.validatorId()) == 1);
+            append(journal, use(2));
+        }
+        byte[] id = Vectors.bytes(identified(folder), "id");
+        assertEquals(2, marks(folder, id));
+    }
+
+    private static JsonObject identified(Path folder) throws IOException {
+        JsonObject made = new JsonObject();
+        made.addProperty("id", Files.readString(folder.resolve("place")).strip());
+        return made;
+    }
+
+    /** How many marks the first journal has. */
+    private static int marks(Path folder, byte[] id) throws IOException {
+        try (Room room = new Room()) {
+            Kept.Reading reading = new Kept.Reading(room, id, 1, Files.readAllBytes(folder.resolve("journal.1")));
+            int[] status = {0};
+            int marks = 0;
+            for (byte[] it = reading.next(status); it != null; it = reading.next(status)) {
+                marks += it.length == 0 ? 1 : 0;
+            }
+            return marks;
+        }
+    }
+
+    /** After a sync that failed nothing is kept, until the next start. */
+    @Test
+    public void nothingIsKeptBehindASyncThatFailed() throws Exception {
+        Fickle disk = new Fickle();
+        Path folder = room().resolve("state");
+        try (Journal journal = new Journal(folder, disk)) {
+            append(journal, use(1));
+            disk.before = name -> {
+                if (name.equals("syncData")) {
+                    throw new IOException("no disk");
+                }
+            };
+            assertTrue(assertThrows(SvidException.Unavailable.class, () -> append(journal, use(2))).getMessage().contains("no disk"));
+            disk.before = name -> {};
+            for (int n = 0; n < 2; n++) {
+                SvidException why = assertThrows(SvidException.Unavailable.class, () -> append(journal, use(3)));
+                assertTrue(why.getMessage(), why.getMessage().contains("start the service again"));
+                assertThrows(SvidException.Unavailable.class, () -> journal.snapshot(sink -> sink.take(use(1))));
+            }
+        }
+        Set<Integer> found = found(folder);
+        assertTrue(found.toString(), found.contains(1) && !found.contains(3));
+    }
+
+    // -- A folder that is not at its path
+
+    private interface Move {
+        void of(Path folder) throws IOException;
+    }
+
+    /** Another process may have begun at its path: no acceptance is told, and its files stay. */
+    @Test
+    public void aFolderThatIsMovedKeepsNothing() throws Exception {
+        Move emptied = folder -> {
+            removeAll(folder);
+            Files.createDirectory(folder);
+        };
+        Map<String, Move> moves = new HashMap<>();
+        moves.put("removed", StateTest::removeAll);
+        moves.put("moved", folder -> Files.move(folder, folder.resolveSibling("old")));
+        moves.put("emptied", emptied);
+        moves.put("without its lock", folder -> Files.delete(folder.resolve("lock")));
+        for (String how : moves.keySet()) {
+            Path folder = Files.createDirectory(room().resolve(how)).resolve("state");
+            try (Journal journal = open(folder)) {
+                append(journal, use(1));
+                moves.get(how).of(folder);
+                try (Journal other = open(folder)) {
+                    append(other, use(2));
+                    List<String> before = names(folder);
+                    SvidException why = assertThrows(how, SvidException.Unavailable.class, () -> append(journal, use(2)));
+                    assertTrue(why.getMessage(), why.getMessage().contains("put it back there, and start"));
+                    assertThrows(SvidException.Unavailable.class, () -> append(journal, use(3)));
+                    assertThrows(SvidException.Unavailable.class, () -> journal.snapshot(sink -> sink.take(use(1))));
+                    assertEquals(before, names(folder));
+                    append(other, use(4));
+                }
+            }
+            assertTrue(found(folder).containsAll(Set.of(2, 4)));
+        }
+    }
+
+    @Test
+    public void aSnapshotOfAFolderThatIsMovedChangesNoOtherOne() throws Exception {
+        Path folder = room().resolve("state");
+        try (Journal journal = open(folder)) {
+            append(journal, use(1));
+            Files.move(folder, room().resolve("old"));
+            try (Journal other = open(folder)) {
+                append(other, use(2));
+                List<String> before = names(folder);
+                assertThrows(SvidException.Unavailable.class, () -> journal.snapshot(sink -> sink.take(use(1))));
+                assertEquals(before, names(folder));
+            }
+        }
+        assertEquals(Set.of(2), found(folder));
+    }
+
+    // -- A disk, call by call
+
+    /**
+     * A disk that knows what it surely has: the folder itself, the bytes of each file at its last sync, and the names at the last sync of
+     * the folder. No later sync vouches for a name whose sync failed, until the name changes again.
+     */
+    private static final class Sure extends Fickle {
+        final Path folder;
+        private final Map<Object, byte[]> synced = new HashMap<>();
+        private Map<String, Object> sure = new HashMap<>();
+        private final Set<String> stuck = new HashSet<>();
+        private boolean isThere;
+        private boolean isStuck;
+
+        Sure(Path folder) {
+            this.folder = folder;
+        }
+
+        private void changed(Path path) {
+            stuck.remove(path.getFileName().toString());
+        }
+
+        @Override
+        void makeFolder(Path path) throws IOException {
+            super.makeFolder(path);
+            isThere = false;
+            isStuck = false;
+        }
+
+        @Override
+        void remove(Path path) throws IOException {
+            super.remove(path);
+            changed(path);
+        }
+
+        @Override
+        void rename(Path old, Path name) throws IOException {
+            super.rename(old, name);
+            changed(name);
+        }
+
+        @Override
+        int create(Path path) throws IOException {
+            int file = super.create(path);
+            changed(path);
+            return file;
+        }
+
+        @Override
+        void syncData(int file) throws IOException {
+            super.syncData(file);
+            Path path = Path.of("/proc/self/fd/" + file);
+            synced.put(identity(path), Files.readAllBytes(path));
+        }
+
+        @Override
+        void sync(int file) throws IOException {
+            boolean isAbove = !Path.of("/proc/self/fd/" + file).toRealPath().equals(folder.toRealPath());
+            Map<String, Object> now = new HashMap<>();
+            for (String it : names(folder)) {
+                now.put(it, identity(folder.resolve(it)));
+            }
+            Set<String> all = new HashSet<>(now.keySet());
+            all.addAll(sure.keySet());
+            try {
+                super.sync(file);
+            } catch (IOException why) {
+                if (isAbove) {
+                    isStuck = !isThere;
+                } else {
+                    all.stream().filter(it -> !java.util.Objects.equals(now.get(it), sure.get(it))).forEach(stuck::add);
+                }
+                throw why;
+            }
+            if (isAbove) {
+                isThere |= !isStuck;
+                return;
+            }
+            Map<String, Object> next = new HashMap<>();
+            sure.forEach((name, it) -> {
+                if (stuck.contains(name)) {
+                    next.put(name, it);
+                }
+            });
+            now.forEach((name, it) -> {
+                if (!stuck.contains(name)) {
+                    next.put(name, it);
+                }
+            });
+            sure = next;
+        }
+
+        /** A folder with what a loss of power surely leaves, or none. */
+        void lost(Path to) throws IOException {
+            if (isThere) {
+                Files.createDirectory(to);
+                for (Map.Entry<String, Object> it : sure.entrySet()) {
+                    if (!it.getKey().equals("lock")) {
+                        Files.write(to.resolve(it.getKey()), synced.getOrDefault(it.getValue(), new byte[0]));
+                    }
+                }
+            }
+        }
+    }
+
+    /** Does what someone does who reads why a start failed. */
+    private static void removed(Path folder, IOException why) throws IOException {
+        if (why.getMessage().contains("remove this folder")) {
+            removeAll(folder);
+        }
+    }
+
+    /** What a process does with a folder. {@code kept} gains each number that it is told to be kept. */
+    private static void run(Sure disk, Set<Integer> kept) throws Exception {
+        Journal journal;
+        try {
+            journal = new Journal(disk.folder, disk);
+        } catch (IOException why) {
+            removed(disk.folder, why);
+            return;
+        }
+        try (journal) {
+            for (int number = 0; number < USES; number++) {
+                if (number == 2 || number == 5) {
+                    List<Integer> have = List.copyOf(kept);
+                    try {
+                        journal.snapshot(sink -> {
+                            for (int it : have) {
+                                sink.take(use(it));
+                            }
+                        });
+                    } catch (IOException | SvidException.Unavailable why) {
+                        // (nothing is lost by it)
+                    }
+                }
+                try {
+                    append(journal, use(number));
+                    kept.add(number);
+                } catch (IOException | SvidException.Unavailable why) {
+                    // (it is not kept)
+                }
+            }
+        }
+    }
+
+    private static Set<Integer> all() {
+        Set<Integer> all = new TreeSet<>();
+        for (int n = 0; n < USES; n++) {
+            all.add(n);
+        }
+        return all;
+    }
+
+    private static void copied(Path from, Path to) throws IOException {
+        Files.createDirectory(to);
+        for (String it : names(from)) {
+            try {
+                Files.copy(from.resolve(it), to.resolve(it), StandardCopyOption.REPLACE_EXISTING);
+            } catch (NoSuchFileException gone) {
+                // (it was removed)
+            }
+        }
+    }
+
+    /** Notes what a loss of power leaves now, and what a kill does. */
+    private synchronized void crashed(Sure disk, Set<Integer> kept, List<Set<Integer>> due) throws IOException {
+        disk.lost(room().resolve("lost " + due.size()));
+        if (Files.exists(disk.folder)) {
+            copied(disk.folder, room().resolve("killed " + due.size()));
+        }
+        due.add(Set.copyOf(kept));
+    }
+
+    /** Of what no sync came behind nothing is there, and of the rest all; or all is there, as after a kill. */
+    @Test
+    public void aLossOfPowerAtEachCallLosesNoAcceptance() throws Exception {
+        Sure disk = new Sure(room().resolve("state"));
+        Set<Integer> kept = new ConcurrentSkipListSet<>();
+        List<Set<Integer>> due = new CopyOnWriteArrayList<>();
+        disk.before = name -> crashed(disk, kept, due);
+        run(disk, kept);
+        assertEquals(all(), kept);
+        assertTrue(due.size() > 40);
+        for (int number = 0; number < due.size(); number++) {
+            for (String how : List.of("lost ", "killed ")) {
+                Path folder = room().resolve(how + number);
+                for (int n = 0; n < 2; n++) {
+                    assertTrue(folder.toString(), found(folder).containsAll(due.get(number)));
+                }
+            }
+        }
+    }
+
+    @Test
+    public void eachCallThatFailsLosesNoAcceptance() throws Exception {
+        for (int failing = 0; failing < 1000; failing++) {
+            Sure disk = new Sure(room().resolve("state"));
+            AtomicInteger count = new AtomicInteger();
+            int number = failing;
+            disk.before = name -> {
+                if (count.getAndIncrement() == number) {
+                    throw new Disk.Failure(name, 5);
+                }
+            };
+            Set<Integer> kept = new TreeSet<>();
+            run(disk, kept);
+            boolean isLast = count.get() <= failing;
+            disk.before = name -> {};
+            run(disk, kept);
+            assertEquals(all(), kept);
+            Path lost = room().resolve("lost");
+            disk.lost(lost);
+            for (Path folder : List.of(disk.folder, lost)) {
+                assertTrue(failing + " " + folder, found(folder).containsAll(kept));
+                removeAll(folder);
+            }
+            if (isLast) {
+                assertTrue(failing > 40);
+                return;
+            }
+        }
+    }
+
+    /** A new folder whose first starts end anywhere: its own name lasts, and that of its ID. */
+    @Test
+    public void aNewFolderWhoseFirstStartsEndAnywhere() throws Exception {
+        Path state = room().resolve("state");
+        Path lost = room().resolve("lost");
+        for (boolean isKilled : List.of(true, false)) {
+            boolean isOver = false;
+            for (int at = 0; !isOver; at++) {
+                boolean isNextOver = false;
+                for (int next = 0; !isNextOver; next++) {
+                    Sure disk = new Sure(state);
+                    isOver = !ends(disk, at, isKilled);
+                    isNextOver = !ends(disk, next, false);
+                    disk.before = name -> {};
+                    try (Journal journal = new Journal(state, disk)) {
+                        append(journal, use(1));
+                    }
+                    disk.lost(lost);
+                    assertEquals(at + " " + next, Set.of(1), found(lost));
+                    removeAll(lost);
+                    removeAll(state);
+                }
+                assertTrue(!isOver || at > 5);
+            }
+        }
+    }
+
+    /** The process is killed, and makes no call after this one. */
+    private static final class Killed extends Error { private static final long serialVersionUID = 1; }
+
+    /** Whether a start ends by the call of this number. */
+    private static boolean ends(Sure disk, int at, boolean isKilled) throws IOException {
+        AtomicInteger count = new AtomicInteger();
+        disk.before = name -> {
+            int number = count.getAndIncrement();
+            if (isKilled && number >= at) {
+                throw new Killed();
+            }
+            if (number == at) {
+                throw new Disk.Failure(name, 5);
+            }
+        };
+        try {
+            new Journal(disk.folder, disk).close();
+            return count.get() > at;
+        } catch (IOException why) {
+            removed(disk.folder, why);
+        } catch (Killed why) {
+            return true;
+        }
+        return true;
+    }
+}

@@ -1,0 +1,53 @@
+// What callers get of a token that was accepted or withdrawn, and how `JSON.stringify` writes it.
+
+const hexOf = (bytes) => Array.from(bytes, (it) => it.toString(16).padStart(2, "0")).join("");
+// A number of 64 bits: as a text where JavaScript's numbers do not have it.
+const numberOf = (it) => (it <= Number.MAX_SAFE_INTEGER ? Number(it) : String(it));
+const written = (it) => (typeof it === "bigint" ? numberOf(it) : it instanceof Uint8Array ? hexOf(it) : it);
+const listed = (fields) => Object.fromEntries(Object.entries(fields).map(([name, it]) => [name, written(it)]));
+
+/** One entry of a record. */
+export class Use {
+  constructor(fields) {
+    Object.assign(this, fields);
+  }
+
+  /** The same in numbers and texts: bytes as hexadecimal digits. */
+  toJSON() {
+    return listed(this);
+  }
+}
+
+/** A token that was accepted. What few callers want of it is read when they ask: that takes as long as to judge it. */
+export class Accepted {
+  #own;
+  #says;
+  #said;
+
+  /** @param own the audiences of the service @param says reads the token */
+  constructor(fields, own, says) {
+    Object.assign(this, fields);
+    this.#own = own;
+    this.#says = says;
+  }
+
+  /** The first audience of the service that the token names. */
+  get audience() {
+    const { audiences } = this.#read();
+    return this.#own.find((it) => audiences.includes(it));
+  }
+
+  /** The name of the key that signed it; "" where it has none. */
+  get keyId() {
+    return this.#read().keyId;
+  }
+
+  /** The same in numbers and texts. */
+  toJSON() {
+    return { ...listed(this), audience: this.audience, keyId: this.keyId };
+  }
+
+  #read() {
+    return (this.#said ??= this.#says());
+  }
+}

@@ -1,0 +1,58 @@
+// Makes calls of a member of a store in PostgreSQL for the tests of go/claims/postgres, which run over each client.
+//
+// A line of standard input is a call: its number, the name, the store, and what it takes. A line of standard output is the answer: the number, and
+// what it returns, or `fault REASON TEXT`.
+
+import { createInterface } from "node:readline";
+
+const { Member, StoreFault } = await import(`${process.env.SVID_PACKAGE}/src/postgres-member.js`);
+const stores = new Map();
+const hex = (it) => Buffer.from(it).toString("hex");
+const faultOf = (why) => [why.reason ?? "error", hex(String(why.message ?? why)) || "-"];
+const pause = (ms) => new Promise((resolve) => setTimeout(resolve, ms));
+
+function claimOf(word) {
+  const [key, owner, expires] = word.split(":");
+  return { key: Buffer.from(key, "hex"), owner: Buffer.from(owner, "hex"), expires: BigInt(expires) };
+}
+
+async function opened(store, end) {
+  for (;;) {
+    const is = await store.look(end);
+    if (!is.wait) return is;
+    if (performance.now() + is.wait > end) throw new StoreFault("run");
+    await pause(is.wait);
+  }
+}
+
+const stateOf = ({ epoch, deaf, time }) => [epoch, deaf, time];
+const CALLS = {
+  open: async (store, end) => stateOf(await opened(store, end)),
+  state: async (store, end) => stateOf(await store.look(end)),
+  put: async (store, end, ...words) =>
+    (await store.put(words.map(claimOf), end)).map((it) => (it instanceof Error ? faultOf(it).join(":") : `${hex(it.owner)}:${it.time}:${it.deaf}`)),
+  withdraw: async (store, end, key, expires) => [hex(await store.withdraw(Buffer.from(key, "hex"), BigInt(expires), end))],
+  withdrawals: async (store, end, after) => {
+    const { these, last } = await store.withdrawals(Buffer.from(after.slice(1), "hex").toString(), end);
+    return [last, ...these.map(({ key, expires }) => `${hex(key)}:${expires}`)];
+  },
+  close: async (store) => store.close() ?? [],
+};
+
+async function answer(name, id, ...words) {
+  if (name !== "new") return CALLS[name](stores.get(id), performance.now() + Number(words[0] ?? 0) * 1000, ...words.slice(1));
+  const [group, lasts, margin, back, replicas, ...servers] = words;
+  stores.set(id, new Member({ servers, group, replicas: Number(replicas) }, { lasts: BigInt(lasts), margin: BigInt(margin), back: BigInt(back) }));
+  return [];
+}
+
+createInterface({ input: process.stdin }).on("line", async (line) => {
+  const [number, ...words] = line.split(" ");
+  let said;
+  try {
+    said = await answer(...words);
+  } catch (why) {
+    said = ["fault", ...faultOf(why)];
+  }
+  process.stdout.write(`${[number, ...said].join(" ")}\n`);
+}).on("close", () => process.exit());

@@ -1,0 +1,827 @@
+"""The store of a group in PostgreSQL 15 or later, over psycopg 3 (`pip install svid[postgres]`).
+
+`PostgresStore` is a member of the same store as svidd with `--store postgres://..`: services with
+this package and sidecars accept a token once together.
+"""
+
+from __future__ import annotations
+
+import contextlib
+import functools
+import logging
+import math
+import os
+import re
+import select
+import socket
+import struct
+import threading
+import time
+import weakref
+from collections.abc import Callable, Iterator, Sequence
+from typing import Any, NamedTuple, Union
+
+import psycopg
+from psycopg import conninfo, pq
+
+from . import _library as lib
+from . import _statements as said
+from .errors import Error, Forked
+from .stores import WITHDRAWN, Claim, Found
+
+_LOG = logging.getLogger("svid")
+_HEAD = struct.Struct(">Bqq16s")
+_CELL = 33
+_WITHDRAWAL = struct.Struct(">32sQ")
+_INTEGERS = (20, 21, 23)
+_BYTES = 17
+_BINARY = pq.Format.BINARY
+_LONGEST_ERROR = 1024
+_NAME = re.compile(r"(?!pg_)[A-Za-z0-9_-]{1,63}")
+_DEFAULT_LONGEST = 3600
+_DEFAULT_AHEAD = 10
+_DEFAULT_WAIT = 2.0
+_Value = Union[bytes, str, int, None]
+
+
+class StoreFault(Error):
+    """The store has no answer. Nobody knows what it has: the same call may be made again.
+
+    `name` says why: "missing" (there is no store), "rights", "unfit" (the server may lose entries,
+    or the members don't agree), "epoch", "late" (the token expires too late), "silent", ..
+    """
+
+    def __init__(self, name: str, more: str = "") -> None:
+        super().__init__(said.FAULTS.get(name, "") + more)
+        self.name = name
+
+
+class State(NamedTuple):
+    """What a store is at the moment."""
+
+    epoch: str
+    """Names one history of the store in which nothing was lost."""
+    deaf: int
+    """As in `Found`."""
+    time: int
+    """The store's time in seconds since 1970."""
+
+
+class PostgresStore:
+    """The store of a group in PostgreSQL. An administrator makes it by what `svidd schema` prints.
+
+    It looks at the store once a second, by a thread of its own, until `close`. It is for any number
+    of threads. Make it in each process, after a fork.
+    """
+
+    def __init__(
+        self,
+        *servers: str,
+        group: str = "svid",
+        longest: int = _DEFAULT_LONGEST,
+        ahead: int = _DEFAULT_AHEAD,
+        replicas: int = 1,
+        wait: float = _DEFAULT_WAIT,
+    ) -> None:
+        """Connects in the background.
+
+        servers: the address of each server, `postgres://USER@HOST/DATABASE?sslmode=verify-full`.
+            With several, the one that is the primary is used. Without `sslmode` the server must
+            speak TLS, and nobody checks its certificate. A password may stand in PGPASSFILE.
+        group: the group's name, which is that of the schema.
+        longest, ahead: those of the validators, in seconds.
+        replicas: how many servers must have a claim before it counts.
+        wait: how many seconds a call may take.
+
+        Raises ValueError for what can't be used.
+        """
+        if not _NAME.fullmatch(group):
+            raise ValueError(
+                "group: letters, digits, - and _ alone, at most 63, and not pg_ in front"
+            )
+        if not servers or replicas < 1 or not 0 < wait < math.inf:
+            raise ValueError("give a server, at least 1 of replicas, and a wait of some seconds")
+        lasts = lib.quick.svid_claim_until(longest, 2 * ahead)
+        margin = max(ahead, said.LEAST_MARGIN // 1000)
+        self._begin(servers, group, replicas, wait, (lasts, margin, said.STEP_BACK // 1000))
+        threading.Thread(
+            target=_watch, args=(weakref.ref(self), self._end), name="svid-store", daemon=True
+        ).start()
+
+    def _begin(
+        self,
+        servers: Sequence[str],
+        group: str,
+        replicas: int,
+        wait: float,
+        terms: tuple[int, int, int],
+    ) -> None:
+        """Begins without a thread. terms: lasts, the margin for members' clocks, and back."""
+        self._lasts, margin, self._back = terms
+        self._margin = margin + self._back
+        self._statements = {
+            name: text.replace("{S}", f'"{group}"') for name, text in said.STATEMENTS.items()
+        }
+        self._group, self._replicas, self._wait = group, replicas, wait
+        self._process = os.getpid()
+        self._end = _End()
+        self._servers = _Servers(servers, self._statements["role"], self._end)
+        self._turn = threading.Lock()  # who looks at the store has it
+        self._calls = threading.BoundedSemaphore(said.MOST_CALLS)
+        self._lock = threading.Lock()  # guards what follows
+        self._idle: list[_Connection] = []
+        self._left: list[str] = []  # sessions that may do yet what was given up
+        self._epoch: str | None = None
+        self._unfit: StoreFault | None = None  # why nothing is accepted
+        self._marks: list[Claim] = []
+        self._position = ""  # up to which withdrawals are read
+        self._heard = False  # they were read to the end once
+        self._withdrawn: dict[bytes, int] = {}
+
+    def __enter__(self) -> PostgresStore:
+        return self
+
+    def __exit__(self, *_: object) -> None:
+        self.close()
+
+    def close(self) -> None:
+        """Ends all connections, and the calls that are under way."""
+        if self._process == os.getpid():
+            self._end.say()
+            with self._lock:
+                idle, self._idle = self._idle, []
+            for it in idle:
+                it.close()
+
+    def put(self, claims: Sequence[Claim]) -> list[Found]:
+        """Is that of `Store`. Raises StoreFault, for all claims of a call where one has no answer.
+
+        A token that was withdrawn after it was claimed has the owner WITHDRAWN within a second.
+        """
+        end = self._until()
+        if self._epoch is None or not self._heard or not claims:
+            if self._look(end)[1]:
+                raise StoreFault("run")
+            self._hear(end)
+        all = self._put_each(claims, end)
+        for it in all:
+            if isinstance(it, StoreFault):
+                raise it
+        with self._lock:
+            return [
+                it._replace(owner=WITHDRAWN) if claim.key in self._withdrawn else it
+                for claim, it in zip(claims, all)
+                if isinstance(it, Found)
+            ]
+
+    def withdraw(self, key: bytes, expires: int) -> None:
+        """Is that of `Store`. Raises StoreFault."""
+        self._withdraw(key, expires, self._until())
+        with self._lock:
+            self._withdrawn[key] = max(expires, self._withdrawn.get(key, 0))
+
+    def withdrawals(self, after: str = "") -> tuple[list[tuple[bytes, int]], str]:
+        """The keys that were withdrawn after a position, and when their tokens expire.
+
+        Returns some of them, and the position up to which they are read. Ask again until it stays.
+        The first position is "". Raises StoreFault.
+        """
+        return self._withdrawals(after, self._until())
+
+    def state(self) -> State:
+        """Looks at the store, and says what it is. Raises StoreFault."""
+        return self._look(self._until())[0]
+
+    def _until(self) -> float:
+        return time.monotonic() + self._wait
+
+    def _look(self, end: float) -> tuple[State, int]:
+        """Looks at the store, one thread at a time, and removes what is over.
+
+        Also says for how many milliseconds no claim has an answer yet.
+        """
+        self._same_process()
+        if self._epoch is not None:  # (who hangs here must not hinder the next look)
+            end = min(end, time.monotonic() + said.STATE_WAIT / 1000)
+        if not self._turn.acquire(timeout=max(0, end - time.monotonic())):
+            raise StoreFault("silent")
+        try:
+            self._end_left(end)
+            state, wait, due = self._see(end)
+            now = time.monotonic()
+            half = min(now + 1, (now + end) / 2)
+            while due and time.monotonic() < half:
+                due = self._call("expire", [], end)[0][0] == said.PIECES
+            return state, wait
+        finally:
+            self._turn.release()
+
+    def _see(self, end: float) -> tuple[State, int, bool]:
+        """Asks what the store is, and keeps what of that matters to a claim."""
+        with self._lock:
+            epoch, marks = self._epoch, list(self._marks)
+        terms = [self._replicas, self._margin, self._back]
+        row = self._call("state", [epoch, *_arrays(marks), *terms], end)[0]
+        is_now, deaf, moment, wait, lasts, margin, due, unfit = row
+        with self._lock:
+            self._unfit = StoreFault("unfit", unfit) if unfit else None
+            if self._unfit:
+                raise self._unfit
+            if self._epoch != is_now:
+                ended, self._epoch, self._marks = self._epoch, is_now, []
+                if ended is not None:
+                    _warn(
+                        "the epoch of the group's store has ended: tokens that expire by %d "
+                        "may have been claimed before",
+                        deaf,
+                    )
+            kept = (it for it in self._marks if it.expires + margin >= moment)
+            self._marks = list(kept)
+        if lasts < self._lasts:
+            self._call("agree", [self._lasts], end)
+        return State(is_now, deaf, moment), wait, due == 1
+
+    def _end_left(self, end: float) -> None:
+        """Ends what was given up: a call that waits for a standby does so for ever."""
+        with self._lock:
+            left, self._left = self._left, []
+        if left:
+            try:
+                self._call("terminate", [",".join(left)], end)
+            except Exception:
+                with self._lock:
+                    self._left = left + self._left
+                raise
+
+    def _hear(self, end: float) -> None:
+        """Reads the withdrawals that have come."""
+        while True:
+            these, last = self._withdrawals(self._position, end)
+            with self._lock:
+                self._withdrawn.update(these)
+                done, self._position = self._position == last, last
+            if done:
+                self._heard = True
+                return
+
+    def _forget(self, moment: int) -> None:
+        """Forgets withdrawals that are over."""
+        with self._lock:
+            over = [
+                it for it, expires in self._withdrawn.items() if expires + self._margin < moment
+            ]
+            for it in over:
+                del self._withdrawn[it]
+
+    def _put_each(self, claims: Sequence[Claim], end: float) -> list[Found | StoreFault]:
+        """Puts claims. Each has an answer of its own, or why it has none."""
+        if not claims:
+            return []
+        try:
+            if len(claims) == 1:
+                key, owner, expires = claims[0]
+                answer = self._decide("put one", [key, owner, _expiry(expires)], 1, end)
+            else:
+                answer = self._decide("put", _arrays(claims), len(claims), end)
+        except StoreFault as why:
+            if why.name == "held" and len(claims) > 1:
+                half = len(claims) // 2  # (one of them may hold up all)
+                return [
+                    *self._put_each(claims[:half], end),
+                    *self._put_each(claims[half:], end),
+                ]
+            return [why] * len(claims)
+        found = [_found(answer, claim, n) for n, claim in enumerate(claims)]
+        mine = [it for it, is_ in zip(claims, found) if getattr(is_, "owner", None) == it.owner]
+        self._keep(mine, answer.epoch)
+        return found
+
+    def _withdraw(self, key: bytes, expires: int, end: float) -> bytes:
+        """Withdraws a token, and returns whose claim is there: WITHDRAWN if none."""
+        one = Claim(key, WITHDRAWN, expires)
+        answer = self._decide("withdraw", [key, _expiry(expires)], 1, end)
+        found = _found(answer, one, 0)
+        if isinstance(found, StoreFault):
+            raise found
+        if found.owner == WITHDRAWN:
+            self._keep([one], answer.epoch)
+        return found.owner
+
+    def _withdrawals(self, after: str, end: float) -> tuple[list[tuple[bytes, int]], str]:
+        ((last, these),) = self._call("withdrawals", [after.replace("\0", " ")], end)
+        if len(these) % _WITHDRAWAL.size:
+            raise StoreFault("answer")
+        return [(key, expires) for key, expires in _WITHDRAWAL.iter_unpack(these)], last
+
+    def _keep(self, mine: list[Claim], epoch: str) -> None:
+        """Keeps the claim in mind that lives longest: each look asks whether it is there."""
+        if not mine:
+            return
+        one = max(mine, key=lambda it: it.expires)
+        with self._lock:
+            if self._epoch == epoch:
+                self._marks = _marked(self._marks, one)
+
+    def _decide(self, name: str, values: list[_Value], count: int, end: float) -> _Answer:
+        """Calls a function that answers as put does for so many claims.
+
+        Where the answer does not count, looks at the store, so that the next one may.
+        """
+        if self._epoch is None:
+            self._look(end)
+        with self._lock:
+            epoch, unfit = self._epoch, self._unfit
+        if unfit:
+            raise unfit
+        try:
+            if not self._calls.acquire(timeout=max(0, end - time.monotonic())):
+                raise StoreFault("silent")
+            try:
+                rows = self._call(name, values, end, confirm=True)
+            finally:
+                self._calls.release()
+        except StoreFault as why:
+            if why.name in ("missing", "alone"):
+                self._look(end)
+            raise
+        answer = _answered(rows, count)
+        if answer.status == 0 and answer.epoch == epoch:
+            return answer
+        if answer.status != said.QUARANTINE or answer.epoch != epoch:
+            self._look(end)
+        raise StoreFault(said.OF_STATUS.get(answer.status, "answer") if answer.status else "epoch")
+
+    def _call(
+        self, name: str, values: Sequence[_Value], end: float, confirm: bool = False
+    ) -> list[list[Any]]:
+        """Makes a call on a connection to the primary, whose answer counts.
+
+        confirm: other servers must have what it commits, where `replicas` says so.
+        """
+        self._same_process()
+        with self._connection(end) as one:
+            rows = one.call(self._statements[name], values, end)
+            if confirm and self._replicas > 1:
+                kept = one.call(self._statements["kept"], [self._replicas], end)
+                if kept != [[1]]:
+                    raise StoreFault("alone")
+        self._servers.counts(one.at)
+        return rows
+
+    @contextlib.contextmanager
+    def _connection(self, end: float) -> Iterator[_Connection]:
+        """A connection to the primary. After an error it ends, with all that wait."""
+        one = self._taken(end)
+        try:
+            yield one
+        except _Answered as why:
+            fault = said.CODES.get(why.code, "server")
+            self._give(one, keep=fault == "held")
+            more = f"{self._lacking(end)}" if fault == "rights" else ""
+            raise StoreFault(fault, more if fault in said.FAULTS else str(why)) from why
+        except BaseException as why:
+            with self._lock:
+                if len(self._left) < said.MOST_LEFT:
+                    self._left.append(one.session)
+            self._give(one, keep=False)
+            if isinstance(why, psycopg.Error):
+                raise StoreFault("server", _brief(str(why))) from why
+            raise
+        self._give(one, keep=True)
+
+    def _taken(self, end: float) -> _Connection:
+        while True:
+            with self._lock:
+                one = self._idle.pop() if self._idle else None
+            if one is None:
+                break
+            try:
+                self._servers.counts(one.at)
+                return one
+            except StoreFault:
+                one.close()
+        at = self._servers.await_primary(end)
+        dial = min(end, time.monotonic() + said.DIAL_WAIT / 1000)
+        try:
+            one, role = _reach(at, self._servers.role, self._end, dial)
+            if not role.primary:
+                one.close()
+                raise StoreFault("standby")
+            try:
+                one.session = one.call(self._statements["session"], [], dial)[0][-1]
+            except BaseException:
+                one.close()
+                raise
+            return one
+        except (psycopg.Error, _Answered) as why:
+            raise StoreFault("server", f"address {at.number}: {_brief(str(why))}") from why
+
+    def _give(self, one: _Connection, keep: bool) -> None:
+        ended = [] if keep else [one]
+        with self._lock:
+            if not keep:
+                ended += self._idle
+                self._idle = []
+            elif self._end.is_said or len(self._idle) > said.MOST_CALLS:
+                ended.append(one)
+            else:
+                self._idle.append(one)
+        for it in ended:
+            it.close()
+
+    def _lacking(self, end: float) -> str:
+        """The rights that are missing, as SQL; "" where that is unknown."""
+        with contextlib.suppress(StoreFault), self._connection(end) as one:
+            found = one.call(self._statements["lacking"], [self._group], end)[0][0]
+            return f": {found}" if found else ""
+        return ""
+
+    def _same_process(self) -> None:
+        if self._process != os.getpid():
+            raise Forked
+        if self._end.is_said:
+            raise StoreFault("closed")
+
+
+def _watch(of: weakref.ref[PostgresStore], end: _End) -> None:
+    """Looks at a store once a second until it is closed or dropped."""
+    why = ""
+    while True:
+        store = of()
+        if store is None or end.is_said:
+            end.say()
+            return
+        begun = time.monotonic()
+        try:
+            state, _ = store._look(begun + said.STATE_WAIT / 1000)
+            store._hear(time.monotonic() + said.HEAR_WAIT / 1000)
+            store._forget(state.time)
+            why = ""
+        except Exception as now:
+            if not why and not end.is_said:
+                _warn("the group's store can't be looked at: %s", now)
+            why = str(now) or "unknown"
+        del store
+        end.wait(max(0.0, begun + said.STATE_EVERY / 1000 - time.monotonic()))
+
+
+def _warn(text: str, *words: object) -> None:
+    with contextlib.suppress(Exception):  # (who is warned must not end a call)
+        _LOG.warning(text, *words)
+
+
+class _Answer(NamedTuple):
+    """What a call like put answers."""
+
+    status: int
+    time: int
+    deaf: int
+    epoch: str
+    cells: bytes
+
+
+def _answered(rows: list[list[Any]], count: int) -> _Answer:
+    """Reads an answer for so many claims."""
+    answer = rows[0][0] if len(rows) == 1 and len(rows[0]) == 1 else None
+    if not isinstance(answer, bytes) or len(answer) not in (_HEAD.size, _HEAD.size + count * _CELL):
+        raise StoreFault("answer")
+    status, moment, deaf, epoch = _HEAD.unpack_from(answer)
+    digits = epoch.hex()
+    name = "-".join((digits[:8], digits[8:12], digits[12:16], digits[16:20], digits[20:]))
+    return _Answer(status, moment, deaf, name, answer[_HEAD.size :])
+
+
+def _found(answer: _Answer, claim: Claim, n: int) -> Found | StoreFault:
+    """What is answered to one of the claims."""
+    if not answer.cells:  # (each is there by this call)
+        return Found(claim.owner, answer.time, answer.deaf)
+    cell = answer.cells[n * _CELL : (n + 1) * _CELL]
+    if cell[0] == 1:
+        return Found(cell[1:], answer.time, answer.deaf)
+    return StoreFault(said.OF_CELL.get(cell[0], "answer"))
+
+
+def _marked(marks: list[Claim], one: Claim) -> list[Claim]:
+    """Marks with one more: the last ones, and before them those that outlive all that came later.
+
+    What a store loses at its end is the last claim, or some of the last. So one of the marks is
+    lost too, while it has not expired.
+    """
+    marks = [*marks, one]
+    older, last = marks[: -said.RECENT_MARKS], marks[-said.RECENT_MARKS :]
+    if older:
+        newest = older.pop()
+        while older and older[-1].expires <= newest.expires:
+            older.pop()
+        if len(older) == said.MOST_MARKS - said.RECENT_MARKS:
+            older.pop()  # (the one before it in time says nearly as much)
+        older.append(newest)
+    return older + last
+
+
+def _expiry(expires: int) -> int:
+    return min(expires, said.MOST_EXPIRY)
+
+
+def _arrays(claims: Sequence[Claim]) -> list[_Value]:
+    """The arguments of put, as arrays in text."""
+    keys = ",".join(f'"\\\\x{it.key.hex()}"' for it in claims)
+    owners = ",".join(f'"\\\\x{it.owner.hex()}"' for it in claims)
+    ends = ",".join(str(_expiry(it.expires)) for it in claims)
+    return [f"{{{keys}}}", f"{{{owners}}}", f"{{{ends}}}"]
+
+
+def _brief(text: str) -> str:
+    """What a server says, cut."""
+    text = text.strip()
+    return (
+        text
+        if len(text) <= _LONGEST_ERROR
+        else f"{text[:_LONGEST_ERROR]}.. ({len(text)} characters)"
+    )
+
+
+class _Answered(Exception):
+    """The server answered an error."""
+
+    def __init__(self, code: str, message: str) -> None:
+        super().__init__(_brief(message))
+        self.code = code
+
+
+class _End:
+    """The end of a store, which ends all waiting."""
+
+    def __init__(self) -> None:
+        self._heard, self._said = socket.socketpair()
+        self.is_said = False
+
+    def fileno(self) -> int:
+        return self._heard.fileno()
+
+    def say(self) -> None:
+        self.is_said = True
+        self._said.close()
+
+    def wait(self, seconds: float) -> None:
+        """Waits for so long, or until the end."""
+        select.select([self._heard], [], [], seconds)
+
+
+class _Connection:
+    """A connection. It is for one thread at a time."""
+
+    session = ""
+
+    def __init__(self, at: _Server, ends: _End, end: float) -> None:
+        """Connects until a moment. Raises psycopg.Error and StoreFault."""
+        self.at = at
+        self._ends = ends
+        self._prepared: dict[str, bytes] = {}
+        self._warned: list[str] = []
+        self._pg = pq.PGconn.connect_start(at.conninfo())
+        try:
+            while (status := self._pg.connect_poll()) != pq.PollingStatus.OK:
+                if status == pq.PollingStatus.FAILED:
+                    raise psycopg.OperationalError(pq.error_message(self._pg))
+                is_reading = status == pq.PollingStatus.READING
+                self._await(select.POLLIN if is_reading else select.POLLOUT, end)
+            self._pg.nonblocking = 1
+        except BaseException:
+            self.close()
+            raise
+        self._pg.notice_handler = functools.partial(_noticed, self._warned)
+
+    def close(self) -> None:
+        self._pg.finish()
+
+    def call(self, text: str, values: Sequence[_Value], end: float) -> list[list[Any]]:
+        """Returns the rows that a statement answers, which the connection prepares once."""
+        self._warned.clear()
+        name = self._prepared.get(text, b"s%d" % len(self._prepared))
+        if text not in self._prepared:
+            self._run(lambda: self._pg.send_prepare(name, text.encode()), end)
+            self._prepared[text] = name
+        lent = [_lent(it) for it in values]
+        formats = [_BINARY if isinstance(it, bytes) else pq.Format.TEXT for it in values]
+        send = self._pg.send_query_prepared
+        result = self._run(lambda: send(name, lent, formats, _BINARY), end)
+        if self._warned:  # (a commit that did not wait for standbys is no error for the server)
+            raise StoreFault("server", f"the server warns: {_brief(self._warned[0])}")
+        columns = range(result.nfields)
+        return [[_read(result, row, it) for it in columns] for row in range(result.ntuples)]
+
+    def _run(self, send: Callable[[], None], end: float) -> pq.abc.PGresult:
+        send()
+        while self._pg.flush():
+            self._await(select.POLLIN | select.POLLOUT, end)
+            self._pg.consume_input()
+        last = None
+        while True:
+            while self._pg.is_busy():
+                self._await(select.POLLIN, end)
+                self._pg.consume_input()
+            result = self._pg.get_result()
+            if result is None:
+                break
+            last = result
+        if last is None:
+            raise StoreFault("answer")
+        if last.status not in (pq.ExecStatus.COMMAND_OK, pq.ExecStatus.TUPLES_OK):
+            code = last.error_field(pq.DiagnosticField.SQLSTATE)
+            if not code:  # (the connection is lost)
+                raise psycopg.OperationalError(pq.error_message(last))
+            raise _Answered(code.decode(), pq.error_message(last))
+        return last
+
+    def _await(self, events: int, end: float) -> None:
+        """Waits for the socket. Raises StoreFault where the store ends or the time is over."""
+        poll = select.poll()
+        poll.register(self._pg.socket, events)
+        poll.register(self._ends, select.POLLIN)
+        ready = poll.poll(max(0, (end - time.monotonic()) * 1000))
+        if self._ends.is_said:
+            raise StoreFault("closed")
+        if not ready:
+            raise StoreFault("silent")
+
+
+def _noticed(warned: list[str], result: pq.abc.PGresult) -> None:
+    """Takes a notice. (As a method it would keep the connection.)"""
+    code = result.error_field(pq.DiagnosticField.SQLSTATE) or b""
+    if not code.startswith(b"00"):  # (the class of notices that are no warnings)
+        message = result.error_field(pq.DiagnosticField.MESSAGE_PRIMARY) or b"?"
+        warned.append(message.decode(errors="replace"))
+
+
+def _lent(value: _Value) -> bytes | None:
+    return value if value is None or isinstance(value, bytes) else str(value).encode()
+
+
+def _read(result: pq.abc.PGresult, row: int, column: int) -> Any:
+    value, kind = result.get_value(row, column), result.ftype(column)
+    if value is None or kind == _BYTES:
+        return value
+    if kind in _INTEGERS:
+        return int.from_bytes(value, "big", signed=True)
+    return value.decode(errors="replace")
+
+
+class _Role(NamedTuple):
+    """What a server is."""
+
+    primary: bool
+    system: str
+    """Which servers have alike that came of one."""
+    started: str
+    line: str
+    """The timeline of a primary, in 8 digits."""
+
+
+class _Server:
+    """One of the addresses, and what the last look at it saw where there are several."""
+
+    role: _Role | None = None
+    fault: str = ""
+    at: float | None = None
+
+    def __init__(self, number: int, url: str) -> None:
+        self.number = number
+        self._url = url
+        self.conninfo()
+
+    def conninfo(self) -> bytes:
+        """What libpq takes. An error has no part of the address, which may be secret."""
+        try:
+            words = conninfo.conninfo_to_dict(self._url)
+        except psycopg.Error:
+            words = {}
+        if not self._url.startswith(("postgres://", "postgresql://")) or not words:
+            raise ValueError(f"address {self.number} is no URL like postgres://USER@HOST/DATABASE")
+        if "," in str(words.get("host", "")):
+            raise ValueError(f"address {self.number} names several servers: give each its own")
+        words.pop("target_session_attrs", None)
+        if "PGSSLMODE" not in os.environ:
+            words.setdefault("sslmode", "require")
+        return conninfo.make_conninfo(**words).encode()
+
+
+def _reach(at: _Server, ask: str, ends: _End, end: float) -> tuple[_Connection, _Role]:
+    """Connects to a server, and asks what it is."""
+    one = _Connection(at, ends, end)
+    try:
+        return one, _role(one, ask, end)
+    except BaseException:
+        one.close()
+        raise
+
+
+def _role(one: _Connection, ask: str, end: float) -> _Role:
+    ((primary, *rest),) = one.call(ask, [], end)
+    return _Role(primary == 1, *map(str, rest))
+
+
+class _Servers:
+    """All addresses. Where there are several, each one is looked at all the time.
+
+    So a member does not go on with a primary whose place another server has taken.
+    """
+
+    def __init__(self, urls: Sequence[str], role: str, ends: _End) -> None:
+        self.all = [_Server(n, url) for n, url in enumerate(urls, 1)]
+        self.role = role
+        self._ends = ends
+        self._changed = threading.Condition()  # guards what was seen
+        self._begun = False
+
+    def await_primary(self, end: float) -> _Server:
+        """The primary, once each server was looked at."""
+        if len(self.all) == 1:
+            return self.all[0]
+        with self._changed:
+            if not self._begun:
+                self._begun = True
+                for one in self.all:
+                    threading.Thread(
+                        target=self._watch, args=(one,), name="svid-server", daemon=True
+                    ).start()
+            while not self._is_looked_at():
+                if self._ends.is_said:
+                    raise StoreFault("closed")
+                if not self._changed.wait(end - time.monotonic()):
+                    raise StoreFault("silent")
+            return self._primary()
+
+    def counts(self, at: _Server) -> None:
+        """Raises StoreFault if what a server answers does not count."""
+        if len(self.all) == 1:
+            return
+        with self._changed:
+            if not self._is_looked_at():
+                raise StoreFault("server", "not all servers were looked at")
+            first = self._primary()
+            if first is not at and first.role != at.role:
+                raise StoreFault("stale")
+
+    def _is_looked_at(self) -> bool:
+        oldest = time.monotonic() - said.MOST_AGE / 1000
+        return all(it.at is not None and it.at >= oldest for it in self.all)
+
+    def _primary(self) -> _Server:
+        """The primary by the last looks."""
+        first: _Server | None = None
+        faults = []
+        for one in self.all:
+            if one.role is None or not one.role.primary:
+                why = one.fault or said.FAULTS["standby"]
+                faults.append(f"address {one.number}: {why}")
+            elif first is None or first.role is None:
+                first = one
+            elif first.role == one.role:
+                continue  # (one server may have two addresses)
+            elif first.role.system != one.role.system:
+                raise StoreFault(
+                    "server",
+                    f"addresses {first.number} and {one.number} are primaries of two database "
+                    "clusters: name the servers of one",
+                )
+            elif first.role.line == one.role.line:
+                raise StoreFault(
+                    "server",
+                    f"addresses {first.number} and {one.number} are both primaries: "
+                    "stop the wrong one",
+                )
+            elif first.role.line < one.role.line:
+                first = one  # It was promoted later.
+        if first is None:
+            raise StoreFault("server", "; ".join(faults))
+        return first
+
+    def _watch(self, at: _Server) -> None:
+        """Looks at a server until the end."""
+        one: _Connection | None = None
+        while not self._ends.is_said:
+            begun = time.monotonic()
+            one = self._look(at, one, begun)
+            self._ends.wait(max(0.0, begun + said.LOOK_EVERY / 1000 - time.monotonic()))
+        if one:
+            one.close()
+        with self._changed:
+            self._changed.notify_all()
+
+    def _look(self, at: _Server, one: _Connection | None, begun: float) -> _Connection | None:
+        role, fault, end = None, "", begun + said.LOOK_WAIT / 1000
+        try:
+            if one is None:
+                one, role = _reach(at, self.role, self._ends, end)
+            else:
+                role = _role(one, self.role, end)
+        except Exception as why:
+            fault, role = _brief(str(why)), None
+            if one:
+                one.close()
+            one, begun = None, time.monotonic()  # (it answered nobody until now)
+        with self._changed:
+            at.role, at.fault, at.at = role, fault, begun
+            self._changed.notify_all()
+        return one

@@ -1,0 +1,403 @@
+"""PostgresStore, over real servers. The tests of go/claims/postgres run over it too."""
+
+import gc
+import http.client
+import json
+import logging
+import os
+import pathlib
+import re
+import subprocess
+import sys
+import threading
+import time
+
+import pytest
+import svid
+from making import (
+    PATIENCE,
+    bundle,
+    entry,
+    fresh,
+    private_key,
+    until,
+    validator,
+)
+from svid import postgres
+from svid.postgres import PostgresStore, StoreFault
+
+TOP = pathlib.Path(os.environ["SVID"]).parent
+CLIENT = pathlib.Path(__file__).parent / "store_client.py"
+# (the user of PostgreSQL may not go through a folder of this one)
+OPEN = {**os.environ, "TMPDIR": "/tmp"}
+# The tests of go/claims/postgres, in groups that take some time each.
+TESTS = {
+    "member": "TestAMemberOfAnotherLanguage|TestStore",
+    "alone": "TestStoreAlone|TestRights|TestAServerThatForgets|TestAPartOfAStore|TestTLS",
+    "ends": "TestStoreOfAServerThatEnds|TestTrouble|TestFullDisk|TestCloseLeavesNothing"
+    "|TestQuarantine",
+    "losses": "TestRowsThatGoByHandEndTheEpoch|TestALookMissesRows|TestAnOlderCopyThatWentOn"
+    "|TestAStoreMadeAgain|TestADumpThatIsReadInAgain|TestAClockThatIsADayOff|TestASmallStepBack",
+    "calls": "TestAClaimThatWaitsWhileTheEpochEnds|TestOneOrder|TestWithdrawalsOfAnotherEpoch"
+    "|TestAnEntryThatIsGoneMeanwhile|TestWhatIsOverGoes|TestALookAtAStoreOfWhichMuchIsOver"
+    "|TestTimesOfTheLibrary|TestNobodyLooks|TestAClaimThatIsNotCommitted",
+    "standbys": "TestFailoverToAStandbyThatLacksClaims|TestFailoverToAStandbyThatHasAll"
+    "|TestFailoverToTheWrongStandby|TestACancelledWait",
+    "primaries": "TestTwoPrimaries|TestTwoStandbysArePromoted|TestServersOfTwoClusters"
+    "|TestStandbysAreNotWaitedForAnyMore|TestWhatIsGivenUpEndsAtTheServer",
+}
+
+
+@pytest.fixture(scope="module")
+def binary(tmp_path_factory):
+    """The tests of go/claims/postgres as a program."""
+    made = tmp_path_factory.mktemp("go") / "postgres.test"
+    words = ["go", "test", "-c", "-o", str(made), "./claims/postgres"]
+    subprocess.run(words, cwd=TOP / "go", check=True)
+    return made
+
+
+class Machine:
+    """A server of PostgreSQL, which `kill`, `start`, `pause`, `resume` and SQL are told to."""
+
+    def __init__(self, binary):
+        self._run = subprocess.Popen(
+            [binary, "-test.run", "^TestAServerOfAnotherLanguage$"],
+            env={**OPEN, "SVID_STORE_SERVER": "1"},
+            stdin=subprocess.PIPE,
+            stdout=subprocess.PIPE,
+            text=True,
+        )
+        self.url = self._run.stdout.readline().strip()
+
+    def tell(self, what):
+        self._run.stdin.write(f"{what}\n")
+        self._run.stdin.flush()
+        return self._run.stdout.readline().strip()
+
+    def end(self):
+        self._run.stdin.close()
+        self._run.stdout.read()
+        assert self._run.wait() == 0
+
+
+@pytest.fixture(scope="module")
+def machine(binary):
+    made = Machine(binary)
+    try:
+        yield made
+    finally:
+        made.end()
+
+
+@pytest.fixture
+def group(machine, request):
+    """A group of the test's own, whose store is there."""
+    name = re.sub(r"\W", "_", request.node.name)[:60]
+    assert machine.tell(f"schema {name}") == "done"
+    return name
+
+
+def store_of(machine, group, **terms):
+    return PostgresStore(machine.url, group=group, **terms)
+
+
+def claim(n, owner=b"o"):
+    return svid.Claim(bytes([n]) * 32, owner * 32, int(time.time()) + 300)
+
+
+def put(store, *claims):
+    """Puts claims until they are answered."""
+    end = time.monotonic() + PATIENCE
+    while True:
+        try:
+            return store.put(claims)
+        except StoreFault:
+            assert time.monotonic() < end
+            time.sleep(0.02)
+
+
+@pytest.mark.parametrize("name", TESTS)
+def test_store(binary, name):
+    """What go/claims/postgres promises of a member over real servers."""
+    ran = subprocess.run(
+        [binary, "-test.v", "-test.timeout", "20m", "-test.run", f"^({TESTS[name]})$"],
+        cwd=TOP / "go/claims/postgres",
+        env={**OPEN, "SVID_STORE_CLIENT": f"{sys.executable} {CLIENT}"},
+        capture_output=True,
+        text=True,
+    )
+    failed = re.findall(r"^--- FAIL: (.*)", ran.stdout, re.M)
+    assert ran.returncode == 0, (failed, ran.stdout[-5000:], ran.stderr[-2000:])
+    assert len(re.findall(r"^--- PASS: ", ran.stdout, re.M)) == len(TESTS[name].split("|"))
+
+
+def test_every_test_of_a_store_is_run(binary):
+    """But for those that call nothing of a client."""
+    listed = subprocess.check_output([binary, "-test.list", "^Test"], text=True).split()
+    others = {
+        "TestAServerOfAnotherLanguage",
+        "TestStandbys",
+        "TestOptions",
+        "TestOptionsOfTheEnvironment",
+        "TestTheEpochsRowStays",
+    }
+    assert {it for names in TESTS.values() for it in names.split("|")} == {*listed} - others
+
+
+def test_one_validator_accepts_a_token(machine, group):
+    token = fresh(jti="one")
+    with store_of(machine, group) as store, store_of(machine, group) as other:
+        with validator(mode="strict", store=store) as one:
+            with validator(mode="strict", store=other) as two:
+                assert one.check(token).spiffe_id
+                with pytest.raises(svid.Replayed):
+                    two.check(token)
+
+
+@pytest.fixture(scope="module")
+def svidd(tmp_path_factory):
+    made = tmp_path_factory.mktemp("svidd") / "svidd"
+    subprocess.run(["go", "build", "-o", str(made), "./cmd/svidd"], cwd=TOP / "go", check=True)
+    return made
+
+
+def test_a_sidecar_and_a_service_share_a_group(machine, svidd, tmp_path):
+    """Each of some tokens is accepted by one of the two. A withdrawal reaches the other."""
+    bundles = tmp_path / "bundle.json"
+    bundles.write_text(json.dumps(bundle(entry(private_key("ES256"), "k1"))["example.org"]))
+    words = [
+        "--replay",
+        "strict",
+        "--store",
+        machine.url,
+        "--group",
+        "both",
+        "--audience",
+        "ledger",
+    ]
+    words += ["--bundle", f"example.org={bundles}", "--listen", "127.0.0.1:0", "--wait", "20s"]
+    words += ["--longest", "3600", "--state", str(tmp_path / "state")]
+    with open(tmp_path / "log", "w+") as log:
+        run = subprocess.Popen([svidd, "serve", *words], stdout=log, stderr=subprocess.STDOUT)
+        try:
+            port = _port(tmp_path / "log")
+            until(lambda: _get(port, "/readyz") == 200)
+            with PostgresStore(machine.url, group="both") as store:
+                terms = {"mode": "strict", "longest": 3600, "ahead": 10}
+                with validator(store=store, **terms) as checks:
+                    for n in range(20):
+                        _race(port, checks, fresh(jti=f"both {n}"), n % 2 == 0)
+                    gone = fresh(jti="withdrawn")
+                    checks.withdraw(gone)
+                    until(lambda: _get(port, "/check", gone) == 401)
+        finally:
+            run.terminate()
+            assert run.wait(PATIENCE) == 0
+
+
+def _race(port, checks, token, sidecar_first):
+    def service():
+        try:
+            return bool(checks.check(token))
+        except svid.Replayed:
+            return False
+
+    calls = [lambda: _get(port, "/check", token) == 200, service]
+    said = [call() for call in (calls if sidecar_first else calls[::-1])]
+    assert said == [True, False], (said, sidecar_first)
+
+
+def _get(port, path, token=None):
+    """The status of an answer of the sidecar."""
+    connection = http.client.HTTPConnection("127.0.0.1", port, timeout=PATIENCE)
+    try:
+        fields = {"Authorization": f"Bearer {token}"} if token else {}
+        connection.request("GET", path, headers=fields)
+        return connection.getresponse().status
+    except ConnectionError:
+        return 0
+    finally:
+        connection.close()
+
+
+def _port(log):
+    found = []
+    until(lambda: found.extend(re.findall(r'127\.0\.0\.1:(\d+)"', log.read_text())) or found)
+    return int(found[0])
+
+
+def test_a_withdrawal_wins_over_a_claim(machine, group):
+    """Another member hears of it, though the entry stays that of the claim."""
+    with store_of(machine, group) as one, store_of(machine, group) as other:
+        first = put(one, claim(1))[0]
+        assert first.owner == b"o" * 32
+        until(lambda: put(other, claim(1))[0].owner == b"o" * 32)
+        one.withdraw(claim(1).key, claim(1).expires)
+        assert put(one, claim(1))[0].owner == svid.WITHDRAWN
+        until(lambda: put(other, claim(1))[0].owner == svid.WITHDRAWN)
+        one.withdraw(claim(2).key, claim(2).expires)
+        assert put(other, claim(2))[0].owner == svid.WITHDRAWN
+        with store_of(machine, group) as late:  # (it has read all before it answers)
+            assert put(late, claim(1), claim(3))[0].owner == svid.WITHDRAWN
+        these, last = other.withdrawals()
+        assert [key for key, _ in these] == [claim(1).key, claim(2).key]
+        assert other.withdrawals(last) == ([], last)
+
+
+def test_withdrawals_are_forgotten_once_they_are_over(machine, group):
+    with store_of(machine, group) as store:
+        store.withdraw(claim(2).key, put(store, claim(1))[0].time - 119)
+        assert claim(2).key in store._withdrawn
+        until(lambda: claim(2).key not in store._withdrawn)
+        assert put(store, claim(1))[0].owner == b"o" * 32
+
+
+def test_a_call_ends_though_the_server_does_not_answer(machine, group):
+    """It fails within `wait`, or soon after it. The same claim finds its own entry later."""
+    with store_of(machine, group, wait=0.5) as store:
+        put(store, claim(1))
+        machine.tell("pause")
+        try:
+            for call in (
+                lambda: store.put([claim(2)]),
+                lambda: store.put([]),
+                lambda: store.withdraw(claim(3).key, claim(3).expires),
+                store.withdrawals,
+                store.state,
+            ):
+                begun = time.monotonic()
+                with pytest.raises(StoreFault):
+                    call()
+                assert time.monotonic() - begun < 5  # (a busy machine)
+        finally:
+            machine.tell("resume")
+        assert put(store, claim(2))[0].owner == b"o" * 32
+
+
+def test_close_ends_calls(machine, group):
+    store = store_of(machine, group, wait=PATIENCE)
+    put(store, claim(1))
+    raised = []
+
+    def call():
+        try:
+            store.put([claim(2)])
+        except StoreFault as why:
+            raised.append(why.name)
+
+    machine.tell("pause")
+    try:
+        thread = threading.Thread(target=call)
+        thread.start()
+        until(lambda: not store._idle)
+        store.close()
+        thread.join(PATIENCE)
+        assert raised == ["closed"]
+    finally:
+        machine.tell("resume")
+    store.close()
+    for call in (lambda: store.put([claim(1)]), store.state, store.withdrawals):
+        with pytest.raises(StoreFault, match="closed"):
+            call()
+
+
+def test_nothing_of_a_store_stays(machine, group):
+    """Neither a thread nor a descriptor, when it is closed and when it is dropped."""
+    threads, files = threading.active_count(), len(os.listdir("/proc/self/fd"))
+    stores = [store_of(machine, group) for _ in range(3)]
+    stores.append(PostgresStore(machine.url, f"{machine.url}&application_name=x", group=group))
+    for it in stores[:3]:
+        put(it, claim(1))
+    for it in stores[1:]:
+        it.close()
+    del it
+    stores.clear()
+    # (an exception that was raised keeps what it came through, until it is collected)
+    until(lambda: gc.collect() >= 0 and threading.active_count() <= threads)
+    until(lambda: gc.collect() >= 0 and len(os.listdir("/proc/self/fd")) <= files)
+
+
+def test_a_store_of_another_process_answers_nobody(machine, group):
+    with store_of(machine, group) as store:
+        put(store, claim(1))
+        child = os.fork()
+        if not child:
+            status = 1
+            try:
+                store.put([claim(2)])
+            except svid.Forked:
+                status = 0
+            finally:
+                os._exit(status)
+        assert os.waitpid(child, 0)[1] == 0
+        assert put(store, claim(1))[0].owner == b"o" * 32
+
+
+def test_warnings(machine, group, caplog):
+    """The end of an epoch, and a server that is away, are warned of once."""
+    caplog.set_level(logging.WARNING, "svid")
+    with store_of(machine, group) as store:
+        put(store, claim(1))
+        machine.tell(f"TRUNCATE {group}.claim")
+        until(lambda: "the epoch of the group's store has ended" in caplog.text)
+        machine.tell("kill")
+        until(lambda: "can't be looked at" in caplog.text)
+        machine.tell("start")
+        found = put(store, claim(1))[0]
+        assert found.deaf >= claim(1).expires
+    assert caplog.text.count("has ended") == 1
+    assert caplog.text.count("can't be looked at") == 1
+
+
+def test_a_store_that_is_not_there(machine):
+    """Somebody makes it later."""
+    with PostgresStore(machine.url, group="later") as store:
+        with pytest.raises(StoreFault, match="svidd schema") as raised:
+            store.put([])
+        assert raised.value.name == "missing"
+        assert machine.tell("schema later") == "done"
+        assert put(store, claim(1))[0].owner == b"o" * 32
+
+
+def test_terms(machine, group):
+    """They are those of svidd: see go/guard. A store that keeps entries for too short is no use."""
+    with store_of(machine, group, longest=8000, ahead=10) as store:
+        put(store, claim(1))
+        told = machine.tell(f"DO $$ BEGIN ASSERT (SELECT lasts FROM {group}.epoch) = 8020; END $$")
+        assert told == "done"
+    with store_of(machine, group, ahead=61) as store:
+        with pytest.raises(StoreFault, match="give all members the same clock tolerance"):
+            store.put([])
+
+
+@pytest.mark.parametrize(
+    "urls, terms",
+    [
+        ([], {}),
+        (["redis://u:secret@h"], {}),
+        (["postgres://u:secret@h1,h2/d"], {}),
+        (["postgres://u:secret@h/d?no=secret"], {}),
+        (["postgres://h/d"], {"group": 'a"b'}),
+        (["postgres://h/d"], {"group": "pg_x"}),
+        (["postgres://h/d"], {"group": "x" * 64}),
+        (["postgres://h/d"], {"replicas": 0}),
+        (["postgres://h/d"], {"wait": 0}),
+    ],
+)
+def test_what_is_no_store(urls, terms):
+    with pytest.raises(ValueError) as raised:
+        PostgresStore(*urls, **terms)
+    assert "secret" not in str(raised.value)
+
+
+def test_marks():
+    """The last four, and before them those that outlive all that came later: sixteen at most."""
+    marks = []
+    for n, expires in enumerate([500, 100, 400, 300, 300, 200, 250, 1, 2, 3]):
+        marks = postgres._marked(marks, svid.Claim(bytes([n]) * 32, b"o" * 32, expires))
+    assert [it.expires for it in marks] == [500, 400, 300, 200, 250, 1, 2, 3]
+    for n in range(100):
+        marks = postgres._marked(marks, svid.Claim(bytes([n]) * 32, b"o" * 32, 400 - n))
+    assert len(marks) == 16 and marks[0].expires == 500
+    assert [it.expires for it in marks[-4:]] == [304, 303, 302, 301]

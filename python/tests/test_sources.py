@@ -1,0 +1,486 @@
+"""Bundles over sockets: endpoints by a server of Python, a Workload API by gRPC's own server."""
+
+import base64
+import concurrent.futures
+import contextlib
+import datetime
+import http.server
+import ipaddress
+import json
+import os
+import queue
+import ssl
+import threading
+import time
+
+import grpc
+import pytest
+import svid
+from cryptography import x509
+from cryptography.hazmat.primitives import hashes, serialization
+from cryptography.hazmat.primitives.asymmetric import ec
+from making import NOW, PATIENCE, entry, pem, private_key, token, until, validator
+from svid import _follow, sources
+from test_bundles import ACCEPTED, JWKS, SPIRE, judged, rotation, soon, told
+
+ID = "spiffe://example.org/spire/server"
+GOOD = json.dumps(SPIRE).encode()
+
+
+class Authority:
+    """Signs certificates."""
+
+    def __init__(self):
+        self.key = ec.generate_private_key(ec.SECP256R1())
+        self.certificate = self.made(self.key, self.key, is_authority=True, uris=[])
+
+    def made(self, key, signer, *, is_authority=False, uris, signs=False):
+        name = x509.Name([])
+        subject = x509.Name([x509.NameAttribute(x509.NameOID.COMMON_NAME, "authority")])
+        at = datetime.datetime.utcnow()
+        names = [x509.UniformResourceIdentifier(it) for it in uris]
+        names.append(x509.IPAddress(ipaddress.ip_address("127.0.0.1")))
+        usage = {"digital_signature": True, "key_cert_sign": is_authority or signs}
+        others = "content_commitment key_encipherment data_encipherment key_agreement crl_sign"
+        usage |= dict.fromkeys(others.split(), False)
+        usage |= {"encipher_only": False, "decipher_only": False}
+        builder = (
+            x509.CertificateBuilder()
+            .issuer_name(subject)
+            .subject_name(subject if is_authority else name)
+            .serial_number(x509.random_serial_number())
+            .public_key(key.public_key())
+            .not_valid_before(at - datetime.timedelta(hours=1))
+            .not_valid_after(at + datetime.timedelta(hours=1))
+            .add_extension(x509.BasicConstraints(is_authority, None), True)
+            .add_extension(x509.KeyUsage(**usage), True)
+            .add_extension(x509.SubjectAlternativeName(names), not is_authority)
+        )
+        return builder.sign(signer, hashes.SHA256())
+
+    def server(self, folder, *uris, signs=False):
+        """The file of a server's key and certificate."""
+        key = ec.generate_private_key(ec.SECP256R1())
+        made = self.made(key, self.key, uris=uris, signs=signs)
+        path = folder / f"{len(os.listdir(folder))}.pem"
+        path.write_bytes(pem(key) + made.public_bytes(serialization.Encoding.PEM))
+        return path
+
+    def pem(self, folder):
+        """Its certificate in a file, behind a comment."""
+        path = folder / f"{len(os.listdir(folder))}.pem"
+        text = self.certificate.public_bytes(serialization.Encoding.PEM)
+        path.write_bytes("# the authority Zoë\n".encode() + text)
+        return path
+
+    def entry(self):
+        """Itself as an entry of a bundle."""
+        der = self.certificate.public_bytes(serialization.Encoding.DER)
+        return {"use": "x509-svid", "kty": "EC", "x5c": [base64.b64encode(der).decode()]}
+
+
+def bundle_of(authority, *entries, **members):
+    """A bundle by which a server is known, with the key of tokens."""
+    return json.dumps({"keys": [authority.entry(), *JWKS["keys"], *entries], **members}).encode()
+
+
+class Served:
+    """An HTTPS server, whose answers a test sets."""
+
+    def __init__(self, certificate):
+        self.asked, self.answered = 0, 0
+        self.text, self.status, self.headers = GOOD, 200, {}
+        self.hangs = threading.Event()  # set: it goes on
+        self.hangs.set()
+        outer = self
+
+        class Handler(http.server.BaseHTTPRequestHandler):
+            def do_GET(self):
+                outer.asked += 1
+                outer.hangs.wait(PATIENCE)
+                outer.answered += 1
+                with contextlib.suppress(OSError):
+                    self.send_response(outer.status)
+                    for name, value in outer.headers.items():
+                        self.send_header(name, value)
+                    self.end_headers()
+                    self.wfile.write(outer.text)
+
+            def log_message(self, *_):
+                """Is silent."""
+
+        self.server = http.server.ThreadingHTTPServer(("127.0.0.1", 0), Handler)
+        self.context = ssl.SSLContext(ssl.PROTOCOL_TLS_SERVER)
+        self.context.load_cert_chain(certificate)
+        self.server.socket = self.context.wrap_socket(
+            self.server.socket, server_side=True, do_handshake_on_connect=False
+        )
+        self.server.handle_error = lambda *_: None
+        self.url = f"https://127.0.0.1:{self.server.server_port}/bundle"
+        threading.Thread(target=self.server.serve_forever, args=(0.01,), daemon=True).start()
+
+    def __enter__(self):
+        return self
+
+    def __exit__(self, *_):
+        self.hangs.set()
+        self.server.shutdown()
+        self.server.server_close()
+
+
+@pytest.fixture
+def authority():
+    return Authority()
+
+
+@pytest.fixture
+def quick(monkeypatch):
+    """Pauses and refreshes are short."""
+    monkeypatch.setattr(sources, "_SHORTEST", 0.01)
+    monkeypatch.setattr(_follow, "_SHORTEST", 0.01)
+    monkeypatch.setattr(_follow, "_LONGEST", 0.05)
+
+
+def following(endpoint, **others):
+    return validator({"example.org": endpoint, **others}, clock=lambda: NOW)
+
+
+def test_https_web(authority, tmp_path, quick):
+    """Until the bundle came, the validator is not ready. A rotation is followed."""
+    with Served(authority.server(tmp_path)) as served:
+        served.hangs.clear()
+        with following(svid.Endpoint(served.url, authorities=authority.pem(tmp_path))) as checks:
+            until(lambda: served.asked)
+            assert "bundle" in checks.unready()
+            with pytest.raises(svid.Unavailable) as raised:
+                checks.check(token(), NOW)
+            assert raised.value.reason == "NotReady"
+            served.hangs.set()
+            soon(checks, ACCEPTED)
+            assert checks.unready() is None
+            served.text = json.dumps({**json.loads(rotation(1)), "spiffe_refresh_hint": 1}).encode()
+            checks.renew()
+            soon(checks, ACCEPTED, token(key=private_key("ES256", 1)))
+            served.text = GOOD
+            soon(checks, ACCEPTED)
+
+
+def test_a_bundle_that_did_not_come_is_no_unknown_domain(authority, tmp_path):
+    with Served(authority.server(tmp_path)) as served:
+        served.hangs.clear()
+        endpoint = svid.Endpoint(served.url, authorities=authority.pem(tmp_path))
+        with following(endpoint, **{"other.example": {"keys": []}}) as checks:
+            for call in checks.check, checks.judge:
+                with pytest.raises(svid.Unavailable, match="example.org") as raised:
+                    call(token(), NOW)
+                assert raised.value.reason == "NoBundle"
+            stranger = token(sub="spiffe://third.example/a")
+            assert judged(checks, stranger) == "refused UnknownDomain"
+            served.hangs.set()
+            soon(checks, ACCEPTED)
+
+
+def faulty(checks, caplog, text):
+    """Waits until a fault is told that has this text, and looks that it is told once."""
+    until(lambda: [it for it in told(caplog) if text in it])
+    asked = len(told(caplog))
+    time.sleep(0.05)  # (some more answers come, and tell nothing)
+    assert len(told(caplog)) == asked
+    assert judged(checks, token()).split()[0] in ("unavailable", "accepted")
+
+
+@pytest.mark.parametrize(
+    ("given", "said"),
+    [
+        ({"status": 404}, "it answers status 404"),
+        ({"text": b"{}"}, "example.org"),
+        ({"text": b" " * (1 << 20) + GOOD}, "it has more than 1,048,576 bytes"),
+        ({"text": b'{"keys":[%s]}' % b",".join([b"[]"] * 40_000)}, "of the brackets { and ["),
+        ({"status": 302, "headers": {"Location": "http://127.0.0.1/"}}, "it leads elsewhere"),
+        ({"status": 302, "headers": {"Location": "/bundle"}}, "it answers status 302"),
+    ],
+    ids=["status", "no bundle", "too long", "too many brackets", "to http", "in a circle"],
+)
+def test_what_an_endpoint_may_answer(authority, tmp_path, quick, caplog, given, said):
+    """The last good bundle stays. The fault is told once, with the address."""
+    with Served(authority.server(tmp_path)) as served:
+        endpoint = svid.Endpoint(served.url, authorities=authority.pem(tmp_path))
+        with following(endpoint) as checks:
+            soon(checks, ACCEPTED)
+            vars(served).update(given)
+            checks.renew()
+            faulty(checks, caplog, said)
+            assert judged(checks, token()) == ACCEPTED
+            assert served.url in told(caplog)[-1]
+            served.status, served.headers, served.text = 200, {}, rotation(1).encode()
+            soon(checks, ACCEPTED, token(key=private_key("ES256", 1)))
+
+
+@pytest.mark.parametrize("known", ["the system", "a file", "a bundle"])
+def test_a_server_of_another_authority(authority, tmp_path, quick, caplog, known):
+    file = tmp_path / "known.json"
+    file.write_bytes(bundle_of(authority))
+    terms = {
+        "the system": {},
+        "a file": {"authorities": authority.pem(tmp_path)},
+        "a bundle": {"authorities": file, "spiffe_id": ID},
+    }
+    with Served(Authority().server(tmp_path, ID)) as served:
+        with following(svid.Endpoint(served.url, **terms[known])) as checks:
+            faulty(checks, caplog, "certificate verify failed")
+            assert served.asked == 0
+
+
+def test_https_spiffe(authority, tmp_path, quick):
+    """By the first bundle at first, and then by the one that came."""
+    second, known = Authority(), tmp_path / "known.json"
+    known.write_bytes(bundle_of(authority))
+    with Served(authority.server(tmp_path, ID)) as served:
+        served.text = bundle_of(second, entry(private_key("ES256", 1), "k2"), spiffe_refresh_hint=1)
+        endpoint = svid.Endpoint(served.url, spiffe_id=ID, authorities=known)
+        with following(endpoint) as checks:
+            soon(checks, ACCEPTED)
+            known.unlink()
+            served.context.load_cert_chain(second.server(tmp_path, ID))
+            served.text = json.dumps({**json.loads(rotation(1))}).encode()
+            soon(checks, ACCEPTED, token(key=private_key("ES256", 1)))
+
+
+def test_https_spiffe_by_the_bundle_of_another_source(authority, tmp_path, quick, caplog):
+    other = "spiffe://other.example/server"
+    with Served(authority.server(tmp_path, other)) as served:
+        known = tmp_path / "other.json"
+        known.write_text('{"keys":[]}')
+        endpoint = svid.Endpoint(served.url, spiffe_id=other)
+        with following(endpoint) as checks:
+            faulty(checks, caplog, "the bundle of other.example was not read yet")
+        with validator({"example.org": endpoint, "other.example": known}, refresh=0.01) as checks:
+            faulty(checks, caplog, 'has the use "x509-svid"')
+            known.write_bytes(bundle_of(authority))
+            soon(checks, ACCEPTED)
+
+
+@pytest.mark.parametrize(
+    ("uris", "terms", "said"),
+    [
+        ([], {}, "but has []"),
+        ([ID + "s"], {}, f"not that of {ID}"),
+        ([ID.upper()], {}, f"not that of {ID}"),
+        ([ID, "spiffe://example.org/b"], {}, f"not that of {ID}"),
+        ([ID], {"signs": True}, "may sign others"),
+    ],
+    ids=["none", "longer", "capitals", "two", "signs"],
+)
+def test_a_server_of_another_id(authority, tmp_path, quick, caplog, uris, terms, said):
+    known = tmp_path / "known.json"
+    known.write_bytes(bundle_of(authority))
+    with Served(authority.server(tmp_path, *uris, **terms)) as served:
+        with following(svid.Endpoint(served.url, spiffe_id=ID, authorities=known)) as checks:
+            faulty(checks, caplog, said)
+            assert served.asked == 0
+
+
+def test_a_redirect_of_a_server_with_an_id(authority, tmp_path, quick, caplog):
+    known = tmp_path / "known.json"
+    known.write_bytes(bundle_of(authority))
+    with Served(authority.server(tmp_path, ID)) as served:
+        served.status, served.headers = 302, {"Location": served.url + "/2"}
+        with following(svid.Endpoint(served.url, spiffe_id=ID, authorities=known)) as checks:
+            faulty(checks, caplog, "it leads elsewhere")
+
+
+def test_an_answer_that_does_not_come(authority, tmp_path, quick, caplog, monkeypatch):
+    """It takes too long, or the validator is closed meanwhile. No thread stays."""
+    monkeypatch.setattr(sources, "LIMIT", 0.2)
+    with Served(authority.server(tmp_path)) as served:
+        served.hangs.clear()
+        endpoint = svid.Endpoint(served.url, authorities=authority.pem(tmp_path))
+        with following(endpoint) as checks:
+            faulty(checks, caplog, "it took longer than")
+        monkeypatch.setattr(sources, "LIMIT", 3 * PATIENCE)
+        asked = served.asked
+        checks = following(endpoint)
+        until(lambda: served.asked > asked)
+        answered = served.answered
+        checks.close()
+        assert served.answered == answered
+        assert not [it for it in threading.enumerate() if it.name == "svid-bundles"]
+
+
+@pytest.mark.parametrize(
+    ("hint", "seconds"),
+    [("20", 20), ("1", 10), ("86401", 86_400), ("0", 300), ("-1", 300), ('"9"', 300)]
+    + [("1.5", 300), ("null", 300), ("1" * 5000, 300)],
+)
+def test_when_a_bundle_is_asked_for_again(hint, seconds):
+    assert sources._good_for(b'{"keys":[],"spiffe_refresh_hint":%s}' % hint.encode()) == seconds
+
+
+def test_a_bundle_without_a_hint():
+    for text in b'{"keys":[]}', b"[]", b"[" * 100_000:
+        assert sources._good_for(text) == 300
+
+
+@pytest.mark.parametrize(
+    "endpoint",
+    [
+        svid.Endpoint("http://example.org/bundle"),
+        svid.Endpoint("https:///bundle"),
+        svid.Endpoint("https://a:b@example.org/bundle"),
+        svid.Endpoint("https://example.org", spiffe_id="spiffe://example.org"),
+        svid.Endpoint("https://example.org", spiffe_id="example.org/a"),
+        svid.Endpoint("https://example.org", spiffe_id=ID),
+    ],
+)
+def test_an_endpoint_that_can_not_be(endpoint):
+    with pytest.raises(ValueError):
+        following(endpoint)
+
+
+# -- A Workload API
+
+
+def message(bundles):
+    """A JWTBundlesResponse."""
+
+    def field(number, data):
+        return bytes([8 * number + 2]) + varint(len(data)) + data
+
+    rows = (field(1, name.encode()) + field(2, text) for name, text in bundles.items())
+    return b"".join(field(1, it) for it in rows)
+
+
+def varint(number):
+    some = b""
+    while number >= 128:
+        some += bytes([number % 128 + 128])
+        number //= 128
+    return some + bytes([number])
+
+
+class Agent:
+    """A Workload API, which gives what a test says."""
+
+    def __init__(self):
+        self.given, self.calls, self.streams = queue.SimpleQueue(), [], 0
+
+    def fetch(self, request, context):
+        self.calls.append((request, dict(context.invocation_metadata())))
+        self.streams += 1
+        context.add_callback(self.ended)
+        while context.is_active():
+            try:
+                said = self.given.get(timeout=0.05)
+            except queue.Empty:
+                continue
+            if isinstance(said, grpc.StatusCode):
+                context.abort(said, "no\nmore")
+            yield message(said)
+
+    def ended(self):
+        self.streams -= 1
+
+
+@pytest.fixture
+def agent(tmp_path):
+    """It is served at unix:PATH."""
+    made, workers = Agent(), concurrent.futures.ThreadPoolExecutor(4)
+    made.server = grpc.server(workers)
+    methods = {"FetchJWTBundles": grpc.unary_stream_rpc_method_handler(made.fetch)}
+    handler = grpc.method_handlers_generic_handler("SpiffeWorkloadAPI", methods)
+    made.server.add_generic_rpc_handlers((handler,))
+    made.address = f"unix://{tmp_path}/agent.sock"
+    made.port = made.server.add_insecure_port(made.address)
+    made.server.start()
+    yield made
+    made.server.stop(None).wait(PATIENCE)
+    workers.shutdown()
+
+
+PLAIN = {name: it for name, it in JWKS["keys"][0].items() if name != "use"}
+FROM_AGENT = json.dumps({"keys": [PLAIN]}).encode()  # (without a use, as SPIRE gives it)
+
+
+def test_a_workload_api(agent, quick, caplog, monkeypatch):
+    """Bundles come, change and go. One that is bad stays as it was."""
+    monkeypatch.setenv("SPIFFE_ENDPOINT_SOCKET", agent.address)
+    other = token(sub="spiffe://other.example/a")
+    with validator(svid.WorkloadApi(), clock=lambda: NOW) as checks:
+        assert "bundle" in checks.unready()
+        agent.given.put({"spiffe://example.org": FROM_AGENT, "spiffe://other.example": FROM_AGENT})
+        soon(checks, ACCEPTED)
+        assert checks.unready() is None
+        assert judged(checks, other).startswith("accepted")
+        agent.given.put({"spiffe://example.org": b"[]", "spiffe://other.example": b'{"keys":[]}'})
+        soon(checks, "refused NoKey", other)
+        assert judged(checks, token()) == ACCEPTED
+        agent.given.put({})
+        until(lambda: any("it gives no bundle" in it for it in told(caplog)))
+        assert judged(checks, token()) == ACCEPTED
+        agent.given.put({"spiffe://example.org": FROM_AGENT})
+        soon(checks, "refused UnknownDomain", other)
+        assert judged(checks, token()) == ACCEPTED
+        [(request, metadata)] = agent.calls
+        assert request == b"" and metadata["workload.spiffe.io"] == "true"
+    until(lambda: agent.streams == 0)
+    assert not [it for it in threading.enumerate() if it.name == "svid-bundles"]
+
+
+def test_a_workload_api_that_goes_is_asked_again(agent, quick, caplog):
+    with validator(svid.WorkloadApi(agent.address)) as checks:
+        agent.given.put({"spiffe://example.org": FROM_AGENT})
+        soon(checks, ACCEPTED)
+        agent.given.put(grpc.StatusCode.UNAVAILABLE)
+        faulty(checks, caplog, "UNAVAILABLE: 'no\\nmore'")
+        assert judged(checks, token()) == ACCEPTED
+        agent.given.put({"spiffe://example.org": b'{"keys":[]}'})
+        soon(checks, "refused NoKey")
+
+
+def test_a_workload_api_that_refuses_the_call_itself(agent, quick, caplog):
+    with validator(svid.WorkloadApi(agent.address)) as checks:
+        agent.given.put(grpc.StatusCode.INVALID_ARGUMENT)
+        faulty(checks, caplog, "it refuses the call itself")
+        assert len(agent.calls) == 1
+
+
+def test_a_workload_api_that_is_silent(agent, quick, caplog, monkeypatch):
+    monkeypatch.setattr(sources, "LIMIT", 0.2)
+    with validator(svid.WorkloadApi(agent.address)) as checks:
+        faulty(checks, caplog, "it sent no bundles within")
+        agent.given.put({"spiffe://example.org": FROM_AGENT})
+        soon(checks, ACCEPTED)
+        until(lambda: agent.streams == 1)
+        calls = len(agent.calls)
+        time.sleep(0.5)  # (it may be silent for longer, once it has given bundles)
+        assert len(agent.calls) == calls
+
+
+def test_a_workload_api_that_is_not_there(tmp_path, quick, caplog):
+    with validator(svid.WorkloadApi(f"unix:{tmp_path}/none")) as checks:
+        until(lambda: any("UNAVAILABLE" in it for it in told(caplog)))
+        assert judged(checks, token()) == "unavailable NoBundle"
+
+
+@pytest.mark.parametrize(
+    ("address", "target"),
+    [
+        ("unix:///run/agent.sock", "unix:/run/agent.sock"),
+        ("unix:/run/agent.sock", "unix:/run/agent.sock"),
+        ("tcp://127.0.0.1:8081", "127.0.0.1:8081"),
+        ("tcp://[::1]:8081", "[::1]:8081"),
+    ],
+)
+def test_an_address_of_a_workload_api(address, target):
+    assert svid.WorkloadApi(address).target() == target
+
+
+@pytest.mark.parametrize(
+    "address",
+    ["", "unix:run", "unix:///run?a", "tcp://localhost:1", "tcp://127.0.0.1", "http://127.0.0.1:1"]
+    + ["tcp://127.0.0.1:1/", "tcp://a@127.0.0.1:1", "tcp://127.0.0.1:0", "tcp://127.0.0.1:99999"],
+)
+def test_an_address_that_can_not_be(address, monkeypatch):
+    monkeypatch.delenv("SPIFFE_ENDPOINT_SOCKET", raising=False)
+    with pytest.raises(ValueError, match="is not like unix:///run/spire/agent.sock"):
+        validator(svid.WorkloadApi(address))
