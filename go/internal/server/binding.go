@@ -128,7 +128,8 @@ func (c Caller) whyNone() error {
 // text. It leaves out which header the name came from: all members of a group have one --caller, and where two proxies name one client by two headers,
 // it is one caller.
 func callerBy(kind, name string) Caller {
-	digest := sha256.Sum256([]byte(kind + "\x00" + name))
+	var room [256]byte // A name of a usual length asks for no memory.
+	digest := sha256.Sum256(append(append(append(room[:0], kind...), 0), name...))
 	if kind != "address" && !isName(name) { // It may be a secret, such as a token.
 		name = "sha256:" + hex.EncodeToString(digest[:16])
 	}
@@ -149,7 +150,7 @@ func (c *CallerRule) Of(header http.Header, source Source) Caller {
 	case c.kind == "peer" && source.Address == "":
 		return noCaller("no address of a peer is known: let Envoy ask by gRPC, or name a header that the proxy sets (--caller address:HEADER)")
 	case c.kind == "peer":
-		return c.within(source.Address, "the peer")
+		return c.within(source.Address)
 	}
 	values := header[c.header]
 	value := ""
@@ -164,7 +165,7 @@ func (c *CallerRule) Of(header http.Header, source Source) Caller {
 	case value == "":
 		return noCaller("the header %s is empty: let the proxy set it", c.header)
 	case c.kind == "address":
-		return c.within(value, "the header "+c.header)
+		return c.within(value)
 	}
 	return callerBy("header", value)
 }
@@ -187,17 +188,25 @@ func isURI(text string) bool {
 // mostShown is how many bytes of what is no address stand in the log. No token is so short.
 const mostShown = 64
 
+// where says what has the address of a client.
+func (c *CallerRule) where() string {
+	if c.kind == "peer" {
+		return "the peer"
+	}
+	return "the header " + c.header
+}
+
 // within is the caller of an address, or of its network.
-func (c *CallerRule) within(text, where string) Caller {
+func (c *CallerRule) within(text string) Caller {
 	address, err := netip.ParseAddr(text)
 	if err != nil && len(text) > mostShown {
-		return noCaller("%s has %d bytes that are not one IP address: let the proxy set it to that of the client", where, len(text))
+		return noCaller("%s has %d bytes that are not one IP address: let the proxy set it to that of the client", c.where(), len(text))
 	}
 	if err != nil {
-		return noCaller("%s has %q, which is not one IP address: let the proxy set it to that of the client", where, text)
+		return noCaller("%s has %q, which is not one IP address: let the proxy set it to that of the client", c.where(), text)
 	}
 	if address.Zone() != "" { // Hosts of two links may have one such address, and only this machine knows which link a zone is.
-		return noCaller("%s has an address with a zone, which two clients may share: let the proxy set it to one without", where)
+		return noCaller("%s has an address with a zone, which two clients may share: let the proxy set it to one without", c.where())
 	}
 	address = address.Unmap()
 	bits := c.six
@@ -209,7 +218,7 @@ func (c *CallerRule) within(text, where string) Caller {
 	}
 	network, err := address.Prefix(bits)
 	if err != nil {
-		return noCaller("%s has no network of %d bits: %v", where, bits, err)
+		return noCaller("%s has no network of %d bits: %v", c.where(), bits, err)
 	}
 	return callerBy("address", network.String())
 }

@@ -88,9 +88,15 @@ func (c *claimQueue) due() time.Duration {
 
 // openClaim lets the claim of a request wait for a call, unless the store has said before whose the token is: it stays that.
 func (m *Machine) openClaim(r *Request, use svid.Use) {
-	r.claim = claims.Claim{Key: use.Key, Owner: m.ownerOf(r, use.Expires), Expires: use.Expires}
-	if found, known := m.claims.known.find(&r.claim); known && (found.Owner != r.claim.Owner || m.hears()) {
-		m.found(r, found)
+	r.claim = claims.Claim{Key: use.Key, Expires: use.Expires}
+	one, known := m.claims.known.find(&r.claim)
+	if known && one.mine && one.caller == r.Caller {
+		r.claim.Owner = one.found.Owner
+	} else {
+		r.claim.Owner = m.ownerOf(r, use.Expires)
+	}
+	if known && (one.found.Owner != r.claim.Owner || m.hears()) {
+		m.found(r, one.found)
 		return
 	}
 	r.stage = claiming
@@ -162,7 +168,7 @@ func (m *Machine) found(r *Request, found svid.Found) {
 		r.Owner = found.Owner.ValidatorID()
 	}
 	if lost || m.Mode == Bound && (err == nil || err == svid.ErrClaimDeaf) {
-		m.claims.known.add(m.now.Up, &r.claim, found)
+		m.claims.known.add(m.now.Up, r, found)
 	}
 	m.judged(r, accepted, deed, err)
 }
@@ -191,6 +197,8 @@ type knownClaims struct {
 type knownClaim struct {
 	expires uint64
 	found   svid.Found
+	caller  [32]byte // who asked
+	mine    bool     // the token is that caller's
 }
 
 const (
@@ -204,17 +212,16 @@ func newKnownClaims(now time.Duration) knownClaims {
 	return knownClaims{young: map[svid.TokenKey]knownClaim{}, turned: now}
 }
 
-func (k *knownClaims) add(now time.Duration, claim *claims.Claim, found svid.Found) {
+func (k *knownClaims) add(now time.Duration, r *Request, found svid.Found) {
 	if len(k.young) >= mostKnown || now-k.turned > knownFor && len(k.young) > 0 {
 		k.young, k.old, k.turned = map[svid.TokenKey]knownClaim{}, k.young, now
 	}
-	k.young[claim.Key] = knownClaim{claim.Expires, found}
+	k.young[r.claim.Key] = knownClaim{r.claim.Expires, found, r.Caller, found.Owner == r.claim.Owner}
 }
 
-func (k *knownClaims) find(claim *claims.Claim) (found svid.Found, known bool) {
-	is, known := k.young[claim.Key]
-	if !known {
-		is, known = k.old[claim.Key]
+func (k *knownClaims) find(claim *claims.Claim) (one knownClaim, known bool) {
+	if one, known = k.young[claim.Key]; !known {
+		one, known = k.old[claim.Key]
 	}
-	return is.found, known && is.expires == claim.Expires
+	return one, known && one.expires == claim.Expires
 }

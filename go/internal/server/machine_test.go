@@ -494,9 +494,9 @@ func TestALostClaimIsToldAgain(t *testing.T) {
 func TestAKnownTokenIsThatAlone(t *testing.T) {
 	k := newKnownClaims(0)
 	claim, of := claims.Claim{Key: svid.TokenKey{1}, Expires: moment + 10}, svid.Found{Owner: svid.Owner{7}, Time: moment}
-	k.add(0, &claim, of)
-	if found, known := k.find(&claim); !known || found != of {
-		t.Errorf("%v %v", found, known)
+	k.add(0, &Request{claim: claim}, of)
+	if one, known := k.find(&claim); !known || one.found != of {
+		t.Errorf("%v %v", one, known)
 	}
 	claim.Expires++
 	if _, known := k.find(&claim); known {
@@ -508,12 +508,12 @@ func TestAKnownTokenIsThatAlone(t *testing.T) {
 func TestKnownTokensHaveABound(t *testing.T) {
 	k := newKnownClaims(0)
 	one, of := claims.Claim{Expires: moment}, svid.Found{Owner: svid.Owner{7}}
-	k.add(0, &one, of)
+	k.add(0, &Request{claim: one}, of)
 	if _, known := k.find(&one); !known {
 		t.Error("it is not kept")
 	}
 	for i := 0; i < 3*mostKnown; i++ {
-		k.add(time.Duration(i), &claims.Claim{Key: svid.TokenKey{1, byte(i), byte(i >> 8), byte(i >> 16)}}, of)
+		k.add(time.Duration(i), &Request{claim: claims.Claim{Key: svid.TokenKey{1, byte(i), byte(i >> 8), byte(i >> 16)}}}, of)
 	}
 	if n := len(k.young) + len(k.old); n > 2*mostKnown {
 		t.Errorf("%d are kept", n)
@@ -522,7 +522,7 @@ func TestKnownTokensHaveABound(t *testing.T) {
 		t.Error("one of long ago is kept")
 	}
 	for i := 1; i < 3; i++ { // and each for two minutes at the least, where few come
-		k.add(time.Duration(i)*2*knownFor, &claims.Claim{Key: svid.TokenKey{2, byte(i)}}, of)
+		k.add(time.Duration(i)*2*knownFor, &Request{claim: claims.Claim{Key: svid.TokenKey{2, byte(i)}}}, of)
 	}
 	if n := len(k.young) + len(k.old); n > 2 {
 		t.Errorf("%d are kept though few come", n)
