@@ -1,4 +1,6 @@
-ghost use Rattle.std.specs.Prelude.{◌≡◌, ◌≤◌, ◌==◌, length};
+ghost use Rattle.std.specs.Prelude.{◌≡◌, ◌≤◌, ◌==◌, length, option_map, string_bytes};
+ghost use Rattle.sha2.specs.Sha256.{sha256};
+ghost use Rattle.svid_token.specs.TokenKey.{token_text};
 ghost use Rattle.svid_keys.specs.Candidates.{candidates_left};
 
 use std::alloc::Global;
@@ -16,8 +18,11 @@ pub struct Reading {
     pub signature: Vec<u8>,
     /// What the signature is made over: a copy of that part of the token.
     pub input: Vec<u8>,
+    /// The key by which the uses of the token are told.
+    pub key: [u8; 32],
     pub ghost signature_len: { length signature.items ≤ 65536 },
     pub ghost input_len: { length input.items ≤ 65536 },
+    pub ghost key_told: { key ≡ sha256 (token_text claims.sub.domain (option_map string_bytes claims.jti) input.items) },
 }
 
 impl Reading {
@@ -39,11 +44,13 @@ impl Reading {
         let signature = read_signature(alloc, compact.signature)?;
         let claims = payload.claims(alloc)?;
         let input = compact.input.to_vec(alloc)?;
+        let key = token_key(&claims.sub, claims.jti.as_deref(), &input);
         Ok(Reading {
             header,
             claims,
             signature,
             input,
+            key,
         })
     }
 
@@ -51,7 +58,7 @@ impl Reading {
     pub fn key(&self) -> [u8; 32]
         ensures { result ≡ key_of (said_in self.now) }
     {
-        token_key(&self.claims.sub, self.claims.jti.as_deref(), &self.input)
+        self.key
     }
 
     /// The keys that may have signed the token, in the order of the bundle's list; or why there are
