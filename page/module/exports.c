@@ -169,3 +169,26 @@ EXPORT_VOID(svid_claim_owner,
 EXPORT_VOID(svid_claim_owner_of_caller, (const uint8_t *caller, uint64_t exp, uint8_t *owner), (caller, exp, owner))
 EXPORT_OF(uint64_t, svid_claim_until, (uint64_t exp, uint64_t margin), (exp, margin))
 EXPORT_OF(uint64_t, svid_claim_deaf, (uint64_t time, uint64_t lasts, uint64_t before), (time, lasts, before))
+EXPORT(svid_token_payload,
+       (const uint8_t *token, size_t token_len, uint8_t *out, size_t out_len, svid_told *told),
+       (token, token_len, out, out_len, told))
+EXPORT(svid_journal_open, (svid_folder *f, uint64_t oldest, uint64_t newest), (f, oldest, newest))
+EXPORT(svid_journal_begin, (svid_folder *f), (f))
+EXPORT(svid_journal_due, (const svid_folder *f, svid_due *due), (f, due))
+EXPORT(svid_journal_answer, (svid_folder *f, uint32_t ok), (f, ok))
+EXPORT(svid_journal_put,
+       (svid_folder *f, const svid_folder_id *folder_id, const uint8_t *payload, size_t payload_len, uint8_t *out, size_t out_len,
+        svid_told *told),
+       (f, folder_id, payload, payload_len, out, out_len, told))
+EXPORT(svid_journal_synced, (svid_folder *f), (f))
+EXPORT(svid_journal_unwritten, (svid_folder *f), (f))
+EXPORT(svid_journal_failed, (svid_folder *f), (f))
+EXPORT(svid_journal_piece,
+       (svid_folder *f, const svid_folder_id *folder_id, const uint8_t *payload, size_t payload_len, uint8_t *out, size_t out_len,
+        svid_told *told),
+       (f, folder_id, payload, payload_len, out, out_len, told))
+EXPORT(svid_journal_read,
+       (const svid_folder_id *folder_id, uint64_t journal, const uint8_t *bytes, size_t bytes_len, svid_reader *reader,
+        svid_frame *frame),
+       (folder_id, journal, bytes, bytes_len, reader, frame))
+EXPORT_VOID(svid_journal_bears, (const uint8_t *payload, size_t payload_len, svid_bears *bears), (payload, payload_len, bears))
