@@ -141,6 +141,7 @@ EXPORT(svid_member_judge,
         size_t input_len, const uint8_t *signature, size_t signature_len, svid_token *t, uint8_t *out, size_t out_len, svid_use *used,
         svid_deed *deed, svid_told *told),
        (v, now, up, number, key, key_len, input, input_len, signature, signature_len, t, out, out_len, used, deed, told))
+EXPORT(svid_member_wrote, (svid_validator *v, uint64_t up, uint64_t number, uint64_t ok, svid_deed *deed), (v, up, number, ok, deed))
 EXPORT(svid_member_send, (svid_validator *v, uint64_t up, uint64_t number, svid_deed *deed), (v, up, number, deed))
 EXPORT(svid_member_found,
        (svid_validator *v, uint64_t now, uint64_t up, uint64_t number, const uint8_t *caller, const svid_found *found,
