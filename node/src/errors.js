@@ -152,8 +152,8 @@ const reasonOf = (status) => words.get(status).name.replace(/^SVID_/, "").replac
 const NO_MEMORY = 2, CLOSED = 5, GONE = 7, TOO_FAR = 8, JUMP = 9, NOT_ALLOWED = 91;
 const FAULTS = new Map([[NO_MEMORY, OutOfMemory], [CLOSED, Closed], [GONE, Gone], [TOO_FAR, TooFar], [JUMP, Jump], [NOT_ALLOWED, NotAllowed]]);
 // Those of bundles that can't be read, and of these the ones that are about one of several trust domains.
-const TOO_MUCH = 3, NOT_SUMMARY = 4, BUNDLES_NOT_OBJECT = 31, BUNDLES_DOMAIN = 32, BUNDLES_KEYS = 33, BUNDLES_TWICE = 38;
-const BUNDLE_FAULTS = new Set([TOO_MUCH, BUNDLES_NOT_OBJECT, BUNDLES_DOMAIN, BUNDLES_KEYS]);
+const TOO_MUCH = 3, NOT_SUMMARY = 4, BUNDLES_NOT_OBJECT = 31, BUNDLES_DOMAIN = 32, BUNDLES_KEYS = 33, BUNDLES_UNNAMED = 37, BUNDLES_TWICE = 38;
+const BUNDLE_FAULTS = new Set([TOO_MUCH, BUNDLES_NOT_OBJECT, BUNDLES_DOMAIN, BUNDLES_KEYS, BUNDLES_UNNAMED]);
 const RANKED = new Set([BUNDLES_DOMAIN, BUNDLES_KEYS]);
 // Those of a bundle that can't be joined to others.
 const DOCUMENT_FAULTS = new Set([BUNDLES_NOT_OBJECT, BUNDLES_DOMAIN, BUNDLES_KEYS, BUNDLES_TWICE]);
@@ -167,8 +167,12 @@ export function ofStatus(status, told) {
   return new SvidError(`the library answered ${status}, which include/svid.h explains`);
 }
 
-/** The same, of a call that reads bundles. */
-export function ofBundles(status, told) {
+/**
+ * The same, of a call that reads bundles. `joined` is what a join answers of them alone: to the call, the `keys` of a bundle without a name are a
+ * name.
+ */
+export function ofBundles(status, told, joined) {
+  if (RANKED.has(status) && joined() === BUNDLES_UNNAMED) return ofBundles(BUNDLES_UNNAMED, told);
   if (!BUNDLE_FAULTS.has(status)) return ofStatus(status, told);
   return new BadBundles(wordsOf(status, RANKED.has(status) ? `It is number ${told.offset} of the names in rising order, counted from 0.` : ""));
 }

@@ -26,9 +26,15 @@ test("calls that do nothing", async () => {
 
 test("bundles that can't be read", async () => {
   const rank = (number) => `It is number ${number} of the names in rising order, counted from 0.`;
+  const opened = await open();
   const rows = [["[]", "NOT_OBJECT", ""], ['{"a":{"keys":[]},"B":{}}', "DOMAIN", rank(0)], ['{"a":{"keys":[]},"b":{}}', "KEYS", rank(1)]];
   for (const [bundles, name, where] of rows) {
     await assert.rejects(open({ bundles }), { name: "BadBundles", message: sentences(`BUNDLES_${name}`, where) });
+  }
+  for (const bundles of ['{"keys":[],"spiffe_sequence":1}', '{"A":1,"keys":null}']) {
+    const unnamed = { name: "BadBundles", message: sentences("BUNDLES_UNNAMED") };
+    await assert.rejects(open({ bundles }), unnamed);
+    assert.throws(() => opened.renew(bundles), unnamed);
   }
   const none = '{"keys":[]}', given = [["a", "[]", "NOT_OBJECT"], ["B", none, "DOMAIN"], ["a", "{}", "KEYS"], ["spiffe://b", none, "TWICE"]];
   for (const [domain, text, name] of given) {

@@ -90,6 +90,7 @@ impl Error {
             ffi::BUNDLES_NOT_OBJECT => DocumentFault::NotObject,
             ffi::BUNDLES_DOMAIN => DocumentFault::Domain,
             ffi::BUNDLES_KEYS => DocumentFault::Keys,
+            ffi::BUNDLES_UNNAMED => DocumentFault::Unnamed,
             ffi::BUNDLES_TWICE => DocumentFault::Twice,
             status => return Error::of(status, told),
         };
@@ -271,6 +272,8 @@ pub enum BundlesFault {
         /// The number of its name.
         number: usize,
     },
+    /// They are the bundle of one trust domain, without its name.
+    Unnamed,
     /// One of the bundles of [`Sources`](crate::Sources) that never change can't be joined to the others.
     Document {
         /// Which one: the first is number 0.
@@ -284,6 +287,7 @@ impl fmt::Display for BundlesFault {
     fn fmt(&self, f: &mut fmt::Formatter<'_>) -> fmt::Result {
         let (status, number) = match self {
             BundlesFault::NotObject => return words::write_plain(f, ffi::BUNDLES_NOT_OBJECT),
+            BundlesFault::Unnamed => return words::write_plain(f, ffi::BUNDLES_UNNAMED),
             BundlesFault::Document { number, fault } => {
                 return words::write(f, fault.status(), format_args!(" (number {number} of the joined bundles, counted from 0)"));
             }
@@ -306,6 +310,8 @@ pub enum DocumentFault {
     Domain,
     /// It has no list `keys`.
     Keys,
+    /// It is the bundle of one trust domain, without its name.
+    Unnamed,
     /// An earlier bundle has the same trust domain.
     Twice,
 }
@@ -322,6 +328,7 @@ impl DocumentFault {
             DocumentFault::NotObject => ffi::BUNDLES_NOT_OBJECT,
             DocumentFault::Domain => ffi::BUNDLES_DOMAIN,
             DocumentFault::Keys => ffi::BUNDLES_KEYS,
+            DocumentFault::Unnamed => ffi::BUNDLES_UNNAMED,
             DocumentFault::Twice => ffi::BUNDLES_TWICE,
         }
     }

@@ -101,6 +101,13 @@ fn bundles() {
         assert_eq!(unread(text).to_string(), due);
     }
     let none = r#"{"keys":[]}"#;
+    for text in [none, r#"{"A":1,"keys":null}"#] {
+        assert_eq!(unread(text).to_string(), listed.whole("BUNDLES_UNNAMED"));
+        let due = listed.says("BUNDLES_UNNAMED")
+            + " (number 0 of the joined bundles, counted from 0): "
+            + listed.field("BUNDLES_UNNAMED", "advice");
+        assert_eq!(unread(Sources::from(text).bundle("b", none)).to_string(), due);
+    }
     let rows = [("a", "[]", "NOT_OBJECT"), ("B", none, "DOMAIN"), ("a", "{}", "KEYS"), ("spiffe://b", none, "TWICE")];
     for (name, text, status) in rows {
         let status = format!("BUNDLES_{status}");

@@ -46,8 +46,9 @@ class State implements Runnable {
             terms.setLong(Library.Terms.AHEAD, options.ahead());
             terms.setLong(Library.Terms.STEP, options.step());
             terms.write(Library.Terms.VALIDATOR_ID, id, 0, id.length);
-            told.must(Library.svid_validator_open_by_lengths(
-                    handle, terms, own, len, lens, audiences.size(), lent.put(bundles), bundles.length, told.at));
+            Pointer text = lent.put(bundles);
+            told.mustRead(text, bundles.length,
+                    Library.svid_validator_open_by_lengths(handle, terms, own, len, lens, audiences.size(), text, bundles.length, told.at));
         }
     }
 
@@ -101,7 +102,8 @@ class State implements Runnable {
             Told said = new Told(lent);
             Pointer fresh = lent.take(Library.Handle.SIZE);
             fresh.clear(Library.Handle.SIZE);
-            said.must(Library.svid_bundles_open(fresh, lent.put(bundles), bundles.length, said.at));
+            Pointer text = lent.put(bundles);
+            said.mustRead(text, bundles.length, Library.svid_bundles_open(fresh, text, bundles.length, said.at));
             try {
                 said.must(locked(v -> {
                     edition++;

@@ -170,7 +170,7 @@ public abstract sealed class SvidException extends RuntimeException {
         private final String trustDomain;
 
         BadBundles(Status status, long index) {
-            super(status.says(status == Status.BUNDLES_NOT_OBJECT
+            super(status.says(status == Status.BUNDLES_NOT_OBJECT || status == Status.BUNDLES_UNNAMED
                                   ? ""
                                   : " It is number " + index + " of the names in rising order, counted from 0."),
                     null);
@@ -193,8 +193,8 @@ public abstract sealed class SvidException extends RuntimeException {
         }
 
         /**
-         * NotObject, or of a trust domain: Domain for its name, Keys for its list of keys, and where bundles are joined, Twice if an
-         * earlier one is of the same trust domain.
+         * NotObject, or Unnamed if they are the bundle of one trust domain without its name. Or of a trust domain: Domain for its name,
+         * Keys for its list of keys, and where bundles are joined, Twice if an earlier one is of the same trust domain.
          */
         public String reason() {
             return reason;
