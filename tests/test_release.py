@@ -3,8 +3,7 @@ install it with, in a folder from where no checkout can be seen and no network b
 
 import base64
 import hashlib
-import importlib.machinery
-import importlib.util
+import importlib
 import json
 import os
 import re
@@ -42,6 +41,12 @@ NAMES = [
 ]
 # What says something of the other files.
 BESIDE = ("SHA256SUMS", ".spdx.json", ".vex.json")
+
+
+sys.path.insert(0, str(TOP / "packaging"))
+VEX = importlib.import_module("vex")
+script = importlib.import_module("common").loaded
+DOCS = script("tools/docs")
 
 
 def output(*words, **more):
@@ -440,20 +445,14 @@ def test_each_link_of_a_document_leads_somewhere(room, name, usr):
     documents = sorted((root / "share/doc/svid").rglob("*.md"))
     assert {"README.md", "INSTALL.md", "SIDECAR.md", "CHANGELOG.md"} <= {it.name for it in documents}
     links = [(it, link) for it in documents for link in re.findall(r"\]\(([^)\s]+)\)", it.read_text()) if not re.match(r"\w+:", link)]
-    assert len(links) > 500
+    assert len(links) > 300
     lost = []
     for it, link in links:
         path, _, heading = link.partition("#")
         target = (it.parent / path).resolve() if path else it
-        if not target.is_relative_to(root) or not target.exists() or heading and heading not in headings(target):
+        if not target.is_relative_to(root) or not target.exists() or heading and heading not in DOCS.anchors(target):
             lost.append(f"{it.relative_to(root)}: {link}")
     assert lost == []
-
-
-def headings(path):
-    """The headings of a document, as a link names them."""
-    found = re.findall(r"^#+ (.*)$", path.read_text(), re.M)
-    return {re.sub(r"[^\w\- ]", "", it.lower()).replace(" ", "-") for it in found}
 
 
 # The signature
@@ -526,11 +525,6 @@ def test_what_is_said_of_known_faults(release):
         assert it.keys() == {"vulnerability", "products", "status"} | wanted[it["status"]], it
 
 
-def vex():
-    sys.path.insert(0, str(TOP / "packaging"))
-    return importlib.import_module("vex")
-
-
 ROW = {"names": ["CVE-1"], "of": "stdlib", "fixed": "1.20.3", "packages": ["html/template"]}
 SAID = {"because": "It is not called.", "how": "vulnerable_code_not_in_execute_path"}
 
@@ -559,15 +553,15 @@ def test_a_fault_by_what_a_program_has_in_it(more, version, names, due):
     programs = [({"stdlib": version}, {"main.main"}), ({"stdlib": version}, names)]
     if due.startswith(("Say", "Take")):
         with pytest.raises(SystemExit, match=due):
-            vex().statement(ROW | more, programs)
+            VEX.statement(ROW | more, programs)
     else:
-        said = vex().statement(ROW | more, programs)
+        said = VEX.statement(ROW | more, programs)
         assert said.get("justification", said["status"]) == due
 
 
 def test_a_program_says_what_is_in_it(release, tmp_path):
     output("dpkg-deb", "-x", release / f"svid_{VERSION}_arm64.deb", tmp_path)
-    modules, names = vex().inside(tmp_path / "usr/bin/svidd")
+    modules, names = VEX.inside(tmp_path / "usr/bin/svidd")
     assert modules["stdlib"] == re.search(r"go([\d.]+)", output("go", "version"))[1] and modules["github.com/lib/pq"]
     assert {"main.main", "net/http.(*Client).do", "github.com/nats-io/nats.go.Connect"} <= names
 
@@ -696,10 +690,7 @@ def test_what_is_in_a_wheel_is_recorded(unpacked, it):
 )
 def test_the_glibc_of_a_tag(tmp_path, source, flags, due):
     needs("cc")
-    sys.path.insert(0, str(TOP / "packaging"))
-    loader = importlib.machinery.SourceFileLoader("wheel_of_packaging", str(TOP / "packaging/wheel"))
-    module = importlib.util.module_from_spec(importlib.util.spec_from_loader("wheel_of_packaging", loader))
-    loader.exec_module(module)
+    module = script("packaging/wheel")
     (tmp_path / "one.c").write_text(source)
     output("cc", "-shared", "-fPIC", "-o", tmp_path / "one.so", tmp_path / "one.c", *flags)
     if isinstance(due, tuple):
