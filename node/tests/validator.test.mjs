@@ -84,7 +84,6 @@ test("a refusal has a name and a sentence, and nothing of the token", async () =
   assert.ok(why instanceof Refusal && why instanceof SvidError && why instanceof Error);
   assert.equal(String(why), "Replayed: The token was accepted before, here or by a validator whose messages were taken.");
   assert.ok(!JSON.stringify({ ...why }).includes(text.slice(0, 10)));
-  assert.equal(REFUSALS.length, 25);
   assert.equal(REFUSALS.at(-1), "Replayed");
   validator.close();
 });
