@@ -110,10 +110,13 @@ func byName(t *testing.T, all []*manifest) map[string]string {
 	t.Helper()
 	objects := map[string]string{}
 	for _, m := range all {
-		annotations, _ := member(m.raw, "spec", "template", "metadata", "annotations").(map[string]any)
-		delete(annotations, "checksum/config")
-		if annotations != nil && len(annotations) == 0 {
-			delete(member(m.raw, "spec", "template", "metadata").(map[string]any), "annotations")
+		for _, of := range []any{member(m.raw, "metadata"), member(m.raw, "spec", "template", "metadata")} {
+			about, _ := of.(map[string]any)
+			annotations, _ := about["annotations"].(map[string]any)
+			delete(annotations, "checksum/config")
+			if len(annotations) == 0 { // (older kustomize writes an empty object)
+				delete(about, "annotations")
+			}
 		}
 		text, err := json.MarshalIndent(m.raw, "", " ")
 		must(t, err)
