@@ -270,6 +270,8 @@ def test_the_list_is_of_the_form_of_spdx(release):
     for it in listed["packages"]:
         assert re.fullmatch(r"NOASSERTION|[A-Za-z0-9.-]+( (AND|OR) [A-Za-z0-9.-]+)*", it["licenseDeclared"])
         assert it["filesAnalyzed"] == ("packageVerificationCode" in it)
+    from_debian = {it["name"] for it in listed["packages"] if it.get("supplier") == "Organization: Debian"}
+    assert {"openssl", "glibc", "go", "github.com/lib/pq"} <= from_debian and "rattle-kit" not in from_debian
 
 
 def libraries(release, name):
