@@ -296,6 +296,39 @@ func TestSettingsThatLose(t *testing.T) {
 	wantOwner(t, claimstest.Put(t, b, one(3))[0], claimstest.Own(3))
 }
 
+// Entries that left too early end one epoch, and not each one that follows: for who saw that, and for who starts later.
+func TestWhatLeftTooEarlyEndsOneEpoch(t *testing.T) {
+	t.Parallel()
+	m := newMachine(t)
+	o := claimstest.Options{Name: "early", Terms: claimstest.Usual}
+	a, b := open(t, m, o), open(t, m, o)
+	before := claimstest.State(t, a)
+	claimstest.Put(t, a, one(1))
+	js := admin(t, m.URL)
+	i, err := js.StreamInfo(a.stream(ofClaims))
+	if err != nil {
+		t.Fatal(err)
+	}
+	due := i.Config
+	i.Config.MaxAge, i.Config.Duplicates = time.Second, 0
+	for _, config := range []client.StreamConfig{i.Config, due} {
+		if _, err := js.UpdateStream(&config); err != nil {
+			t.Fatal(err)
+		}
+		natstest.Await(t, "the claim to go", func() bool {
+			is, err := js.StreamInfo(a.stream(ofClaims))
+			return err == nil && is.State.Msgs == 0
+		})
+	}
+	haveEnded(t, m, o, before, a, b)
+	next := claimstest.State(t, a)
+	for _, store := range []*Store{a, b, open(t, m, o), a, b} {
+		if is := claimstest.State(t, store); is.Epoch != next.Epoch || is.Deaf != next.Deaf {
+			t.Errorf("%+v, and then %+v", next, is)
+		}
+	}
+}
+
 // Each setting by which a stream may lose claims, or can't be written, is named, with what it must be.
 func TestUnfitStreams(t *testing.T) {
 	t.Parallel()
