@@ -313,7 +313,7 @@ func clusterIsPutBack(t *testing.T, isSeen bool) {
 	begin := func() *Store {
 		store := newStore(t, o)
 		if isSeen {
-			store.forRun = 10 * time.Second // (a busy machine takes its time to let the other one look)
+			store.forRun = compares
 		}
 		t.Cleanup(func() { store.Close() })
 		claimstest.Open(t, store)
@@ -375,12 +375,7 @@ func TestALeaderHangs(t *testing.T) {
 		crowd.more(what, len(members))
 	}
 	answers("claims")
-	js, done, err := adminAt(servers[0].URL)
-	if err != nil {
-		t.Fatal(err)
-	}
-	info, err := js.StreamInfo("KV_hangs-claims")
-	done()
+	info, err := admin(t, servers[0].URL).StreamInfo("KV_hangs-claims")
 	if err != nil {
 		t.Fatal(err)
 	}

@@ -51,7 +51,7 @@ func haveEnded(t *testing.T, m *machine, o claimstest.Options, before claims.Sta
 }
 
 func one(owner int) claims.Claim {
-	return claims.Claim{Key: claimstest.Key(), Owner: claimstest.Own(owner), Expires: claimstest.Now() + 300}
+	return claims.Claim{Key: claimstest.Key(), Owner: claimstest.Own(owner), Expires: claimstest.Now() + 3000}
 }
 
 func wantOwner(t *testing.T, f claims.Found, owner claims.Owner) {
@@ -128,7 +128,7 @@ func TestAnAnswerThatNeverComes(t *testing.T) {
 	t.Parallel()
 	m := newMachine(t)
 	a := open(t, m, claimstest.Options{Name: "never", Terms: claimstest.Usual})
-	nc, err := client.Connect(m.URL)
+	nc, err := client.Connect(m.URL, client.Timeout(patience.Long))
 	if err != nil {
 		t.Fatal(err)
 	}
@@ -136,7 +136,7 @@ func TestAnAnswerThatNeverComes(t *testing.T) {
 	if _, err := nc.Subscribe("silent", func(*client.Msg) {}); err != nil {
 		t.Fatal(err)
 	}
-	nc.Flush()
+	nc.FlushTimeout(patience.Long)
 	const questions = 500
 	answered := make(chan int, questions)
 	ctx, cancel := context.WithCancel(context.Background())
@@ -380,7 +380,7 @@ func TestAStreamIsMadeAnew(t *testing.T) {
 			before := claimstest.State(t, a)
 			c := one(1)
 			wantOwner(t, claimstest.Put(t, a, c)[0], c.Owner)
-			if _, err := b.Withdraw(patient(t), claims.Withdrawal{Key: claimstest.Key(), Expires: claimstest.Now() + 300}); err != nil {
+			if _, err := b.Withdraw(patient(t), claims.Withdrawal{Key: claimstest.Key(), Expires: claimstest.Now() + 3000}); err != nil {
 				t.Fatal(err)
 			}
 			js := admin(t, m.URL)
@@ -664,7 +664,7 @@ func TestATokenThatLivesTooLong(t *testing.T) {
 		t.Errorf("%+v", found[0])
 	}
 	wantOwner(t, found[1], fine.Owner)
-	c.Owner, c.Expires = claimstest.Own(2), claimstest.Now()+300
+	c.Owner, c.Expires = claimstest.Own(2), claimstest.Now()+3000
 	wantOwner(t, claimstest.Put(t, b, c)[0], c.Owner)
 }
 

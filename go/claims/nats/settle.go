@@ -299,7 +299,7 @@ func (s *Store) raise(ctx context.Context, x exam) error {
 func (s *Store) quarantine(ctx context.Context, x exam, k *known, unsteady bool) error {
 	is, now, until := x.is, x.now, int64(0)
 	if k == nil && is.Before == "" {
-		until = is.Began + int64(waitNew)
+		until = is.Began + int64(s.forNew)
 	}
 	if wait := now + int64(s.forRun); (is.Run != x.run || unsteady && !is.isAlone && k != nil) && until < wait {
 		until = wait
