@@ -19,7 +19,7 @@ import (
 
 // electing is more time than three servers need to elect the leaders of all streams: up to nine seconds for a vote, and again where a vote
 // is split, which is more often so on a busy machine.
-const electing = 40 * time.Second
+const electing = 90 * time.Second
 
 // A crowd puts claims of the same keys at several members, each call until all is answered.
 type crowd struct {

@@ -789,6 +789,7 @@ func TestAMemberHearsOfAnotherStore(t *testing.T) {
 	claimstest.Put(t, a, one(1))
 	claimstest.Watch(t, a)
 	m.Empty(t, o.Name)
+	o.Compares = true
 	late := open(t, m, o)
 	if is := claimstest.State(t, late); is.Epoch == before.Epoch || is.Deaf < before.Time+o.Terms.Lasts {
 		t.Errorf("%+v, and before %+v", is, before)
