@@ -160,7 +160,7 @@ for (const [name, listener] of Object.entries(SERVERS)) {
     const told = [], onError = (why) => told.push([why.name, why.cause?.message]);
     const closed = await Validator.open({ ...terms, callers: "spiffe://example.org/other" }), good = token(one);
     assert.deepEqual(await answers(listener(closed, { onError }), [[`Bearer ${good}`]]), [[403, 'Bearer error="insufficient_scope", error_description="NotAllowed"']]);
-    const store = new MemoryStore(), validator = await Validator.open({ ...terms, mode: "strict", store, wait: 0.2 });
+    const store = new MemoryStore(), validator = await Validator.open({ ...terms, mode: "strict", store, wait: 2 });
     store.put = () => Promise.reject(new Error("the store is away"));
     assert.deepEqual(await answers(listener(validator, { onError }), [[`Bearer ${good}`]]), [UNAVAILABLE]);
     assert.deepEqual(told, [["Unavailable", "the store is away"]]);

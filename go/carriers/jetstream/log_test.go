@@ -12,6 +12,7 @@ import (
 	"svid.example/go/v3/carriers"
 	"svid.example/go/v3/internal/broker"
 	"svid.example/go/v3/internal/logtest"
+	"svid.example/go/v3/internal/natstest"
 )
 
 // A machine is a NATS server of a test that all carriers pass.
@@ -60,16 +61,7 @@ func (s *machine) Garbage(t testing.TB, name string) int {
 
 func (s *machine) stream(t testing.TB) nats.JetStreamContext {
 	t.Helper()
-	nc, err := nats.Connect(s.URL)
-	if err != nil {
-		t.Fatal(err)
-	}
-	t.Cleanup(nc.Close)
-	js, err := nc.JetStream()
-	if err != nil {
-		t.Fatal(err)
-	}
-	return js
+	return natstest.JetStream(t, natstest.Connect(t, s.URL))
 }
 
 func (s *machine) Copy(t testing.TB) func() {

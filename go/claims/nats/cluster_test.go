@@ -19,7 +19,7 @@ import (
 
 // electing is more time than three servers need to elect the leaders of all streams: up to nine seconds for a vote, and again where a vote
 // is split, which is more often so on a busy machine.
-const electing = 40 * time.Second
+const electing = 90 * time.Second
 
 // A crowd puts claims of the same keys at several members, each call until all is answered.
 type crowd struct {
@@ -313,7 +313,7 @@ func clusterIsPutBack(t *testing.T, isSeen bool) {
 	begin := func() *Store {
 		store := newStore(t, o)
 		if isSeen {
-			store.forRun = 10 * time.Second // (a busy machine takes its time to let the other one look)
+			store.forRun = compares
 		}
 		t.Cleanup(func() { store.Close() })
 		claimstest.Open(t, store)
@@ -375,12 +375,7 @@ func TestALeaderHangs(t *testing.T) {
 		crowd.more(what, len(members))
 	}
 	answers("claims")
-	js, done, err := adminAt(servers[0].URL)
-	if err != nil {
-		t.Fatal(err)
-	}
-	info, err := js.StreamInfo("KV_hangs-claims")
-	done()
+	info, err := admin(t, servers[0].URL).StreamInfo("KV_hangs-claims")
 	if err != nil {
 		t.Fatal(err)
 	}

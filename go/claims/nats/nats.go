@@ -86,6 +86,7 @@ type Store struct {
 	settling *settling
 	every    time.Duration // between two looks at the streams
 	forRun   time.Duration // for which this member waits at a new run of the server for others that miss claims
+	forNew   time.Duration // and in a new store, for others that know another one
 	looked   atomic.Int64  // when all was found to be as it must be, by this machine's clock, in nanoseconds since 1970
 
 	unsteady atomic.Uint64 // how often the server was away, or did not answer
@@ -127,7 +128,7 @@ func New(o Options) (*Store, error) {
 	if o.Replicas == 0 {
 		o.Replicas = 1
 	}
-	s := &Store{o: o, base: "$KV." + o.Name + "-claims.", random: bufio.NewReaderSize(rand.Reader, 1<<10), waiting: map[string]slot{}, every: lookEvery, forRun: waitRun}
+	s := &Store{o: o, base: "$KV." + o.Name + "-claims.", random: bufio.NewReaderSize(rand.Reader, 1<<10), waiting: map[string]slot{}, every: lookEvery, forRun: waitRun, forNew: waitNew}
 	s.life, s.end = context.WithCancel(context.Background())
 	s.doubts.Store(1) // Nothing is known of the server yet.
 	return s, nil

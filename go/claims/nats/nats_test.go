@@ -21,6 +21,9 @@ import (
 	"svid.example/go/v3/svid"
 )
 
+// compares is for how long a member waits for another one that looks at once: a busy machine takes its time.
+const compares = 10 * time.Second
+
 func TestMain(m *testing.M) {
 	waitNew, lookEvery = 2*time.Second, 0
 	os.Exit(m.Run())
@@ -117,7 +120,11 @@ func (m *machine) Store(t testing.TB, o claimstest.Options) claims.Store {
 	if o.Address != "" {
 		url = "nats://" + o.Address
 	}
-	return newStore(t, Options{Servers: []string{url}, Name: o.Name, Terms: o.Terms})
+	s := newStore(t, Options{Servers: []string{url}, Name: o.Name, Terms: o.Terms})
+	if o.Compares {
+		s.forRun, s.forNew = compares, compares
+	}
+	return s
 }
 
 func newStore(t testing.TB, o Options) *Store {
@@ -136,11 +143,11 @@ func newStore(t testing.TB, o Options) *Store {
 
 // adminAt does what an administrator can.
 func adminAt(url string) (js client.JetStreamContext, done func(), err error) {
-	nc, err := client.Connect(url)
+	nc, err := client.Connect(url, client.Timeout(patience.Long))
 	if err != nil {
 		return nil, nil, err
 	}
-	if js, err = nc.JetStream(client.MaxWait(5 * time.Second)); err != nil {
+	if js, err = nc.JetStream(client.MaxWait(patience.Long / 4)); err != nil {
 		nc.Close()
 	}
 	return js, nc.Close, err
@@ -148,12 +155,7 @@ func adminAt(url string) (js client.JetStreamContext, done func(), err error) {
 
 func admin(t testing.TB, url string) client.JetStreamContext {
 	t.Helper()
-	js, done, err := adminAt(url)
-	if err != nil {
-		t.Fatal(err)
-	}
-	t.Cleanup(done)
-	return js
+	return natstest.JetStream(t, natstest.Connect(t, url))
 }
 
 func (m *machine) Empty(t testing.TB, name string) {

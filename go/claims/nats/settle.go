@@ -299,7 +299,7 @@ func (s *Store) raise(ctx context.Context, x exam) error {
 func (s *Store) quarantine(ctx context.Context, x exam, k *known, unsteady bool) error {
 	is, now, until := x.is, x.now, int64(0)
 	if k == nil && is.Before == "" {
-		until = is.Began + int64(waitNew)
+		until = is.Began + int64(s.forNew)
 	}
 	if wait := now + int64(s.forRun); (is.Run != x.run || unsteady && !is.isAlone && k != nil) && until < wait {
 		until = wait
@@ -447,6 +447,7 @@ func (s *Store) write(ctx context.Context, x exam, r record, run string, isEnd b
 		if r.Epoch, err = newLink(); err != nil {
 			return err
 		}
+		r.First, r.FirstWithdrawal = all[ofClaims].State.First, all[ofWithdrawals].State.First
 	}
 	r.Began, r.Run = x.now, run
 	r.Deleted, r.Gone = all[ofClaims].State.Deleted, all[ofWithdrawals].State.Deleted
@@ -531,10 +532,10 @@ func (s *Store) missed(ctx context.Context, x exam) (loss, error) {
 	if now+int64(seconds(is.Back)) < s.time.Load() || now+int64(seconds(is.Back)) < is.Began {
 		return loss(fmt.Sprintf("the store's time went back to %d", now/int64(time.Second))), nil
 	}
-	if why := s.front(is, c, now, ofClaims); why != "" {
+	if why := s.front(is, c, now, ofClaims, is.First); why != "" {
 		return why, nil
 	}
-	if why := s.front(is, w, now, ofWithdrawals); why != "" {
+	if why := s.front(is, w, now, ofWithdrawals, is.FirstWithdrawal); why != "" {
 		return why, nil
 	}
 	if own.time != 0 && now-own.time < int64(age(is.terms()))/2 {
@@ -556,8 +557,9 @@ type sample struct {
 	last uint64
 }
 
-// front says what is lost in front of a stream's first message: what came after a sample must be there until it has the stream's age.
-func (s *Store) front(is *known, i *info, now int64, k kind) loss {
+// front says what is lost in front of a stream's first message: what came after a sample must be there until it has the stream's age, unless it
+// was gone when the epoch began, at the position first.
+func (s *Store) front(is *known, i *info, now int64, k kind, first uint64) loss {
 	keeps := i.Config.number("max_age")
 	if keeps == 0 {
 		keeps = 1 << 62
@@ -571,7 +573,7 @@ func (s *Store) front(is *known, i *info, now int64, k kind) loss {
 	}
 	slack := int64(seconds(is.Back)) + int64(time.Second)
 	for _, one := range all {
-		if i.State.First > one.last+1 && now-one.time < keeps-slack {
+		if i.State.First > one.last+1 && i.State.First > first && now-one.time < keeps-slack {
 			return loss(fmt.Sprintf("messages are gone from the beginning of %s, and are too young for that", s.stream(k)))
 		}
 	}

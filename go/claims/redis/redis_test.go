@@ -18,6 +18,15 @@ import (
 // compares is how long members of a test compare. They look at the state each 20 ms.
 const compares = 300 * time.Millisecond
 
+// comparing is a store that is open, and whose member lets others compare for as long as can be: a busy machine may be slow. It waits no longer
+// once another one has ended the epoch.
+func comparing(t testing.TB, o Options) *Store {
+	t.Helper()
+	store := opened(t, o)
+	store.options.Wait = mostWait
+	return store
+}
+
 // A machine is a redis-server of a test.
 type machine struct {
 	*broker.Redis
@@ -55,7 +64,11 @@ func (s *machine) Store(t testing.TB, o claimstest.Options) claims.Store {
 	if o.Address != "" {
 		url = "redis://" + o.Address
 	}
-	return newStore(t, Options{URLs: []string{url}, Name: o.Name, Terms: o.Terms, Replicas: s.replicas})
+	store := newStore(t, Options{URLs: []string{url}, Name: o.Name, Terms: o.Terms, Replicas: s.replicas})
+	if o.Compares {
+		store.options.Wait = mostWait
+	}
+	return store
 }
 
 // newStore is a store that is not open yet.
@@ -131,7 +144,7 @@ func copyAll(t testing.TB, from, to string) {
 }
 
 func claim(n int) claims.Claim {
-	return claims.Claim{Key: claimstest.Key(), Owner: claimstest.Own(n), Expires: claimstest.Now() + 300}
+	return claims.Claim{Key: claimstest.Key(), Owner: claimstest.Own(n), Expires: claimstest.Now() + 3000}
 }
 
 func limited(t testing.TB) context.Context {
