@@ -9,7 +9,7 @@
 // domain no more.
 //
 // A bundle has at most 1 MiB, and 32,768 of the brackets { and [. All bundles together have at most 4 MiB, where each of these
-// brackets counts as 32 bytes more: the heaviest are passed over beyond that, and the log says so.
+// brackets counts as 32 bytes more: the heaviest are skipped beyond that, and the log says so.
 package bundles
 
 import (

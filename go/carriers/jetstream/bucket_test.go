@@ -12,6 +12,7 @@ import (
 
 	"svid.example/go/v3/internal/natstest"
 	"svid.example/go/v3/internal/patience"
+	"svid.example/go/v3/internal/streams"
 )
 
 // oldBucket is the bucket as members made it once: a key-value bucket, whose values whoever may publish to it can remove.
@@ -155,7 +156,7 @@ func TestSettingsOfTheFuture(t *testing.T) {
 		if err != nil {
 			t.Fatal(err)
 		}
-		var c config
+		var c streams.Config
 		if err := json.Unmarshal(whole, &c); err != nil {
 			t.Fatal(err)
 		}

@@ -9,7 +9,6 @@ import (
 	"io"
 	"net"
 	"os"
-	"os/exec"
 	"regexp"
 	"runtime"
 	"strings"
@@ -21,6 +20,7 @@ import (
 	"github.com/nats-io/nats.go"
 
 	"svid.example/go/v3/internal/broker"
+	"svid.example/go/v3/internal/logtest"
 	"svid.example/go/v3/internal/natstest"
 	"svid.example/go/v3/internal/patience"
 	"svid.example/go/v3/svid"
@@ -707,7 +707,7 @@ func TestValuesAtPositionsThatWereReadBefore(t *testing.T) {
 	a, b := join(t, options(1, s.URL)), join(t, options(2, p.URL))
 	awaitHeld(t, b, tell(t, a, 1))
 	s.Kill()
-	copyDir(t, dir, before)
+	logtest.CopyAll(t, dir, before)
 	begin()
 	for n := 2; n < 4; n++ {
 		awaitHeld(t, b, tell(t, a, n))
@@ -721,7 +721,7 @@ func TestValuesAtPositionsThatWereReadBefore(t *testing.T) {
 	if err := os.Mkdir(dir, 0o700); err != nil {
 		t.Fatal(err)
 	}
-	copyDir(t, before, dir)
+	logtest.CopyAll(t, before, dir)
 	begin()
 	c := join(t, options(3, s.URL))
 	for n := 10; n < 13; n++ {
@@ -734,14 +734,6 @@ func TestValuesAtPositionsThatWereReadBefore(t *testing.T) {
 	wantBegins(t, b, Log{}, Log{Ready: 4, Missed: true})
 	if !b.logged("the broker has lost values") {
 		t.Error(b.lines)
-	}
-}
-
-// copyDir copies a folder of a server that does not run.
-func copyDir(t testing.TB, from, to string) {
-	t.Helper()
-	if out, err := exec.Command("cp", "-a", from+"/.", to+"/").CombinedOutput(); err != nil {
-		t.Fatalf("%v: %s", err, out)
 	}
 }
 

@@ -2,7 +2,6 @@ package jetstream
 
 import (
 	"context"
-	"os"
 	"strings"
 	"syscall"
 	"testing"
@@ -65,21 +64,8 @@ func (s *machine) stream(t testing.TB) nats.JetStreamContext {
 }
 
 func (s *machine) Copy(t testing.TB) func() {
-	kept := t.TempDir()
-	s.Server.Stop()
-	copyDir(t, s.dir, kept)
-	s.Start(t)
-	return func() {
-		s.Server.Kill()
-		if err := os.RemoveAll(s.dir); err != nil {
-			t.Fatal(err)
-		}
-		if err := os.Mkdir(s.dir, 0o700); err != nil {
-			t.Fatal(err)
-		}
-		copyDir(t, kept, s.dir)
-		s.Start(t)
-	}
+	t.Helper()
+	return logtest.Copied(t, s.dir, s.Server.Stop, s.Server.Kill, s.Start)
 }
 
 func (s *machine) Destroy(t testing.TB, name string) {

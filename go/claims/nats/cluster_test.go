@@ -3,7 +3,6 @@ package nats
 import (
 	"context"
 	"fmt"
-	"os"
 	"path/filepath"
 	"sync"
 	"syscall"
@@ -13,6 +12,7 @@ import (
 	"svid.example/go/v3/claims"
 	"svid.example/go/v3/claims/claimstest"
 	"svid.example/go/v3/internal/broker"
+	"svid.example/go/v3/internal/logtest"
 	"svid.example/go/v3/internal/natstest"
 	"svid.example/go/v3/internal/patience"
 )
@@ -326,7 +326,7 @@ func clusterIsPutBack(t *testing.T, isSeen bool) {
 	all((*broker.Server).Stop)
 	kept := t.TempDir()
 	for i, dir := range dirs {
-		copied(t, dir, filepath.Join(kept, fmt.Sprint(i)))
+		logtest.CopyAll(t, dir, filepath.Join(kept, fmt.Sprint(i)))
 	}
 	start()
 	c := one(1)
@@ -336,8 +336,7 @@ func clusterIsPutBack(t *testing.T, isSeen bool) {
 	}
 	all((*broker.Server).Kill)
 	for i, dir := range dirs {
-		os.RemoveAll(filepath.Join(dir, "jetstream"))
-		copied(t, filepath.Join(kept, fmt.Sprint(i), "jetstream"), dir)
+		logtest.CopyAll(t, filepath.Join(kept, fmt.Sprint(i)), dir)
 	}
 	start()
 	c.Owner = claimstest.Own(2)

@@ -414,8 +414,7 @@ func TestALostTail(t *testing.T) {
 	t.Parallel()
 	for name, lose := range map[string]func(t *testing.T, folder, kept string){
 		"the last ones": func(t *testing.T, folder, kept string) {
-			os.RemoveAll(folder)
-			copied(t, kept, folder)
+			logtest.CopyAll(t, kept, folder)
 		},
 		"all": func(t *testing.T, folder, _ string) {
 			blocks, _ := filepath.Glob(filepath.Join(folder, "msgs", "*"))
@@ -441,7 +440,7 @@ func TestALostTail(t *testing.T) {
 			folder := filepath.Join(m.dir, "jetstream", "$G", "streams", a.stream(ofClaims))
 			kept := filepath.Join(t.TempDir(), "kept")
 			m.Server.Stop()
-			copied(t, folder, kept)
+			logtest.CopyAll(t, folder, kept)
 			m.Start(t)
 			c := one(1)
 			wantOwner(t, claimstest.Put(t, a, c)[0], c.Owner)

@@ -26,6 +26,7 @@ import (
 	client "github.com/nats-io/nats.go"
 
 	"svid.example/go/v3/claims"
+	"svid.example/go/v3/internal/pause"
 	"svid.example/go/v3/svid"
 )
 
@@ -166,19 +167,21 @@ func (s *Store) connect(ctx context.Context) error {
 		client.ErrorHandler(func(_ *client.Conn, _ *client.Subscription, err error) { s.log("broker says", "why", err) }),
 	}, s.o.Connect...)
 	var nc *client.Conn
-	err := persist(ctx, "connect", func() (bool, error) {
+	for {
 		var err error
-		nc, err = client.Connect(strings.Join(s.o.Servers, ","), options...)
-		return err == nil, err
-	})
-	if err != nil {
-		return err
+		if nc, err = client.Connect(strings.Join(s.o.Servers, ","), options...); err == nil {
+			break
+		}
+		if !pause.For(ctx, againWait) {
+			return failed("connect", err)
+		}
 	}
 	s.inbox = client.NewInbox()
 	if _, err := nc.Subscribe(s.inbox+".*", s.hear); err != nil {
 		nc.Close()
 		return err
 	}
+	var err error
 	if s.told, err = nc.SubscribeSync(s.base + "e.*"); err != nil {
 		nc.Close()
 		return err
@@ -195,35 +198,6 @@ func (s *Store) Close() error {
 	}
 	s.away(client.ErrConnectionClosed)
 	return nil
-}
-
-// persist does something again and again until it is done or ctx ends. do says whether it is done, also with an error for good.
-func persist(ctx context.Context, what string, do func() (bool, error)) error {
-	for {
-		done, err := do()
-		if done || err == nil {
-			return err
-		}
-		var unfit *claims.Unfit
-		if errors.As(err, &unfit) {
-			return err
-		}
-		if !pause(ctx, againWait) {
-			return failed(what, err)
-		}
-	}
-}
-
-// pause waits. It says whether ctx goes on.
-func pause(ctx context.Context, wait time.Duration) bool {
-	timer := time.NewTimer(wait)
-	defer timer.Stop()
-	select {
-	case <-ctx.Done():
-		return false
-	case <-timer.C:
-		return true
-	}
 }
 
 // keyText is a key as a part of a subject.

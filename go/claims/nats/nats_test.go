@@ -4,7 +4,6 @@ import (
 	"context"
 	"fmt"
 	"os"
-	"os/exec"
 	"path/filepath"
 	"strings"
 	"syscall"
@@ -16,6 +15,7 @@ import (
 	"svid.example/go/v3/claims"
 	"svid.example/go/v3/claims/claimstest"
 	"svid.example/go/v3/internal/broker"
+	"svid.example/go/v3/internal/logtest"
 	"svid.example/go/v3/internal/natstest"
 	"svid.example/go/v3/internal/patience"
 	"svid.example/go/v3/svid"
@@ -93,25 +93,7 @@ func (m *machine) Resume(testing.TB) { syscall.Kill(m.Pid(), syscall.SIGCONT) }
 
 func (m *machine) Copy(t testing.TB) (restore func()) {
 	t.Helper()
-	kept := filepath.Join(t.TempDir(), "kept")
-	m.Server.Stop()
-	copied(t, m.dir, kept)
-	m.Start(t)
-	return func() {
-		m.Server.Kill()
-		if err := os.RemoveAll(filepath.Join(m.dir, "jetstream")); err != nil {
-			t.Fatal(err)
-		}
-		copied(t, filepath.Join(kept, "jetstream"), filepath.Join(m.dir, "jetstream"))
-		m.Start(t)
-	}
-}
-
-func copied(t testing.TB, from, to string) {
-	t.Helper()
-	if text, err := exec.Command("cp", "-a", from, to).CombinedOutput(); err != nil {
-		t.Fatalf("cp: %v: %s", err, text)
-	}
+	return logtest.Copied(t, m.dir, m.Server.Stop, m.Server.Kill, m.Start)
 }
 
 func (m *machine) Store(t testing.TB, o claimstest.Options) claims.Store {

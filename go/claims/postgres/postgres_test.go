@@ -3,7 +3,6 @@ package postgres
 import (
 	"fmt"
 	"os"
-	"os/exec"
 	"strings"
 	"testing"
 	"time"
@@ -120,25 +119,7 @@ func (s *suite) Resume(testing.TB)  { s.Postgres.Resume() }
 
 func (s *suite) Copy(t testing.TB) func() {
 	t.Helper()
-	kept := t.TempDir()
-	s.Postgres.Stop()
-	copyAll(t, s.Dir, kept)
-	s.start(t)
-	return func() {
-		s.Postgres.Kill()
-		copyAll(t, kept, s.Dir)
-		s.start(t)
-	}
-}
-
-// copyAll puts what a folder has into another one, instead of what that has.
-func copyAll(t testing.TB, from, to string) {
-	t.Helper()
-	for _, words := range [][]string{{"find", to, "-mindepth", "1", "-delete"}, {"cp", "-a", from + "/.", to}} {
-		if out, err := exec.Command(words[0], words[1:]...).CombinedOutput(); err != nil {
-			t.Fatalf("%v: %v %s", words, err, out)
-		}
-	}
+	return logtest.Copied(t, s.Dir, s.Postgres.Stop, s.Postgres.Kill, s.start)
 }
 
 // Empty drops the schema, again where a member that looks at it holds what the server wants at the moment, and waits for what it holds.

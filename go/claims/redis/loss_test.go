@@ -102,7 +102,7 @@ func TestAReplicaUnderTheSameName(t *testing.T) {
 	replica.Redis.Kill()
 	lost := put(t, a, 1)
 	primary.Redis.Kill()
-	copyAll(t, replica.Dir, primary.Dir)
+	logtest.CopyAll(t, replica.Dir, primary.Dir)
 	claimstest.Watch(t, a)
 	primary.Start(t)
 	refused(t, b, lost)

@@ -2,8 +2,6 @@ package redis
 
 import (
 	"context"
-	"os/exec"
-	"strings"
 	"testing"
 	"time"
 
@@ -122,25 +120,7 @@ func (s *machine) Lie(t testing.TB, name string, key svid.TokenKey, entry []byte
 
 func (s *machine) Copy(t testing.TB) func() {
 	t.Helper()
-	kept := t.TempDir()
-	s.Redis.Stop()
-	copyAll(t, s.Dir, kept)
-	s.Start(t)
-	return func() {
-		s.Redis.Kill()
-		copyAll(t, kept, s.Dir)
-		s.Start(t)
-	}
-}
-
-// copyAll puts what a folder has into another one, instead of what that has.
-func copyAll(t testing.TB, from, to string) {
-	t.Helper()
-	for _, words := range [][]string{{"find", to, "-mindepth", "1", "-delete"}, {"cp", "-a", from + "/.", to}} {
-		if out, err := exec.Command(words[0], words[1:]...).CombinedOutput(); err != nil {
-			t.Fatalf("%v: %v %s", words, err, out)
-		}
-	}
+	return logtest.Copied(t, s.Dir, s.Redis.Stop, s.Redis.Kill, s.Start)
 }
 
 func claim(n int) claims.Claim {
@@ -154,5 +134,3 @@ func limited(t testing.TB) context.Context {
 }
 
 func TestStore(t *testing.T) { claimstest.Run(t, start(t)) }
-
-var _ = strings.Contains

@@ -403,30 +403,6 @@ func TestWhoHasAToken(t *testing.T) {
 	}
 }
 
-// keyOf is the key by which the record names a token.
-func keyOf(t *testing.T, token string) svid.TokenKey {
-	t.Helper()
-	keyring, err := svid.NewKeyring(example.Bundles())
-	if err != nil {
-		t.Fatal(err)
-	}
-	defer keyring.Close()
-	validator, err := svid.Open(svid.Options{Audiences: []string{"ledger"}, Bundles: example.Bundles(), Longest: svid.NoLimit, Step: svid.NoLimit})
-	if err != nil {
-		t.Fatal(err)
-	}
-	defer validator.Close()
-	yes, err := keyring.Verify(token)
-	if err != nil {
-		t.Fatal(err)
-	}
-	judged, err := validator.Judge(svid.Now(), token, yes)
-	if err != nil {
-		t.Fatal(err)
-	}
-	return judged.Use.Key
-}
-
 // Whatever is killed, no token that was answered 200 is answered 200 again.
 func TestKilledAtRandomMoments(t *testing.T) {
 	t.Parallel()

@@ -39,12 +39,12 @@ type TooLarge uint32
 
 func (n TooLarge) Error() string { return fmt.Sprintf("the message has %d bytes", uint32(n)) }
 
-// headLen is the length of what stands before each message: whether it is compressed, and its length.
-const headLen = 5
+// frameHead is the length of what stands before each message: whether it is compressed, and its length.
+const frameHead = 5
 
 // Frame returns a message as gRPC sends it.
 func Frame(message []byte) []byte {
-	frame := make([]byte, headLen, headLen+len(message))
+	frame := make([]byte, frameHead, frameHead+len(message))
 	binary.BigEndian.PutUint32(frame[1:], uint32(len(message)))
 	return append(frame, message...)
 }
@@ -52,7 +52,7 @@ func Frame(message []byte) []byte {
 // Read reads one message of a stream, and calls begun at its first byte. io.EOF: there is none any more. Other errors are ErrCompressed,
 // a TooLarge where the message has more than most bytes, io.ErrUnexpectedEOF where the stream ends within it, and those of the stream.
 func Read(stream io.Reader, most int, begun func()) ([]byte, error) {
-	var head [headLen]byte
+	var head [frameHead]byte
 	if _, err := io.ReadFull(stream, head[:1]); err != nil {
 		return nil, err
 	}

@@ -7,6 +7,7 @@ import (
 	"errors"
 	"fmt"
 	"os"
+	"os/exec"
 	"path/filepath"
 	"strings"
 	"sync"
@@ -728,39 +729,6 @@ func (s *suite) serverComesLater(t *testing.T) {
 	same(t, holds([]string{"good 2"}), m, late)
 }
 
-// Full lets a server have no room for a while. What it can't store is an error, and nothing that was answered is lost; nor does
-// anybody say so.
-func Full(t *testing.T, server Server, fill, free func()) {
-	s := &suite{server: server}
-	o := Options{Name: s.name()}
-	members := []*member{s.join(t, o), s.join(t, o)}
-	end := load(t, members[0])
-	Await(t, "some values", func() bool { return members[1].Taken() > 20 })
-	fill()
-	padding := strings.Repeat("x", 50<<10)
-	var answered []string
-	for n := 0; ; n++ {
-		message := fmt.Sprint("good large ", n, padding)
-		if members[1].tryPut(time.Second, message) != nil {
-			break
-		}
-		if answered = append(answered, message); n == 10_000 {
-			t.Fatal("the server has room")
-		}
-	}
-	free()
-	before := members[1].Taken()
-	Await(t, "some values", func() bool { return members[1].Taken() > before+20 })
-	answered = append(answered, end()...)
-	late := s.join(t, o)
-	same(t, holds(answered), append(members, late)...)
-	for _, m := range append(members, late) {
-		if got := m.starts(); len(got) != 1 || m.said("gone") || m.said("anew") {
-			t.Errorf("began %v, and said %q", got, m.lines)
-		}
-	}
-}
-
 // Small is a small disk, and ends with the test. fill leaves no room on it, and free gives that back. Only root can have one: ok says
 // whether that went.
 func Small(t testing.TB, megabytes int) (dir string, fill, free func(), ok bool) {
@@ -794,4 +762,29 @@ func Small(t testing.TB, megabytes int) (dir string, fill, free func(), ok bool)
 		}
 	}
 	return dir, fill, free, true
+}
+
+// Copied copies what a server keeps in a folder, once stop has ended it, and starts it again. restore kills it, puts the copy back, and starts
+// it again.
+func Copied(t testing.TB, dir string, stop, kill func(), start func(testing.TB)) (restore func()) {
+	t.Helper()
+	kept := t.TempDir()
+	stop()
+	CopyAll(t, dir, kept)
+	start(t)
+	return func() {
+		kill()
+		CopyAll(t, kept, dir)
+		start(t)
+	}
+}
+
+// CopyAll puts what a folder has into another one, instead of what that has.
+func CopyAll(t testing.TB, from, to string) {
+	t.Helper()
+	for _, words := range [][]string{{"mkdir", "-p", to}, {"find", to, "-mindepth", "1", "-delete"}, {"cp", "-a", from + "/.", to}} {
+		if out, err := exec.Command(words[0], words[1:]...).CombinedOutput(); err != nil {
+			t.Fatalf("%v: %v %s", words, err, out)
+		}
+	}
 }
