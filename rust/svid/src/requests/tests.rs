@@ -392,7 +392,7 @@ fn a_store_that_fails_now_and_then() {
     };
     let fault = Arc::new(fault);
     let (before, after) = (Arc::clone(&fault), fault);
-    let guards = [(); 2].map(|()| opened(&strict(&store).wait(Duration::from_millis(50))));
+    let guards = [(); 2].map(|()| opened(&strict(&store).wait(SHORT)));
     store.before(move || before());
     store.after(move || after());
     let works: Vec<_> = (0..8)
@@ -485,11 +485,12 @@ fn a_store_that_never_answers() {
     let guard = opened(&options);
     until(|| unready(&guard).is_empty());
     store.before(away);
-    for _ in 0..2 {
+    let why = "the group's store does not answer: the store is away".to_owned();
+    until(|| {
+        // (a check that is late before it was put shows nothing)
         assert_eq!(check(&guard, &fresh(1)), "Unavailable");
-    }
-    assert!(heard.lock().unwrap().contains(&"the group's store does not answer: the store is away".to_owned()));
-    assert!(store.counts().len() > 2, "the claim is put again and again");
+        heard.lock().unwrap().contains(&why) && store.counts().len() > 2
+    });
     store.is_well();
     assert_eq!(in_time(&guard, &fresh(1)), "accepted");
     assert!(nothing_waits(&guard));
@@ -839,7 +840,7 @@ fn a_slow_verifier_holds_up_nobody() {
 /// It is asked about right before it goes out.
 #[test]
 fn a_claim_of_who_does_not_know_yet_that_it_is_late() {
-    let (guard, token) = (opened(&strict(&Arc::new(memory())).wait(Duration::from_secs(2))), fresh(1));
+    let (guard, token) = (opened(&strict(&Arc::new(memory())).wait(Duration::from_secs(5))), fresh(1));
     until(|| unready(&guard).is_empty());
     let requests = &guard.requests;
     let mut read = OpenToken::read(token.as_bytes(), &[]).expect("it is a token");
@@ -966,7 +967,8 @@ fn a_store_that_is_not_there_yet() {
     assert_eq!(unready(&guard), due);
     assert_eq!(words_of(&guard, &fresh(1)), due);
     assert!(store.counts().is_empty());
-    assert_eq!(heard.lock().unwrap().first().map(String::as_str), Some("the group's store does not answer: the store is away"));
+    until(|| !heard.lock().unwrap().is_empty());
+    assert_eq!(heard.lock().unwrap()[0], "the group's store does not answer: the store is away");
     store.is_well();
     until(|| unready(&guard).is_empty());
     assert_eq!(in_time(&guard, &fresh(1)), "accepted");

@@ -109,7 +109,7 @@ public class ServiceTest {
     /** The status of an answer and its headers, and the body. */
     private static String asked(String method, int port, String path, String... values) throws IOException {
         HttpURLConnection connection = (HttpURLConnection) new URL("http://127.0.0.1:" + port + path).openConnection();
-        connection.setReadTimeout(30_000);
+        connection.setReadTimeout((int) (1000 * Making.PATIENCE));
         connection.setRequestMethod(method);
         for (String it : values) {
             connection.addRequestProperty("Authorization", it);
