@@ -40,7 +40,7 @@ export class Member {
   #withdrawals = new Map(); // those that are on their way to the store
   #timer;
 
-  /** `terms` has `mode`, `wait` (in seconds), `callers`, `store`, `own`, `longest`, `ahead`, `life`, `clock`, and `journal` and `sources` of bundles, if there are any. */
+  /** `terms` has `mode`, `wait` (in seconds), `callers`, `store`, `own`, `longest`, `ahead`, `life`, `clock`, and a `journal` and `sources` of bundles, or none. */
   constructor(library, verifier, { mode, wait, callers, store, own, longest, ahead, life, clock, sources, journal }) {
     this.#library = library;
     this.#verifier = verifier;

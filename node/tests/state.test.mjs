@@ -12,7 +12,8 @@ import { after, afterEach, before, beforeEach, test } from "node:test";
 import { promisify } from "node:util";
 import { PACKAGE, PATIENCE, TOP, gate, hex, imported, issuer, now, said, token, until } from "./making.mjs";
 
-const { Validator } = await imported(), { Journal } = await imported("src/journal.js"), { LocalStore } = await imported("src/local.js"), { Library } = await imported("src/library.js");
+const { Validator } = await imported(), { Library } = await imported("src/library.js");
+const { Journal } = await imported("src/journal.js"), { LocalStore } = await imported("src/local.js");
 const run = promisify(execFile), NODE = process.execArgv.filter((it) => !it.startsWith("--test"));
 const LONG = 600; // seconds that no test waits
 const one = issuer(), BEGUN = BigInt(now()), library = await Library.start();
@@ -364,7 +365,8 @@ test("an ID that is lost or bad, files that are none, and folders of an older ve
     await assert.rejects(Journal.open(state), { name: "BadFolder", message: /state\/\w+ is not 32 hexadecimal digits: put back a copy/ });
   }
   await rm(idFile);
-  for (let again = 0; again < 2; again++) await assert.rejects(Journal.open(state), { name: "BadFolder", message: /the file \w+ is missing in .*state, and .* can't be read without it/ });
+  const lacks = { name: "BadFolder", message: /the file \w+ is missing in .*state, and .* can't be read without it/ };
+  for (let again = 0; again < 2; again++) await assert.rejects(Journal.open(state), lacks);
   await rm(state, { recursive: true });
   await mkdir(state);
   for (const name of ["lock", "place", "snapshot", "journal.1"]) {
@@ -402,7 +404,8 @@ test("a kill at any time loses no acceptance", async () => {
   let seed = 7;
   const chance = (most) => (seed = (seed * 48_271) % 2_147_483_647) % most;
   for (let turn = 0; turn < 6; turn++) {
-    const ran = spawn(process.execPath, [...NODE, "--input-type=module", "--eval", program], { stdio: ["ignore", "pipe", "inherit"], env: { ...process.env, SVID_PACKAGE: PACKAGE, SVID_TOP: TOP } });
+    const env = { ...process.env, SVID_PACKAGE: PACKAGE, SVID_TOP: TOP };
+    const ran = spawn(process.execPath, [...NODE, "--input-type=module", "--eval", program], { stdio: ["ignore", "pipe", "inherit"], env });
     let text = "";
     const due = 1 + chance(60);
     ran.stdout.on("data", (it) => {

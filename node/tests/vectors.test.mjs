@@ -7,7 +7,8 @@ import { join } from "node:path";
 import { test } from "node:test";
 import { bytesOf, hex, imported, listed, read } from "./making.mjs";
 
-const { BadBundles, BadMessages, Bundles, Refusal, SvidError, Validator, guard } = await imported(), { Library } = await imported("src/library.js");
+const { BadBundles, BadMessages, Bundles, Refusal, SvidError, Validator, guard } = await imported();
+const { Library } = await imported("src/library.js");
 const { LISTED } = await listed();
 
 const ANY = 2n ** 64n - 1n;
