@@ -67,6 +67,16 @@ export class Unavailable extends SvidError {
   }
 }
 
+/** Another process has the state folder. Stop it, or give this one a folder of its own. */
+export class Held extends SvidError {
+  constructor(folder, holder) {
+    super(`the state folder ${folder} is held by ${holder}: stop it, or give this one a folder of its own`);
+  }
+}
+
+/** The state folder can't be read: a file is damaged, missing or of another version. No crash leaves such a file. */
+export class BadFolder extends SvidError {}
+
 /** The platform's WebCrypto, or a verifier of your own, could not say whether a key made a signature. Nothing was accepted. */
 export class Unverifiable extends SvidError {
   constructor(options) {
@@ -90,7 +100,7 @@ export class Stopped extends SvidError {
 
 // (each by its own text, since tools that make scripts shorter change the names of classes)
 for (const [name, kind] of Object.entries({
-  SvidError, Closed, Jump, Gone, TooFar, BadBundles, BadMessages, NotAllowed, Unavailable, Unverifiable, OutOfMemory, Stopped,
+  SvidError, Closed, Jump, Gone, TooFar, BadBundles, BadMessages, NotAllowed, Unavailable, Held, BadFolder, Unverifiable, OutOfMemory, Stopped,
 })) {
   Object.defineProperty(kind.prototype, "name", { value: name, configurable: true, writable: true });
 }
