@@ -3,7 +3,7 @@
 // Pointers, lengths and times are BigInts, as they have 64 bits; a status is a number. A handle has an instance of the module for
 // itself, so that one that stops, or that has no memory left, takes no other with it.
 
-import { isUnavailable, learn, ofBundles, ofDocuments, ofStatus, wordsOf, Closed, OutOfMemory, Stopped, Unavailable } from "./errors.js";
+import { isUnavailable, learn, ofBundles, ofDocuments, ofStatus, unjudgedBy, wordsOf, Closed, OutOfMemory, Stopped, Unavailable } from "./errors.js";
 import { Accepted, Use } from "./records.js";
 
 /** What a call answers that did what it is for, and a member that has no bundle. */
@@ -32,7 +32,9 @@ export const NONE = 2n ** 64n - 1n;
 export const AT_DISK = 0n, AT_STORE = 1n, AT_LOG = 2n, MAY_LACK = 2n;
 
 // The sizes of the header's structures, in bytes.
-const TOLD = 40, TERMS = 40, SETTING = 32, HANDLE = 16, DIGEST = 32, VALIDATOR_ID = 16, WORD = 8, PART = 88, DOCUMENT = 24, PACING = 24, USE = 64;
+const TOLD = 40, TERMS = 40, SETTING = 32, HANDLE = 16, DIGEST = 32, VALIDATOR_ID = 16, WORD = 8, PART = 88, DOCUMENT = 24, PACING = 24, ENTRY = 72;
+// So many bytes an entry takes in messages, or more.
+const LEAST_ENTRY = 64;
 
 // Room that each instance has from its beginning, and where it stands: no call on a token needs more, but for long rows. A token that has
 // more bytes than its room is too long for the library however many those are, so the rest is not lent.
@@ -44,7 +46,7 @@ const PACING_FIRST = [0n, 0n, 10n];
 
 const NEEDS = [
   "room", "free_room", "svid_version", "svid_id_parse", "svid_key_spki", "svid_bearer_token", "svid_token_says", "svid_token_signature",
-  "svid_id_allows", "svid_batch_of", "svid_report", "svid_validator_open_by_lengths", "svid_validator_close", "svid_validator_bundles", "svid_validator_withdraw", "svid_validator_tick",
+  "svid_id_allows", "svid_batch_of", "svid_report", "svid_entries_read", "svid_validator_open_by_lengths", "svid_validator_close", "svid_validator_bundles", "svid_validator_withdraw", "svid_validator_tick",
   "svid_validator_take", "svid_validator_parts", "svid_validator_size", "svid_validator_summary", "svid_validator_answer", "svid_bundles_open",
   "svid_bundles_close", "svid_bundles_ask", "svid_bundles_question", "svid_bundles_judge", "svid_bundles_join", "svid_token_open",
   "svid_token_close", "svid_validator_ask_token", "svid_validator_judge_token", "svid_member_open", "svid_member_know", "svid_member_ready",
@@ -277,14 +279,10 @@ export class Library {
 
   // A use with its message.
   #used(at, withdrawn = false) {
-    const small = this.#at(SMALL), entry = this.#at(SMALL + 128);
-    if (withdrawn) {
-      this.#setWords(entry, [1n]);
-      this.#set(entry + 8n, this.#seen(at, USE));
-      const status = this.#call("svid_entries_write", entry, 1n, small, BigInt(BATCH));
-      if (status !== OK) throw this.fault(status);
-    } else this.#run("svid_batch_of", at, small);
-    return new Use({ ...this.#use(at), withdrawn, message: this.#seen(small, BATCH) });
+    const use = { ...this.#use(at), withdrawn };
+    if (withdrawn) return new Use({ ...use, message: this.messageOf(use) });
+    this.#run("svid_batch_of", at, this.#at(SMALL));
+    return new Use({ ...use, message: this.#seen(this.#at(SMALL), BATCH) });
   }
 
   #use(at) {
@@ -638,6 +636,28 @@ export class Library {
     });
   }
 
+  /** The uses of messages, in their order. */
+  uses(messages) {
+    return this.#within(({ lend, room }) => {
+      const lent = lend(messages), most = Math.floor(messages.length / LEAST_ENTRY), entries = room(ENTRY * most);
+      const status = this.#call("svid_entries_read", ...lent, entries, BigInt(most));
+      if (status !== OK) throw this.fault(status);
+      const all = Array.from({ length: this.#length() }, (_, n) => entries + BigInt(ENTRY * n));
+      return all.map((at) => ({ ...this.#use(at + 8n), withdrawn: this.#word(at) !== 0n }));
+    });
+  }
+
+  /** A use as a message. */
+  messageOf({ withdrawn, expires, at, key, validatorId }) {
+    const small = this.#at(SMALL), entry = this.#at(SMALL + 128);
+    this.#open();
+    this.#setWords(entry, [BigInt(withdrawn), expires, at]);
+    this.#set(entry + 24n, joined([key, validatorId]));
+    const status = this.#call("svid_entries_write", entry, 1n, small, BigInt(BATCH));
+    if (status !== OK) throw this.fault(status);
+    return this.#seen(small, BATCH);
+  }
+
   // -- Calls
 
   // Makes a call that tells.
@@ -675,9 +695,9 @@ export class Library {
     return bytes;
   }
 
-  /** The error for a status that is not OK. `cause` is what the store threw last. */
-  fault(status, cause) {
-    return isUnavailable(status) ? new Unavailable(wordsOf(status), cause) : ofStatus(status, this.#told());
+  /** The error for a status that is not OK. `cause` is what the store threw last, and a client hears the word of `toldAs`. */
+  fault(status, cause, toldAs = status) {
+    return isUnavailable(status) ? new Unavailable(wordsOf(status), cause, unjudgedBy(toldAs)) : ofStatus(status, this.#told());
   }
 
   // What a call told beside its status.

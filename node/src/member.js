@@ -4,9 +4,11 @@
 // and what the library says is to be done.
 
 import { Claims, up } from "./claims.js";
-import { Closed, Gone, Jump, NotAllowed, Refusal, SvidError, Unavailable, isUnavailable, wordsOf } from "./errors.js";
+import { CLAIM_FAR, LATE, Closed, Gone, Jump, NotAllowed, Refusal, SvidError, Unavailable, isUnavailable, wordsOf } from "./errors.js";
+import { tell } from "./given.js";
 import { Hearing } from "./hearing.js";
 import { ANSWER, ANY, AT_DISK, AT_LOG, AT_STORE, CLAIM, JUDGE, NONE, NOTHING, NO_BUNDLE, OK } from "./library.js";
+import { Twice } from "./twice.js";
 
 const NO_SIGNATURE = "BadSignature", NO_DOMAIN = "UnknownDomain";
 const NOBODY = new Uint8Array(32);
@@ -27,19 +29,25 @@ export class Member {
   #life;
   #wait;
   #isBound;
+  #lateAs; // the status whose word a client hears where its time is over
   #own;
   #clock;
   #sources;
   #isBundled;
   #claims;
   #hearing;
+  #twice; // in mode once
+  #onTwice;
   #editions = 0; // how often the bundles were replaced
   #open = new Map(); // the requests that have no answer yet, by their numbers
   #withdrawals = new Map(); // those that are on their way to the store
   #timer;
 
-  /** `terms` has `mode`, `wait` (in seconds), `callers`, `store`, `own`, `longest`, `ahead`, `life`, `clock`, and `sources` of bundles, if there are any. */
-  constructor(library, verifier, { mode, wait, callers, store, own, longest, ahead, life, clock, sources }) {
+  /**
+   * `terms` has `mode`, `wait` (in seconds), `callers`, `store`, `own`, `longest`, `ahead`, `life`, `clock`,
+   * `validatorId`, `onTwice`, and `sources` of bundles, if there are any.
+   */
+  constructor(library, verifier, { mode, wait, callers, store, own, longest, ahead, life, clock, sources, validatorId, onTwice }) {
     this.#library = library;
     this.#verifier = verifier;
     this.#callers = callers;
@@ -47,7 +55,10 @@ export class Member {
     this.#life = life;
     this.#wait = wait;
     this.#isBound = mode === "bound";
+    this.#lateAs = this.#isBound || mode === "strict" ? CLAIM_FAR : LATE;
     this.#own = own;
+    if (mode === "once") this.#twice = new Twice(library, validatorId);
+    this.#onTwice = onTwice;
     this.#clock = clock;
     this.#sources = sources;
     this.#isBundled = sources === undefined;
@@ -117,6 +128,12 @@ export class Member {
     const { mayLack, cause } = await ended;
     if (mayLack) throw new Unavailable(MAY_LACK_IT, cause);
     return use;
+  }
+
+  /** Takes messages of other validators, and tells of the tokens that they accepted too. */
+  take(now, messages) {
+    if (!this.#twice) return this.#library.take(now, messages);
+    for (const key of this.#twice.take(now, messages)) tell(this.#onTwice, key);
   }
 
   /** Replaces the bundles. Throws BadBundles, and then the old ones stay. */
@@ -204,7 +221,7 @@ export class Member {
     try {
       return this.#library.come(up());
     } catch (why) {
-      throw why instanceof Unavailable ? new Unavailable(why.message, this.#cause) : why;
+      throw why instanceof Unavailable ? new Unavailable(why.message, this.#cause, why.reason) : why;
     }
   }
 
@@ -255,8 +272,12 @@ export class Member {
   }
 
   #answer(request, { status, use }) {
-    if (status === OK) return request.resolve(this.#library.acceptedOf(request.token.bytes, this.#own, request.subject, use));
-    request.reject(this.#refusal(this.#library.fault(status, this.#cause), request));
+    if (status === OK) {
+      this.#twice?.add(use);
+      return request.resolve(this.#library.acceptedOf(request.token.bytes, this.#own, request.subject, use));
+    }
+    const toldAs = status === LATE ? this.#lateAs : status;
+    request.reject(this.#refusal(this.#library.fault(status, this.#cause, toldAs), request));
   }
 
   // What a refusal is to say: where no key could be asked, or where no bundle has come yet, it is not the token's fault.

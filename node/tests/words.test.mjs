@@ -13,7 +13,7 @@ const EMPTY = Uint8Array.from([...Buffer.from("JSR\x02\x01"), ...Array(12).fill(
 test("calls that do nothing", async () => {
   const time = now(), validator = await open({ step: 100 }), late = await open({ ahead: undefined });
   validator.tick(time);
-  late.tick(time + 11);
+  late.tick(time + 31);
   assert.throws(() => validator.tick(time + 101), { name: "Jump", message: sentences("JUMP") });
   await assert.rejects(validator.withdrawKey(new Uint8Array(32), time, time), { name: "Gone", message: sentences("GONE") });
   assert.throws(() => validator.take(late.record(), time), { name: "TooFar", message: sentences("TOO_FAR") });

@@ -14,7 +14,7 @@ from . import _library as lib
 from ._bundles import bundle_words
 from ._signatures import Verifies
 from ._token import Token
-from ._words import no_memory, reason, said
+from ._words import REASONS, no_memory, reason, said
 from .errors import (
     REFUSALS,
     BadBundles,
@@ -303,15 +303,6 @@ _FAULTS: dict[int, Callable[[], Exception]] = {
     lib.JUMP: Jump,
     lib.NOT_ALLOWED: NotAllowed,
 }
-REASONS = {
-    lib.CLAIM_FAR: "NotClaimed",
-    lib.CLAIM_DEAF: "EntriesLost",
-    lib.LATE: "NotJudged",
-    lib.NOT_KEPT: "NotKept",
-    lib.LEFT: "NotJudged",
-    **dict.fromkeys(lib.UNREADY, "NotReady"),
-}
-"""Why there is no answer about a token, by status: the words of docs/SIDECAR-REFERENCE.md."""
 
 
 def _close(words: ctypes.Array[ctypes.c_uint64]) -> None:

@@ -184,7 +184,7 @@ def test_a_sidecar_and_a_service_share_a_group(machine, svidd, tmp_path):
             port = _port(tmp_path / "log")
             until(lambda: _get(port, "/readyz") == 200)
             with PostgresStore(machine.url, group="both") as store:
-                terms = {"mode": "strict", "longest": 3600, "ahead": 10}
+                terms = {"mode": "strict", "longest": 3600, "ahead": 30}
                 with validator(store=store, **terms) as checks:
                     for n in range(20):
                         _race(port, checks, fresh(jti=f"both {n}"), n % 2 == 0)

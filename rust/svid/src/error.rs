@@ -97,6 +97,16 @@ impl Error {
         Error::Bundles(BundlesFault::Document { number: told.input.saturating_sub(1), fault })
     }
 
+    /// The status by whose word a client hears of an error that says nothing of its token.
+    pub(crate) fn told_as(self) -> u32 {
+        match self {
+            Error::NoMemory => ffi::NO_MEMORY,
+            Error::Jump => ffi::JUMP,
+            Error::Unavailable(why) => why.told_as(),
+            _ => ffi::LATE,
+        }
+    }
+
     pub(crate) fn unexpected(status: u32) -> Error {
         Error::Unexpected(Unexpected::new(status))
     }
@@ -182,7 +192,7 @@ pub enum OptionsFault {
 impl fmt::Display for OptionsFault {
     fn fmt(&self, f: &mut fmt::Formatter<'_>) -> fmt::Result {
         f.write_str(match self {
-            OptionsFault::Store => "there is no store: give one in the modes strict and bound",
+            OptionsFault::Store => "there is no store: give one in the modes strict and bound, or in bound a state folder",
             OptionsFault::Wait => "a check has less than a millisecond: let wait be longer",
             OptionsFault::Callers => "callers is empty: name who may call, or leave it out to let all call",
             OptionsFault::Caller { number, fault } => return write!(f, "number {number} of the callers, counted from 0: {}", fault.says()),

@@ -69,7 +69,7 @@ fn calls() {
     let (listed, time) = (Listed::read(), Time::at(NOW));
     let guard = Guard::open(&time.of(ledger()).step(100), b"{}", ()).expect("it opens");
     tick(&guard).expect("the clock");
-    let beyond = empty(&Time::at(NOW + 11));
+    let beyond = empty(&Time::at(NOW + 31));
     tick(&beyond).expect("the clock");
     let empty_batch = [b"JSR\x02\x01".as_slice(), &[0; 12]].concat();
     let said = [

@@ -95,6 +95,27 @@ class State implements Runnable {
         }
     }
 
+    /** Takes messages, and gives the keys of the tokens that they show to be accepted more than once. */
+    final List<TokenKey> takeAndTell(long now, byte[] messages) {
+        Twice twice;
+        synchronized (this) {
+            twice = Twice.of(messages, this::bucket);
+            take(now, messages);
+        }
+        return twice.news();
+    }
+
+    /** The entries whose keys begin with this byte, as messages. */
+    private byte[] bucket(int number) {
+        try (Room lent = new Room()) {
+            Told said = new Told(lent);
+            Written written = Written.by(
+                    lent, said, USUAL, (to, toLen) -> Library.svid_validator_bucket(open(), (byte) number, 0, to, toLen, said.at));
+            said.must(written.status());
+            return written.bytes();
+        }
+    }
+
     /** Replaces the bundles. They are read before the lock is taken, and the old ones are freed after it. */
     final void renew(byte[] bundles) {
         try (Room lent = new Room()) {

@@ -350,7 +350,7 @@ public class ValidatorTest {
         assertEquals('0', named.idOrRandom()[0]);
         assertNotEquals(Vectors.hex(options.idOrRandom()), Vectors.hex(options.idOrRandom()));
         assertNotSameLimits(options, options.longest(Duration.ofSeconds(1)));
-        assertEquals(10, options.ahead());
+        assertEquals(30, options.ahead());
         try (Validator first = Validator.open(named, bundles()); Validator second = Validator.open(named, bundles())) {
             assertArrayEquals(first.check(tokens().get(0)).message(), second.check(tokens().get(0)).message());
         }

@@ -100,7 +100,7 @@ public class WordsTest {
         }
         try (Validator validator = Validator.open(ledger().step(100), "{}"); Validator late = empty()) {
             validator.tick(NOW);
-            late.tick(NOW + 11);
+            late.tick(NOW + 31);
             says(sentence("JUMP", ""), () -> validator.tick(NOW + 101));
             says(sentence("GONE", ""), () -> validator.withdraw(NOW, TokenKey.of(new byte[32]), NOW));
             says(sentence("TOO_FAR", ""), () -> validator.take(NOW, late.messages()));
