@@ -220,13 +220,18 @@ export interface ValidatorTerms extends Terms {
   callers?: string | Iterable<string>;
   /** How many seconds `check`, `withdraw` and `withdrawKey` may take, until they throw `Unavailable`. At least 0.001, and by default 2. */
   wait?: number;
-  /** How many seconds a message's moment, or the store's time, may lie past `now`: a little more than clocks differ. By default 10. */
+  /** How many seconds a message's moment, or the store's time, may lie past `now`: a little more than clocks differ. By default 30. */
   ahead?: Seconds;
   /**
    * A `now` more than so many seconds past the record's moment is answered with `Jump`, so that a wrong clock does not expire the record. By
    * default there is no limit. After a longer pause you need a new validator, so set it to more than the longest time without a call.
    */
   step?: Seconds;
+  /**
+   * Is told the key (`Use.key`) of a token that this validator accepted in mode "once", and another one too: once, when `take` shows it. Of messages
+   * of more than 4 MiB it is told nothing. By default `process.emitWarning`, with the code "SVID_TWICE".
+   */
+  onTwice?: (key: Uint8Array) => void;
   /**
    * 16 bytes that name this validator among all that share its record; by default random ones. Two of one ID accept a token twice. A state folder
    * has its own.
@@ -570,7 +575,10 @@ export class NotAllowed extends SvidError {}
  * Nobody accepts the token: the disk or the store failed, or there was no answer in time. `cause` is what the disk said, or what the store threw
  * last, if it did. Answer with status 503. The token may be used up all the same, and then its client needs a new one.
  */
-export class Unavailable extends SvidError {}
+export class Unavailable extends SvidError {
+  /** Why, as the `reason` of an answer with status 503: "NotReady", "NotClaimed", "NotKept", "EntriesLost" or "NotJudged". */
+  readonly reason: string;
+}
 
 /** Another process has the state folder. Stop it, or give this one a folder of its own. */
 export class Held extends SvidError {}

@@ -1,5 +1,7 @@
 """What the scripts of this folder share."""
 
+import importlib.machinery
+import importlib.util
 import os
 import re
 import subprocess
@@ -15,6 +17,16 @@ PYTHON = "/usr/bin/python3"
 
 def script():
     return f"packaging/{Path(sys.argv[0]).name}"
+
+
+def loaded(path):
+    """A script of the repository, as a module."""
+    name = Path(path).name
+    loader = importlib.machinery.SourceFileLoader(name, str(TOP / path))
+    module = importlib.util.module_from_spec(importlib.util.spec_from_loader(name, loader))
+    sys.modules[name] = module  # (a dataclass looks there for its module)
+    loader.exec_module(module)
+    return module
 
 
 def run(*words, **more):

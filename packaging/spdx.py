@@ -2,12 +2,10 @@
 
 import functools
 import hashlib
-import importlib.machinery
-import importlib.util
 import re
 from datetime import datetime, timezone
 
-from common import TOP, VERSION, epoch, run
+from common import TOP, VERSION, epoch, loaded, run
 from contents import contents
 
 LICENSES = {"Expat": "MIT", "Apache-2.0": "Apache-2.0", "BSD-3-clause": "BSD-3-Clause", "Go": "BSD-3-Clause"}
@@ -16,15 +14,7 @@ OF_KIT = re.compile(r"(^|/)(svid|svid\.wasm|svid\.html|libsvid(_\w+)?\.a|libsvid
 OF_GO = re.compile(r"(^|/)svidd$")
 
 
-def load_check():
-    """packaging/check, which reads the copyright file."""
-    loader = importlib.machinery.SourceFileLoader("check", str(TOP / "packaging/check"))
-    module = importlib.util.module_from_spec(importlib.util.spec_from_loader("check", loader))
-    loader.exec_module(module)
-    return module
-
-
-CHECK = load_check()
+CHECK = loaded("packaging/check")
 COPYRIGHT = {pattern: it for it in CHECK.paragraphs(TOP / "packaging/copyright") for pattern in it.get("Files", "").split()}
 
 
@@ -55,6 +45,8 @@ def package_of(pattern, name, version, reference=None):
         found["sourceInfo"] = f"from Debian's package {vendored()[pattern]}"
     elif debian:
         found["sourceInfo"] = f"from Debian's package {debian[0]} {version_of(debian[0])}"
+    if "sourceInfo" in found or (reference or "").startswith("pkg:deb/"):
+        found["supplier"] = "Organization: Debian"
     if reference:
         found["externalRefs"] = [{"referenceCategory": "PACKAGE-MANAGER", "referenceType": "purl", "referenceLocator": reference}]
     return found

@@ -10,6 +10,7 @@ import re
 import shutil
 import subprocess
 import time
+import tomllib
 
 import pytest
 from conftest import TOP
@@ -700,6 +701,14 @@ def test_a_word_keeps_its_bytes(folder):
     word = bytes(range(1, 256))
     ran = subprocess.run([folder / "bin/svid", "merge", word], stdin=subprocess.DEVNULL, capture_output=True)
     assert (ran.returncode, ran.stdout, ran.stderr) == (2, b"", b"svid: cannot open " + word + b"\n")
+
+
+def test_refusals_are_those_of_the_list(folder):
+    printed = run(folder, "svid refusals --json")[1]
+    listed = [(it["number"], it["name"], it["sentence"].replace("`", "")) for it in json.loads(printed)]
+    due = tomllib.loads((TOP / "lists/refusals.toml").read_text(encoding="utf-8"))["refusal"]
+    assert [it[:2] for it in listed] == [(it["number"], it["name"]) for it in due]
+    expect(folder, "svid refusals", prints("".join("{} {}: {}\n".format(*it) for it in listed)))
 
 
 @pytest.mark.parametrize("command", ["", "check", "id", "report", "merge", "summary", "answer", "candidates"])

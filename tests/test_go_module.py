@@ -143,7 +143,7 @@ def test_the_service_of_the_readme(service, tmp_path):
     public = json.loads(jwt.algorithms.ECAlgorithm.to_jwk(key.public_key()))
     bundle = tmp_path / "bundle.json"
     bundle.write_text(json.dumps({"keys": [{**public, "kid": "a", "use": "jwt-svid"}]}))
-    claims = {"sub": "spiffe://example.org/web", "aud": "ledger", "exp": int(time.time()) + 300}
+    claims = {"sub": "spiffe://example.org/web", "aud": "ledger", "exp": int(time.time()) + 3000}
     token = jwt.encode(claims, key, "ES256", {"kid": "a"})
 
     def started():

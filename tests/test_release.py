@@ -3,14 +3,15 @@ install it with, in a folder from where no checkout can be seen and no network b
 
 import base64
 import hashlib
-import importlib.machinery
-import importlib.util
+import importlib
 import json
 import os
 import re
 import shutil
 import subprocess
 import sys
+import tempfile
+import tomllib
 from concurrent.futures import ThreadPoolExecutor
 from pathlib import Path
 
@@ -34,10 +35,18 @@ NAMES = [
     *(f"svid-{VERSION}-py3-none-manylinux_{it}.whl" for it in ("2_5_x86_64", "2_17_aarch64")),
     *(
         f"svid-{VERSION}{it}"
-        for it in (".crate", ".tgz", ".html", ".spdx.json", *([".jar", "-javadoc.jar", "-sources.jar"] if JAR else []))
+        for it in (".crate", ".tgz", ".html", ".spdx.json", ".vex.json", *([".jar", "-javadoc.jar", "-sources.jar"] if JAR else []))
     ),
     "SHA256SUMS",
 ]
+# What says something of the other files.
+BESIDE = ("SHA256SUMS", ".spdx.json", ".vex.json")
+
+
+sys.path.insert(0, str(TOP / "packaging"))
+VEX = importlib.import_module("vex")
+script = importlib.import_module("common").loaded
+DOCS = script("tools/docs")
 
 
 def output(*words, **more):
@@ -167,6 +176,20 @@ def test_a_folder_that_is_no_release_stays(tmp_path):
     assert [it.name for it in tmp_path.iterdir()] == ["mine"]
 
 
+def test_a_folder_for_a_package_is_made(tmp_path):
+    """As by `packaging/build out` in a fresh checkout."""
+    shutil.copytree(TOP / "packaging", tmp_path / "packaging", ignore=shutil.ignore_patterns("__pycache__"))
+    shutil.copy(TOP / "VERSION", tmp_path)
+    (tmp_path / "install").write_text("#!/bin/sh\nexit 1\n")
+    (tmp_path / "install").chmod(0o755)
+    said = subprocess.run(
+        ["packaging/build", "a/out"], cwd=tmp_path, env=os.environ | {"SOURCE_DATE_EPOCH": "0"}, capture_output=True, text=True
+    )
+    assert said.stderr == "packaging/build: ./install failed\n" and (tmp_path / "a/out").is_dir()
+    said = subprocess.run(["packaging/build", "a", "b"], cwd=tmp_path, capture_output=True, text=True)
+    assert said.returncode == 2 and not (tmp_path / "b").exists()
+
+
 def test_no_release_of_other_sources(tmp_path):
     for name in "packaging", "tools":
         shutil.copytree(TOP / name, tmp_path / name, ignore=shutil.ignore_patterns("__pycache__"))
@@ -218,14 +241,14 @@ def test_the_list_names_each_file_with_its_sum(release, unpacked):
     due = {
         inner: hashlib.sha256(path.read_bytes()).hexdigest()
         for name, files in unpacked.items()
-        if name not in ("SHA256SUMS", f"svid-{VERSION}.spdx.json")
+        if not name.endswith(BESIDE)
         for inner, path in files.items()
     }
     sums = {it["fileName"]: {one["algorithm"]: one["checksumValue"] for one in it["checksums"]} for it in listed["files"]}
     assert {name: it["SHA256"] for name, it in sums.items()} == due
     artifacts = {it["packageFileName"]: it["checksums"][1]["checksumValue"] for it in listed["packages"] if "packageFileName" in it}
     files = {f"./{it}": hashlib.sha256((release / it).read_bytes()).hexdigest() for it in unpacked}
-    assert artifacts == {name: it for name, it in files.items() if not name.endswith(("SHA256SUMS", ".spdx.json"))}
+    assert artifacts == {name: it for name, it in files.items() if not name.endswith(BESIDE)}
 
 
 def test_the_list_is_of_the_form_of_spdx(release):
@@ -247,6 +270,8 @@ def test_the_list_is_of_the_form_of_spdx(release):
     for it in listed["packages"]:
         assert re.fullmatch(r"NOASSERTION|[A-Za-z0-9.-]+( (AND|OR) [A-Za-z0-9.-]+)*", it["licenseDeclared"])
         assert it["filesAnalyzed"] == ("packageVerificationCode" in it)
+    from_debian = {it["name"] for it in listed["packages"] if it.get("supplier") == "Organization: Debian"}
+    assert {"openssl", "glibc", "go", "github.com/lib/pq"} <= from_debian and "rattle-kit" not in from_debian
 
 
 def libraries(release, name):
@@ -391,7 +416,7 @@ def test_the_programs_and_the_library(room, token, arch):
     assert room.run(*emulator, folder / "bin/svid", "id", SPIFFE_ID) == "domain example.org\npath /billing/api\n"
     said = room.run(*emulator, folder / "bin/svidd", *f"{VERIFY}example.org.json".split(), given=token)
     assert says_who(said) == SPIFFE_ID
-    shutil.copy(TOP / "examples/embed/use.c", room.folder)
+    shutil.copy(folder / "share/doc/svid/examples/embed/use.c", room.folder)
     flags = room.run("pkg-config", "--cflags", "--libs", "svid", PKG_CONFIG_PATH=str(folder / "lib/pkgconfig")).split()
     assert room.run("pkg-config", "--modversion", "svid", PKG_CONFIG_PATH=str(folder / "lib/pkgconfig")) == f"{VERSION}\n"
     compiler = "aarch64-linux-gnu-gcc" if arch == "arm64" else "cc"
@@ -400,6 +425,147 @@ def test_the_programs_and_the_library(room, token, arch):
         library = ["-E", f"LD_LIBRARY_PATH={folder}/lib"] if emulator else []
         said = room.run(*emulator, *library, f"./{built}", "id", SPIFFE_ID, LD_LIBRARY_PATH="" if emulator else str(folder / "lib"))
         assert said == "domain example.org\npath /billing/api\n"
+    if not emulator:  # (OpenSSL for aarch64 is not there)
+        examples = folder / "share/doc/svid/examples/embed"
+        room.run(
+            compiler, "-o", "live", examples / "live.c", examples / "verify.c", flags[0], folder / "lib/libsvid.a", "-lcrypto", "-pthread"
+        )
+    for it in "kubernetes/service/pod.yaml", "prometheus/rules.yaml", "grafana/svidd.json", "svidd.service", "nginx-site.conf":
+        assert (folder / "share/doc/svid/go/deploy" / it).read_bytes() == (TOP / "go/deploy" / it).read_bytes()
+
+
+# The documents in them
+
+
+@pytest.mark.parametrize(
+    "name, usr", [(f"svid_{VERSION}_amd64.deb", "usr"), (f"svid-{VERSION}-linux-x86_64.tar.gz", f"svid-{VERSION}-linux-x86_64")]
+)
+def test_each_link_of_a_document_leads_somewhere(room, name, usr):
+    """To a file of the package, and where it names a heading, to one that is there; or to an address."""
+    room.run(*(["dpkg-deb", "-x", room.take(name), "."] if name.endswith(".deb") else ["tar", "-xf", room.take(name)]))
+    root = (room.folder / usr).resolve()
+    documents = sorted((root / "share/doc/svid").rglob("*.md"))
+    assert {"README.md", "INSTALL.md", "SIDECAR.md", "CHANGELOG.md"} <= {it.name for it in documents}
+    links = [(it, link) for it in documents for link in re.findall(r"\]\(([^)\s]+)\)", it.read_text()) if not re.match(r"\w+:", link)]
+    assert len(links) > 300
+    lost = []
+    for it, link in links:
+        path, _, heading = link.partition("#")
+        target = (it.parent / path).resolve() if path else it
+        if not target.is_relative_to(root) or not target.exists() or heading and heading not in DOCS.anchors(target):
+            lost.append(f"{it.relative_to(root)}: {link}")
+    assert lost == []
+
+
+# The signature
+
+
+def test_a_signature_of_the_sums(tmp_path):
+    """A dry run, with keys that are made here."""
+    needs("gpg")
+    needs("gpgv")
+    for it in "packaging", "tools", "VERSION":
+        (shutil.copytree if (TOP / it).is_dir() else shutil.copy)(TOP / it, tmp_path / it)
+    release = tmp_path / "release"
+    release.mkdir()
+    (release / "file").write_text("file\n")
+    (release / "SHA256SUMS").write_text(output("sha256sum", "file", cwd=release))
+    # (a socket of gpg's agent wants a short path)
+    with tempfile.TemporaryDirectory() as home:
+        gpg = ["gpg", "--homedir", home, "--batch", "--quiet", "--pinentry-mode=loopback"]
+        environment = os.environ | {"GNUPGHOME": home}
+        try:
+            for name in "owner@example.org", "other@example.org":
+                output(*gpg, "--passphrase", "", "--quick-generate-key", name, "ed25519", "sign", "never")
+            words = [tmp_path / "packaging/release", "--sign"]
+
+            def refused(name):
+                ran = subprocess.run(
+                    [*words, name, release], env=environment, stdin=subprocess.DEVNULL, capture_output=True, text=True, timeout=600
+                )
+                assert ran.returncode == 1 and not (release / "SHA256SUMS.asc").exists(), ran.stderr
+                return ran.stderr
+
+            assert "write your public key to it (gpg --armor --export KEY), and commit it" in refused("owner@example.org")
+            (tmp_path / "packaging/release-key.asc").write_text(output(*gpg, "--armor", "--export", "owner@example.org"))
+            assert "is not the key that signed. Nothing is signed" in refused("other@example.org")
+            (release / "file").write_text("another\n")
+            assert "file: FAILED" in refused("owner@example.org")
+            (release / "file").write_text("file\n")
+            assert output(*words, "owner@example.org", release, env=environment) == f"{release}/SHA256SUMS.asc\n"
+        finally:
+            subprocess.run(["gpgconf", "--homedir", home, "--kill", "all"], check=False)
+    # What INSTALL.md says to do, as somebody who has nothing but the public key.
+    with tempfile.TemporaryDirectory() as home:
+        [block] = re.findall(r"```\n(gpg --import .*?)```", (TOP / "docs/INSTALL.md").read_text(), re.S)
+        shutil.copy(tmp_path / "packaging/release-key.asc", release)
+        script = ["bash", "-ec", block]
+        assert (
+            "Good signature"
+            in subprocess.run(script, cwd=release, env=os.environ | {"GNUPGHOME": home}, capture_output=True, text=True, check=True).stderr
+        )
+        (release / "SHA256SUMS").write_text((release / "SHA256SUMS").read_text() + "\n")
+        assert subprocess.run(script, cwd=release, env=os.environ | {"GNUPGHOME": home}, capture_output=True, check=False).returncode
+        subprocess.run(["gpgconf", "--homedir", home, "--kill", "all"], check=False)
+
+
+# The known faults of others
+
+
+def test_what_is_said_of_known_faults(release):
+    """Of the form of OpenVEX 0.2.0, of each row, and of each artifact that has svidd."""
+    said = json.loads((release / f"svid-{VERSION}.vex.json").read_text())
+    assert {"@context", "@id", "author", "timestamp", "version", "statements"} <= said.keys()
+    rows = tomllib.loads((TOP / "packaging/faults.toml").read_text())["fault"]
+    assert [it["vulnerability"]["name"] for it in said["statements"]] == [it["names"][0] for it in rows]
+    machines = [f"svid_{VERSION}_{it}.deb" for it in ARCHITECTURES] + [f"svidd-{VERSION}-{it}.oci.tar" for it in ARCHITECTURES]
+    machines += [f"svid-{VERSION}-linux-{it}.tar.gz" for it in MACHINES.values()]
+    due = {f"pkg:generic/{it}@{VERSION}": hashlib.sha256((release / it).read_bytes()).hexdigest() for it in machines}
+    for it in said["statements"]:
+        assert {one["@id"]: one["hashes"]["sha-256"] for one in it["products"]} == due
+        wanted = {"not_affected": {"justification", "impact_statement"}, "affected": {"action_statement", "status_notes"}, "fixed": set()}
+        assert it.keys() == {"vulnerability", "products", "status"} | wanted[it["status"]], it
+
+
+ROW = {"names": ["CVE-1"], "of": "stdlib", "fixed": "1.20.3", "packages": ["html/template"]}
+SAID = {"because": "It is not called.", "how": "vulnerable_code_not_in_execute_path"}
+
+
+@pytest.mark.parametrize(
+    "more, version, names, due",
+    [
+        ({}, "1.19.8", {"html/templates.F"}, "vulnerable_code_not_present"),
+        ({}, "1.19.8", {"html/template.F"}, "Say in its row whether the fault is reached"),
+        (SAID, "1.19.8", {"html/template.F"}, "vulnerable_code_not_in_execute_path"),
+        (SAID | {"do": "Wait."}, "1.19.8", {"html/template.F"}, "Say in its row whether the fault is reached"),
+        (SAID | {"how": "luck"}, "1.19.8", {"html/template.F"}, "Say in its row whether the fault is reached"),
+        (SAID, "1.19.8", {"main.main"}, "Take `because` out of its row"),
+        ({"because": "It is.", "do": "Wait."}, "1.19.8", {"html/template.F"}, "affected"),
+        ({}, "1.20.3", {"html/template.F"}, "fixed"),
+        ({}, "1.20.10", {"html/template.F"}, "fixed"),
+        ({"since": "1.20.0"}, "1.19.8", {"html/template.F"}, "vulnerable_code_not_present"),
+        ({"of": "example.org/module"}, "1.19.8", {"html/template.F"}, "component_not_present"),
+        ({"packages": [], "functions": ["a.(*B).C"]}, "1.19.8", {"a.(*B).CD"}, "vulnerable_code_not_present"),
+        ({"packages": [], "functions": ["a.(*B).C"]}, "1.19.8", {"a.(*B).C"}, "Say in its row whether the fault is reached"),
+    ],
+)
+def test_a_fault_by_what_a_program_has_in_it(more, version, names, due):
+    """What gets into a program, and is said not to be there, ends a release."""
+    # (another program without it changes nothing)
+    programs = [({"stdlib": version}, {"main.main"}), ({"stdlib": version}, names)]
+    if due.startswith(("Say", "Take")):
+        with pytest.raises(SystemExit, match=due):
+            VEX.statement(ROW | more, programs)
+    else:
+        said = VEX.statement(ROW | more, programs)
+        assert said.get("justification", said["status"]) == due
+
+
+def test_a_program_says_what_is_in_it(release, tmp_path):
+    output("dpkg-deb", "-x", release / f"svid_{VERSION}_arm64.deb", tmp_path)
+    modules, names = VEX.inside(tmp_path / "usr/bin/svidd")
+    assert modules["stdlib"] == re.search(r"go([\d.]+)", output("go", "version"))[1] and modules["github.com/lib/pq"]
+    assert {"main.main", "net/http.(*Client).do", "github.com/nats-io/nats.go.Connect"} <= names
 
 
 # The images
@@ -410,7 +576,12 @@ def test_the_programs_and_the_library(room, token, arch):
 def test_the_image(room, token, arch, kind):
     image = room.take(f"svidd-{VERSION}-{arch}.oci.tar")
     buildah = ["buildah", "--storage-driver=vfs", f"--root={room.folder}/store", f"--runroot={room.folder}/run"]
-    container = room.run(*buildah, "from", "--arch", arch, f"{kind}:{image}").strip()
+    # (as Podman and containerd name it; of a docker-archive they give the name another registry)
+    tag = {"oci-archive": f":{VERSION}", "docker-archive": ""}[kind]
+    room.run(*buildah, "pull", "--arch", arch, f"{kind}:{image}{tag}")
+    registry = {"oci-archive": "docker.io/library", "docker-archive": "localhost"}[kind]
+    assert room.run(*buildah, "images", "--format", "{{.Name}}:{{.Tag}}") == f"{registry}/svidd:{VERSION}\n"
+    container = room.run(*buildah, "from", "--pull-never", "--arch", arch, f"svidd:{VERSION}").strip()
     config = json.loads(room.run(*buildah, "inspect", "--type=container", container))["OCIv1"]
     assert config["architecture"] == arch
     assert config["config"]["User"] == "65532:65532" and config["config"]["Entrypoint"] == ["/usr/local/bin/svidd"]
@@ -521,10 +692,7 @@ def test_what_is_in_a_wheel_is_recorded(unpacked, it):
 )
 def test_the_glibc_of_a_tag(tmp_path, source, flags, due):
     needs("cc")
-    sys.path.insert(0, str(TOP / "packaging"))
-    loader = importlib.machinery.SourceFileLoader("wheel_of_packaging", str(TOP / "packaging/wheel"))
-    module = importlib.util.module_from_spec(importlib.util.spec_from_loader("wheel_of_packaging", loader))
-    loader.exec_module(module)
+    module = script("packaging/wheel")
     (tmp_path / "one.c").write_text(source)
     output("cc", "-shared", "-fPIC", "-o", tmp_path / "one.so", tmp_path / "one.c", *flags)
     if isinstance(due, tuple):

@@ -9,7 +9,7 @@
 // domain no more.
 //
 // A bundle has at most 1 MiB, and 32,768 of the brackets { and [. All bundles together have at most 4 MiB, where each of these
-// brackets counts as 32 bytes more: the heaviest are passed over beyond that, and the log says so.
+// brackets counts as 32 bytes more: the heaviest are skipped beyond that, and the log says so.
 package bundles
 
 import (
@@ -33,6 +33,7 @@ import (
 	"time"
 
 	"svid.example/go/v3/internal/brief"
+	"svid.example/go/v3/internal/secured"
 )
 
 const (
@@ -399,7 +400,7 @@ func httpsOnly(roots *x509.CertPool) *http.Client {
 		TLSHandshakeTimeout: handshakeWait, TLSClientConfig: &tls.Config{RootCAs: roots, MinVersion: tls.VersionTLS12},
 	}
 	transport.DialTLSContext = func(ctx context.Context, network, address string) (net.Conn, error) {
-		return dialTLS(ctx, network, address, transport.TLSClientConfig)
+		return secured.Dial(ctx, network, address, transport.TLSClientConfig, handshakeWait)
 	}
 	return &http.Client{Transport: transport, CheckRedirect: func(next *http.Request, before []*http.Request) error {
 		if next.URL.Scheme != "https" || len(before) > mostRedirects {
@@ -407,35 +408,6 @@ func httpsOnly(roots *x509.CertPool) *http.Client {
 		}
 		return nil
 	}}
-}
-
-// dialTLS connects by TLS. What a server shows is read before anything is known of it, and by a key of an unknown algorithm it lets
-// package crypto/x509 panic (CVE-2024-24783): that is an error here, and ends no process.
-func dialTLS(ctx context.Context, network, address string, config *tls.Config) (conn net.Conn, err error) {
-	host, _, err := net.SplitHostPort(address)
-	if err != nil {
-		return nil, err
-	}
-	raw, err := new(net.Dialer).DialContext(ctx, network, address)
-	if err != nil {
-		return nil, err
-	}
-	defer func() {
-		if fault := recover(); fault != nil {
-			err = fmt.Errorf("its certificates can't be judged: %v", fault)
-		}
-		if err != nil {
-			conn = nil
-			raw.Close()
-		}
-	}()
-	if config = config.Clone(); config.ServerName == "" {
-		config.ServerName = host
-	}
-	ctx, cancel := context.WithTimeout(ctx, handshakeWait)
-	defer cancel()
-	secured := tls.Client(raw, config)
-	return secured, secured.HandshakeContext(ctx)
 }
 
 // judge puts what a source gave in the place of its last good bundle, if it is one. It returns whether that is another

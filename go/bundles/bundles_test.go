@@ -501,6 +501,9 @@ func TestSpecs(t *testing.T) {
 			t.Errorf("%q is %v", bad, got)
 		}
 	}
+	if _, err := Parse("bundle.json"); err == nil || !strings.Contains(err.Error(), `"bundle.json": name the one trust domain whose bundle it is`) {
+		t.Errorf("a file without a name: %v", err)
+	}
 	specs, err := ParseSpecs([]string{"a=b", "c=https://d"}, "dir")
 	if want := []Spec{{Domain: "a", Source: "b"}, {Domain: "c", Source: "https://d"}, Folder("dir")}; !reflect.DeepEqual(specs, want) || err != nil {
 		t.Errorf("%v %v, want %v", specs, err, want)

@@ -71,7 +71,7 @@ func TestHeadersWithoutEnd(t *testing.T) {
 		} else if _, err := http.ReadRequest(bufio.NewReader(conn)); err == nil {
 			_, _ = io.WriteString(conn, "HTTP/1.1 200 OK\r\n")
 		}
-		for end := time.Now().Add(2 * limit); time.Now().Before(end); time.Sleep(time.Millisecond) {
+		for end := time.Now().Add(10 * limit); time.Now().Before(end); time.Sleep(time.Millisecond) {
 			_ = conn.SetWriteDeadline(end)
 			if err := send(); err != nil {
 				left <- ""

@@ -18,7 +18,7 @@ const (
 
 var (
 	errBrackets = fmt.Errorf("it has more than %d of the brackets { and [", mostBrackets)
-	errNoRoom   = fmt.Errorf("with it, all bundles together have more than %d bytes, where each { and [ counts as %d more: the heaviest are passed over",
+	errNoRoom   = fmt.Errorf("with it, all bundles together have more than %d bytes, where each { and [ counts as %d more: the heaviest are skipped",
 		mostTogether, bracketWeight)
 )
 

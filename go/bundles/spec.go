@@ -43,7 +43,7 @@ type API interface {
 func Parse(text string) (Spec, error) {
 	domain, source, found := strings.Cut(text, "=")
 	if !found || domain == "" || source == "" {
-		return Spec{}, fmt.Errorf("bundles: %q: write DOMAIN=FILE or DOMAIN=https://..", text)
+		return Spec{}, fmt.Errorf("bundles: %q: name the one trust domain whose bundle it is: write DOMAIN=FILE or DOMAIN=https://..", text)
 	}
 	s := Spec{Domain: domain, Source: source}
 	return s, s.check()

@@ -141,7 +141,7 @@ func TestBundlesOfAnAgentGrowOld(t *testing.T) {
 // An agent that says nothing is told of, and asked again.
 func TestASilentAgent(t *testing.T) {
 	agent := agenttest.Start(t)
-	_, o := watch(t, func(options *Options) { options.Limit = 200 * time.Millisecond }, ofAgent(t, agent.Address))
+	_, o := watch(t, func(options *Options) { options.Limit = 2 * time.Second }, ofAgent(t, agent.Address))
 	o.await(t, "a word of its silence", o.says("bundle not read source "+agent.Address+" why it is silent"))
 	agent.Give(t, map[string]string{"spiffe://example.org": bare})
 	o.await(t, "the bundle", o.calledTimes(1))

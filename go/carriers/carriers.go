@@ -6,7 +6,6 @@ package carriers
 
 import (
 	"context"
-	"fmt"
 	"time"
 )
 
@@ -100,25 +99,4 @@ type Options struct {
 	// Log receives what an operator may want to know: an event, and names and values by turns. It may be nil, and is
 	// called from several goroutines.
 	Log func(event string, fields ...any)
-}
-
-// ErrTooLarge: the value has more than MostValue bytes.
-var ErrTooLarge = fmt.Errorf("a value has at most %d bytes", MostValue)
-
-// An Unfit says why a log is of no use to this member, and what to do.
-type Unfit struct{ Why string }
-
-func (u *Unfit) Error() string { return u.Why }
-
-// Unfitf returns an *Unfit.
-func Unfitf(text string, values ...any) error { return &Unfit{fmt.Sprintf(text, values...)} }
-
-// ValidName says whether a group can have this name: letters, digits, - and _ alone.
-func ValidName(name string) bool {
-	for _, c := range []byte(name) {
-		if !(c >= 'a' && c <= 'z' || c >= 'A' && c <= 'Z' || c >= '0' && c <= '9' || c == '-' || c == '_') {
-			return false
-		}
-	}
-	return name != ""
 }

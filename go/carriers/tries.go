@@ -4,6 +4,8 @@ import (
 	"context"
 	"fmt"
 	"time"
+
+	"svid.example/go/v3/internal/pause"
 )
 
 const attemptPause = 50 * time.Millisecond // after a failed attempt
@@ -16,22 +18,8 @@ func Persist(ctx context.Context, what string, try func() (done bool, err error)
 		if done {
 			return err
 		}
-		select {
-		case <-ctx.Done():
+		if !pause.For(ctx, attemptPause) {
 			return fmt.Errorf("%s: %w (%v)", what, ctx.Err(), err)
-		case <-time.After(attemptPause):
 		}
-	}
-}
-
-// Pause returns after d, or when ctx ends, and says whether to go on.
-func Pause(ctx context.Context, d time.Duration) bool {
-	timer := time.NewTimer(d)
-	defer timer.Stop()
-	select {
-	case <-ctx.Done():
-		return false
-	case <-timer.C:
-		return true
 	}
 }

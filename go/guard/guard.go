@@ -69,7 +69,7 @@ const (
 	usualLongest   = 3600
 	usualAhead     = 30
 	usualWait      = 2 * time.Second
-	usualSummaries = time.Minute
+	usualSummaries = 5 * time.Minute
 	mostLongest    = 100 * 365 * 24 * 3600 // keeps sums of times far from any limit
 	mostAhead      = 24 * 3600
 )
@@ -97,7 +97,7 @@ type Options struct {
 	Ahead     uint64         // seconds that the clocks of the group may differ; 0 is 30, and Exactly is 0
 	RSABits   int            // how many bits an RSA key may have, as svid.KeyringOptions has it
 	Wait      time.Duration  // how long one request may wait for the disk, the group and the store; 0 is two seconds
-	Summaries time.Duration  // the time between two repairs, in a group of mode Once; 0 is a minute
+	Summaries time.Duration  // the time between two repairs, in a group of mode Once; 0 is five minutes
 	Lines     *Lines         // what happens, as NewLines makes them; nil for none. Close does not close them
 	Now       func() uint64  // the clock; nil is svid.Now
 

@@ -177,7 +177,7 @@ func TestWhatOptionsLeaveOut(t *testing.T) {
 	o := usual(t)
 	o.Wait = 0
 	got, err := o.usual()
-	if err != nil || got.Mode != Once || got.Longest != 3600 || got.Ahead != 30 || got.Wait != 2*time.Second || got.Summaries != time.Minute {
+	if err != nil || got.Mode != Once || got.Longest != 3600 || got.Ahead != 30 || got.Wait != 2*time.Second || got.Summaries != 5*time.Minute {
 		t.Errorf("%+v %v", got, err)
 	}
 	o.Store, o.Ahead = new(memory.Store), Exactly

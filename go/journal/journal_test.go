@@ -698,14 +698,11 @@ func TestManyCallersShareOneSync(t *testing.T) {
 	for n := uint64(1); n <= callers; n++ {
 		go appends(n)
 	}
-	for gathered := 0; gathered < callers*82; {
-		time.Sleep(time.Millisecond)
+	await(t, func() bool {
 		j.gather.Lock()
-		if j.gathering != nil {
-			gathered = len(j.gathering.messages)
-		}
-		j.gather.Unlock()
-	}
+		defer j.gather.Unlock()
+		return j.gathering != nil && len(j.gathering.messages) >= callers*82
+	})
 	close(proceed)
 	all.Wait()
 	if syncs != 2 {

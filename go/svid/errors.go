@@ -42,12 +42,15 @@ func ofCall(status C.uint32_t) error { return errors.New("svid: " + wordsOf(stat
 
 // A BundleError says which trust domain of the bundles is at fault.
 type BundleError struct {
-	Reason string // "Domain": the name is no trust domain name; "Keys": its value is no JWK set
+	Reason string // "Domain": the name is no trust domain name; "Keys": its value is no JWK set; "Unnamed": they are one bundle without a name
 	Index  int    // of the name among all names in rising byte order, from 0
 }
 
 // Error says what is wrong and what to do, and names the index.
 func (e *BundleError) Error() string {
+	if e.Reason == "Unnamed" {
+		return "svid: " + wordsOf(C.SVID_BUNDLES_UNNAMED).whole()
+	}
 	said := wordsOf(C.SVID_BUNDLES_KEYS)
 	if e.Reason == "Domain" {
 		said = wordsOf(C.SVID_BUNDLES_DOMAIN)
@@ -102,6 +105,16 @@ var statusErrors = map[C.uint32_t]error{
 	C.SVID_NO_MEMBER:          ErrNoMember,
 	C.SVID_NO_MODE:            ErrNoMode,
 	C.SVID_UNASKED:            ErrUnasked,
+}
+
+// ofBundles is the error of a call that has read these bundles. (To that call the `keys` of one bundle without a name are a name. A join knows better.)
+func ofBundles(status C.uint32_t, told *C.svid_told, text []byte) error {
+	if status == C.SVID_BUNDLES_DOMAIN || status == C.SVID_BUNDLES_KEYS {
+		if _, _, joined := join(text, []C.svid_document{{text_len: C.size_t(len(text))}}); joined == C.SVID_BUNDLES_UNNAMED {
+			return &BundleError{Reason: "Unnamed"}
+		}
+	}
+	return failure(status, told)
 }
 
 // failure is the error of a status, or nil for SVID_OK.

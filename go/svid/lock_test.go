@@ -277,8 +277,10 @@ func TestEachHandleServesOneCall(t *testing.T) {
 	}
 	done := make(chan string, 1)
 	go inside(func() { _, _ = k.Candidates("a.b.c") }, done, "Candidates")
-	for waiting() < 1 {
-		time.Sleep(time.Millisecond)
+	for end := time.Now().Add(patience.Long); waiting() < 1; time.Sleep(time.Millisecond) {
+		if time.Now().After(end) {
+			t.Fatal("Candidates does not wait")
+		}
 	}
 	wantWait(t, "a call asks of the bundles", free, map[string]func(){"SetBundles": func() { _ = k.SetBundles(one.Bundles()) }})
 	select {

@@ -12,7 +12,7 @@ type Refusal uint32
 
 // lists:begin refusals (written by tools/lists from lists/refusals.toml)
 
-// The 25 refusals, in the order in which the validator looks for them. A token
+// The refusals, in the order in which the validator looks for them. A token
 // is answered with the first that holds.
 const (
 	TooLong           Refusal = C.SVID_TOO_LONG           // The token has more than 65,536 bytes.

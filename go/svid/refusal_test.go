@@ -17,7 +17,7 @@ func TestSentences(t *testing.T) {
 		}
 		seen[sentence] = refusal
 	}
-	if got := svid.Withdrawn.Sentence(); len(seen) != 25 || got != "The token was withdrawn." {
+	if got := svid.Withdrawn.Sentence(); len(seen) != len(svid.Refusals()) || got != "The token was withdrawn." {
 		t.Errorf("%d sentences, and that of Withdrawn is %q", len(seen), got)
 	}
 	if got := svid.Refusal(1).Sentence(); got != "No refusal has this number." {

@@ -209,7 +209,7 @@ func (v *Validator) JudgeRequest(now uint64, up time.Duration, number uint64, t 
 	if status == C.SVID_NOT_ALLOWED {
 		return Accepted{}, v.done(), ErrNotAllowed
 	}
-	accepted, err := v.accepted(status)
+	accepted, err := v.accepted(status, t)
 	return accepted, v.done(), err
 }
 
@@ -235,7 +235,7 @@ func (v *Validator) Found(now uint64, up time.Duration, number uint64, caller [3
 	if deed.Kind == DeedAnswer && deed.Err != nil {
 		return Accepted{}, deed, deed.Err
 	}
-	accepted, err := v.accepted(status)
+	accepted, err := v.accepted(status, t)
 	return accepted, deed, err
 }
 

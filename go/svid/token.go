@@ -37,7 +37,8 @@ type Token struct {
 	text   string
 	found  finding
 	handle C.svid_token
-	isRead bool // The handle is open.
+	isRead bool   // The handle is open.
+	id     string // The SPIFFE ID, once the token was accepted.
 }
 
 // A finding of a verifier: the key made this signature over this text. The library
@@ -144,7 +145,7 @@ func (v *Validator) CheckToken(now uint64, t *Token) (Accepted, error) {
 	defer v.mu.Unlock()
 	f := &t.found
 	status := C.check_token(&v.handle.word, C.uint64_t(now), f.key(), f.text, start(f.signature), C.size_t(len(f.signature)), &t.handle.word, start(v.id[:]), C.size_t(len(v.id)), &v.used, &v.told)
-	return v.accepted(status)
+	return v.accepted(status, t)
 }
 
 // JudgeToken is Judge of a token by the key that Keyring.VerifyToken has found. It
@@ -157,5 +158,5 @@ func (v *Validator) JudgeToken(now uint64, t *Token) (Accepted, error) {
 	defer v.mu.Unlock()
 	f := &t.found
 	status := C.judge_token(&v.handle.word, C.uint64_t(now), f.key(), f.text, start(f.signature), C.size_t(len(f.signature)), &t.handle.word, start(v.id[:]), C.size_t(len(v.id)), &v.used, &v.told)
-	return v.accepted(status)
+	return v.accepted(status, t)
 }

@@ -110,7 +110,7 @@ func Open(o Options) (*Validator, error) {
 func (v *Validator) open(own, bundles []byte) error {
 	status := C.svid_validator_open(&v.handle, &v.terms, start(own), C.size_t(len(own)),
 		start(bundles), C.size_t(len(bundles)), &v.told)
-	return failure(status, &v.told)
+	return ofBundles(status, &v.told, bundles)
 }
 
 // audienceLines writes audiences one a line, as the library wants them.
@@ -190,11 +190,14 @@ func (v *Validator) Judge(now uint64, token string, yes []Question) (Accepted, e
 }
 
 // accepted reads what a check or a judgment left. The caller holds the lock.
-func (v *Validator) accepted(status C.uint32_t) (Accepted, error) {
+func (v *Validator) accepted(status C.uint32_t, t *Token) (Accepted, error) {
 	if err := failure(status, &v.told); err != nil {
 		return Accepted{}, err
 	}
-	return Accepted{ID: string(v.id[:v.told.len]), Use: v.use(false), bundles: v.bundles}, nil
+	if id := v.id[:v.told.len]; string(id) != t.id { // (The token may have been judged before: its ID asks for memory once.)
+		t.id = string(id)
+	}
+	return Accepted{ID: t.id, Use: v.use(false), bundles: v.bundles}, nil
 }
 
 func (v *Validator) use(withdrawn bool) Use { return useOf(&v.used, withdrawn) }

@@ -98,6 +98,21 @@ func TestBundleErrorsInWords(t *testing.T) {
 			t.Errorf("%s: %v, and not %q", bundles, err, want)
 		}
 	}
+	for _, one := range []string{`{"keys":[]}`, `{"A":1,"keys":null}`, `{"keys":[],"spiffe_sequence":1}`} {
+		want := "svid: " + listedStatus(t, "BUNDLES_UNNAMED").whole()
+		v, err := svid.Open(svid.Options{Audiences: []string{"ledger"}, Bundles: []byte("{}")})
+		if err != nil {
+			t.Fatal(err)
+		}
+		_, kErr := svid.NewKeyring([]byte(one))
+		_, vErr := svid.Open(svid.Options{Audiences: []string{"ledger"}, Bundles: []byte(one)})
+		for _, err := range []error{kErr, vErr, svid.CheckBundles([]byte(one)), v.SetBundles([]byte(one))} {
+			if err == nil || err.Error() != want {
+				t.Errorf("%s: %v, and not %q", one, err, want)
+			}
+		}
+		v.Close()
+	}
 	for name, sets := range map[string]map[string][]byte{
 		"BUNDLES_NOT_OBJECT": {"b": []byte("[]"), "a": []byte(`{"keys":[]}`)},
 		"BUNDLES_KEYS":       {"b": []byte("{}")},

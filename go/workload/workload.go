@@ -1,13 +1,11 @@
 // Package workload asks a SPIFFE Workload API, as SPIRE's agent serves it on a socket, for the trust bundles of JWT-SVIDs.
 //
 // It makes one call, FetchJWTBundles: a stream of gRPC over HTTP/2, without TLS. The HTTP/2 is that of Go's own libraries.
-// What gRPC has beside it for one such call is in this file.
 package workload
 
 import (
 	"bytes"
 	"context"
-	"encoding/binary"
 	"errors"
 	"fmt"
 	"io"
@@ -21,6 +19,7 @@ import (
 
 	"golang.org/x/net/http2"
 	"svid.example/go/v3/internal/brief"
+	"svid.example/go/v3/internal/grpc"
 	"svid.example/go/v3/internal/protowire"
 )
 
@@ -34,17 +33,6 @@ const (
 	// idle is how long a server may send nothing before it is asked by HTTP/2 whether it is still there. Servers of gRPC hang up
 	// on who asks more often than every five minutes.
 	idle = 6 * time.Minute
-	// frameHead is what stands before each message of gRPC: whether it is compressed, and its length.
-	frameHead = 5
-)
-
-// The error codes of gRPC that the Workload API names (SPIFFE Workload Endpoint, section 6), and that of a call that went
-// well.
-const (
-	codeOK               = 0
-	codeInvalidArgument  = 3
-	codePermissionDenied = 7
-	codeUnavailable      = 14
 )
 
 // ErrForGood: the server refuses the call as it is made, so the client does not make it again.
@@ -99,7 +87,7 @@ func (c *Client) watch(ctx context.Context, late *time.Timer, give func(bundles 
 		return err
 	}
 	// (The request has one message, which is empty.)
-	request, err := http.NewRequestWithContext(ctx, http.MethodPost, "http://localhost"+method, bytes.NewReader(make([]byte, frameHead)))
+	request, err := http.NewRequestWithContext(ctx, http.MethodPost, "http://localhost"+method, bytes.NewReader(grpc.Frame(nil)))
 	if err != nil {
 		return err
 	}
@@ -118,12 +106,17 @@ func (c *Client) watch(ctx context.Context, late *time.Timer, give func(bundles 
 		return fmt.Errorf("it answers %s with %q: no gRPC is served there", brief.Text(answer.Status, brief.Most), brief.Text(kind, brief.Most))
 	}
 	for {
-		message, err := readMessage(answer.Body, func() { late.Reset(c.limit) })
+		message, err := grpc.Read(answer.Body, mostMessage, func() { late.Reset(c.limit) })
 		late.Stop()
-		if err == io.EOF {
+		var long grpc.TooLarge
+		switch {
+		case err == io.EOF:
 			return ending(answer)
-		}
-		if err != nil {
+		case err == grpc.ErrCompressed:
+			return errors.New("it sends a compressed message, which nobody asked for")
+		case errors.As(err, &long):
+			return fmt.Errorf("it sends a message of %d bytes; at most %d are read", long, mostMessage)
+		case err != nil:
 			return err
 		}
 		bundles, err := readBundles(message)
@@ -132,39 +125,6 @@ func (c *Client) watch(ctx context.Context, late *time.Timer, give func(bundles 
 		}
 		give(bundles)
 	}
-}
-
-// readMessage reads one message of a stream, and calls begun at its first byte. io.EOF: there is none any more.
-func readMessage(stream io.Reader, begun func()) ([]byte, error) {
-	var head [frameHead]byte
-	if _, err := io.ReadFull(stream, head[:1]); err != nil {
-		return nil, err
-	}
-	begun()
-	if _, err := io.ReadFull(stream, head[1:]); err != nil {
-		return nil, cut(err)
-	}
-	n := binary.BigEndian.Uint32(head[1:])
-	switch {
-	case head[0] != 0:
-		return nil, errors.New("it sends a compressed message, which nobody asked for")
-	case n > mostMessage:
-		return nil, fmt.Errorf("it sends a message of %d bytes; at most %d are read", n, mostMessage)
-	}
-	// (What is there is read, and not what the head says.)
-	message, err := io.ReadAll(io.LimitReader(stream, int64(n)))
-	if err == nil && len(message) < int(n) {
-		err = io.ErrUnexpectedEOF
-	}
-	return message, err
-}
-
-// cut is the error of a stream that ends within a message.
-func cut(err error) error {
-	if err == io.EOF {
-		return io.ErrUnexpectedEOF
-	}
-	return err
 }
 
 // ending says why a stream has ended. The status stands after it, or, where there was no message, in front.
@@ -182,13 +142,13 @@ func ending(answer *http.Response) error {
 	switch {
 	case err != nil:
 		return errors.New("it has ended the stream without a status")
-	case code == codeOK:
+	case code == grpc.OK:
 		return errors.New("it has ended the stream")
-	case code == codeInvalidArgument:
+	case code == grpc.InvalidArgument:
 		return fmt.Errorf("%w (InvalidArgument): %s", ErrForGood, why)
-	case code == codePermissionDenied:
+	case code == grpc.PermissionDenied:
 		return fmt.Errorf("it has no identity for this process (PermissionDenied): %s: register it as a workload", why)
-	case code == codeUnavailable:
+	case code == grpc.Unavailable:
 		return fmt.Errorf("it is not ready (Unavailable): %s", why)
 	}
 	return fmt.Errorf("it answers with code %d of gRPC: %s", code, why)
@@ -206,17 +166,18 @@ var errMessage = errors.New("it sends what is no JWTBundlesResponse")
 // readBundles reads a JWTBundlesResponse.
 func readBundles(message []byte) (map[string][]byte, error) {
 	bundles := make(map[string][]byte)
-	err := eachField(message, func(number protowire.Number, value []byte) error {
-		if number != bundlesField {
+	err := protowire.Each(message, func(number protowire.Number, kind protowire.Type, entry []byte) error {
+		if number != bundlesField || kind != protowire.BytesType {
 			return nil
 		}
 		var key string
 		var bundle []byte
-		err := eachField(value, func(number protowire.Number, value []byte) error {
-			switch number {
-			case keyField:
+		err := protowire.Each(entry, func(number protowire.Number, kind protowire.Type, value []byte) error {
+			switch {
+			case kind != protowire.BytesType:
+			case number == keyField:
 				key = string(value)
-			case valueField:
+			case number == valueField:
 				bundle = value
 			}
 			return nil
@@ -224,27 +185,8 @@ func readBundles(message []byte) (map[string][]byte, error) {
 		bundles[key] = bundle
 		return err
 	})
-	return bundles, err
-}
-
-// eachField calls do with each field of a message that is text, bytes or a message. It passes over those of other types.
-func eachField(message []byte, do func(number protowire.Number, value []byte) error) error {
-	for len(message) > 0 {
-		number, kind, n := protowire.ConsumeTag(message)
-		if n < 0 {
-			return errMessage
-		}
-		message = message[n:]
-		if n = protowire.ConsumeFieldValue(number, kind, message); n < 0 {
-			return errMessage
-		}
-		if kind == protowire.BytesType {
-			value, _ := protowire.ConsumeBytes(message)
-			if err := do(number, value); err != nil {
-				return err
-			}
-		}
-		message = message[n:]
+	if err != nil {
+		return nil, errMessage
 	}
-	return nil
+	return bundles, nil
 }

@@ -1,5 +1,7 @@
 // What this package throws: a refusal of a token, and why a call did nothing.
 
+const NOT_JUDGED = "NotJudged";
+
 /** The base of all errors of this package. Its `name` says which one it is, and stays the same in all versions. */
 export class SvidError extends Error {}
 
@@ -59,8 +61,9 @@ export class NotAllowed extends SvidError {
 
 /** Nobody accepts the token: the store failed, or did not answer in time. Answer with status 503. The token may be used up all the same. */
 export class Unavailable extends SvidError {
-  constructor(says, cause) {
+  constructor(says, cause, reason = NOT_JUDGED) {
     super(says, cause === undefined ? {} : { cause });
+    this.reason = reason;
   }
 }
 
@@ -125,6 +128,18 @@ const DUE = new Map([
 ]);
 // lists:end
 
+// Why there is no answer about a token: the first status and the last one, and the word by which a client hears it.
+// lists:begin reasons (written by tools/lists from lists/statuses.toml)
+const REASONS = [
+  [2, 2, "NoMemory"],
+  [9, 9, "ClockJump"],
+  [58, 58, "NotClaimed"],
+  [59, 59, "EntriesLost"],
+  [202, 202, "NotKept"],
+  [211, 222, "NotReady"],
+];
+// lists:end
+
 // What the library says of each status: its name, what is wrong, and what to do.
 let words;
 const UNKNOWN = { name: "", says: "The library could not be started.", advice: "" };
@@ -136,12 +151,22 @@ export function learn(asking) {
 
 // Statuses of a token; and those that say nothing of it: of a claim, of a request, and of a validator that is to get no tokens.
 const FIRST_REFUSAL = 101, LAST_REFUSAL = FIRST_REFUSAL + REFUSALS.length - 1;
-const CLAIM_FAR = 58, CLAIM_DEAF = 59, LATE = 201, LEFT = 203, ENDED = 211, DEAF = 222;
+export const CLAIM_FAR = 58, LATE = 201;
+const CLAIM_DEAF = 59, LEFT = 203, ENDED = 211, DEAF = 222;
 
 /** Whether a status says that there is no answer now. */
 export function isUnavailable(status) {
   return status === CLAIM_FAR || status === CLAIM_DEAF || (status >= LATE && status <= LEFT) || (status >= ENDED && status <= DEAF);
 }
+
+/** The word by which a client hears why there is no answer about its token. */
+export function unjudged(why) {
+  const status = why instanceof OutOfMemory ? NO_MEMORY : why instanceof Jump ? JUMP : OK;
+  return why instanceof Unavailable ? why.reason : unjudgedBy(status);
+}
+
+/** The same, by the status. */
+export const unjudgedBy = (status) => REASONS.find(([first, last]) => first <= status && status <= last)?.[2] ?? NOT_JUDGED;
 
 /** What a status says: what is wrong, where that is, and what to do. */
 export function wordsOf(status, where = "") {
@@ -159,11 +184,11 @@ function clauseOf(status) {
 const reasonOf = (status) => words.get(status).name.replace(/^SVID_/, "").replace(/([A-Z])([A-Z]*)_?/g, (_, first, rest) => first + rest.toLowerCase());
 
 // Those that have an error of their own.
-const NO_MEMORY = 2, CLOSED = 5, GONE = 7, TOO_FAR = 8, JUMP = 9, NOT_ALLOWED = 91;
+const OK = 0, NO_MEMORY = 2, CLOSED = 5, GONE = 7, TOO_FAR = 8, JUMP = 9, NOT_ALLOWED = 91;
 const FAULTS = new Map([[NO_MEMORY, OutOfMemory], [CLOSED, Closed], [GONE, Gone], [TOO_FAR, TooFar], [JUMP, Jump], [NOT_ALLOWED, NotAllowed]]);
 // Those of bundles that can't be read, and of these the ones that are about one of several trust domains.
-const TOO_MUCH = 3, NOT_SUMMARY = 4, BUNDLES_NOT_OBJECT = 31, BUNDLES_DOMAIN = 32, BUNDLES_KEYS = 33, BUNDLES_TWICE = 38;
-const BUNDLE_FAULTS = new Set([TOO_MUCH, BUNDLES_NOT_OBJECT, BUNDLES_DOMAIN, BUNDLES_KEYS]);
+const TOO_MUCH = 3, NOT_SUMMARY = 4, BUNDLES_NOT_OBJECT = 31, BUNDLES_DOMAIN = 32, BUNDLES_KEYS = 33, BUNDLES_UNNAMED = 37, BUNDLES_TWICE = 38;
+const BUNDLE_FAULTS = new Set([TOO_MUCH, BUNDLES_NOT_OBJECT, BUNDLES_DOMAIN, BUNDLES_KEYS, BUNDLES_UNNAMED]);
 const RANKED = new Set([BUNDLES_DOMAIN, BUNDLES_KEYS]);
 // Those of a bundle that can't be joined to others.
 const DOCUMENT_FAULTS = new Set([BUNDLES_NOT_OBJECT, BUNDLES_DOMAIN, BUNDLES_KEYS, BUNDLES_TWICE]);
@@ -177,8 +202,12 @@ export function ofStatus(status, told) {
   return new SvidError(`the library answered ${status}, which include/svid.h explains`);
 }
 
-/** The same, of a call that reads bundles. */
-export function ofBundles(status, told) {
+/**
+ * The same, of a call that reads bundles. `joined` is what a join answers of them alone: to the call, the `keys` of a bundle without a name are a
+ * name.
+ */
+export function ofBundles(status, told, joined) {
+  if (RANKED.has(status) && joined() === BUNDLES_UNNAMED) return ofBundles(BUNDLES_UNNAMED, told);
   if (!BUNDLE_FAULTS.has(status)) return ofStatus(status, told);
   return new BadBundles(wordsOf(status, RANKED.has(status) ? `It is number ${told.offset} of the names in rising order, counted from 0.` : ""));
 }

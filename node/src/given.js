@@ -22,6 +22,12 @@ export function clockOf(given = () => Date.now() / 1000) {
   return () => seconds(given());
 }
 
+/** A hook of the service, if there is one. */
+export function hookOf(name, given) {
+  if (given !== undefined && typeof given !== "function") throw new TypeError(`${name} is a function`);
+  return given;
+}
+
 /** Calls a hook of the service. It keeps no request from its answer, and what it throws, at once or later, ends no process. */
 export function tell(hook, ...given) {
   try {

@@ -1,7 +1,7 @@
 // Middleware for Express, and for servers of node:http: lets in requests with a good token.
 
-import { NotAllowed, Refusal } from "./errors.js";
-import { patternsOf, readPatterns, tell } from "./given.js";
+import { NotAllowed, Refusal, unjudged } from "./errors.js";
+import { hookOf, patternsOf, readPatterns, tell } from "./given.js";
 import { pathsOf } from "./paths.js";
 
 const HEADER = "authorization";
@@ -30,9 +30,7 @@ export function protect(validator, handler, options) {
 // On what terms requests are let in.
 function termsOf(validator, { onError = console.error, onRefusal, allow, caller, openPaths } = {}) {
   if (typeof validator?.check !== "function" || typeof validator?.bearer !== "function") throw new TypeError("a Validator is wanted");
-  for (const [name, it] of Object.entries({ onError, onRefusal, caller })) {
-    if (it !== undefined && typeof it !== "function") throw new TypeError(`${name} is a function`);
-  }
+  for (const [name, it] of Object.entries({ onError, onRefusal, caller })) hookOf(name, it);
   const patterns = readPatterns(patternsOf("allow", allow), (...it) => validator.allows(...it));
   return { validator, onError, onRefusal, caller, patterns, isOpen: pathsOf(openPaths) };
 }
@@ -54,7 +52,7 @@ async function admitted({ validator, onError, onRefusal, caller, patterns, isOpe
     const isNotAllowed = why instanceof NotAllowed;
     if (!isNotAllowed && !(why instanceof Refusal)) {
       tell(onError, why, req);
-      return answer(res, 503, { "Retry-After": "1" }, { reason: "NotJudged", result: "unavailable" });
+      return answer(res, 503, { "Retry-After": "1" }, { reason: unjudged(why), result: "unavailable" });
     }
     if (onRefusal) tell(onRefusal, why, req);
     return refuse(res, why.name, isNotAllowed ? "insufficient_scope" : "invalid_token", isNotAllowed ? 403 : 401);

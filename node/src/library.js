@@ -3,7 +3,7 @@
 // Pointers, lengths and times are BigInts, as they have 64 bits; a status is a number. A handle has an instance of the module for
 // itself, so that one that stops, or that has no memory left, takes no other with it.
 
-import { isUnavailable, learn, ofBundles, ofDocuments, ofStatus, wordsOf, Closed, OutOfMemory, Stopped, Unavailable } from "./errors.js";
+import { isUnavailable, learn, ofBundles, ofDocuments, ofStatus, unjudgedBy, wordsOf, Closed, OutOfMemory, Stopped, Unavailable } from "./errors.js";
 import { Accepted, Use } from "./records.js";
 
 /** What a call answers that did what it is for, and a member that has no bundle. */
@@ -165,7 +165,7 @@ export class Library {
       this.#setWords(at, [terms.longest, terms.ahead, terms.step]);
       this.#set(at + 24n, terms.validatorId);
       const status = this.#call("svid_validator_open_by_lengths", this.#handle, at, ...this.#audiences(own, lend, room), ...lend(bundles));
-      if (status !== OK) throw ofBundles(status, this.#told());
+      if (status !== OK) throw this.#unread(status, bundles);
     });
   }
 
@@ -174,7 +174,7 @@ export class Library {
     const bundles = this.#joined(given);
     this.#within(({ lend }) => {
       const status = this.#call("svid_validator_bundles", this.#handle, ...lend(bundles));
-      if (status !== OK) throw ofBundles(status, this.#told());
+      if (status !== OK) throw this.#unread(status, bundles);
     });
   }
 
@@ -184,7 +184,7 @@ export class Library {
     const bundles = this.#joined(given);
     this.#within(({ lend }) => {
       const status = this.#call("svid_bundles_open", this.#handle, ...lend(bundles));
-      if (status !== OK) throw ofBundles(status, this.#told());
+      if (status !== OK) throw this.#unread(status, bundles);
     });
   }
 
@@ -192,6 +192,15 @@ export class Library {
   readBundle(domain, text) {
     this.openBundles([[domain, text]]);
     this.#run("svid_bundles_close", this.#handle);
+  }
+
+  // The error of a call that has read these bundles.
+  #unread(status, bundles) {
+    return ofBundles(status, this.#told(), () => this.#within(({ room, lend }) => {
+      const document = room(DOCUMENT);
+      this.#setWords(document, [0n, BigInt(bundles.length), 0n]);
+      return this.#written("svid_bundles_join", ...lend(bundles), document, 1n).status;
+    }));
   }
 
   // The one text of bundles. Those of several trust domains, each a name and a text, are joined to it. Throws BadBundles.
@@ -779,9 +788,9 @@ export class Library {
     return bytes;
   }
 
-  /** The error for a status that is not OK. `cause` is what the store threw last. */
-  fault(status, cause) {
-    return isUnavailable(status) ? new Unavailable(wordsOf(status), cause) : ofStatus(status, this.#told());
+  /** The error for a status that is not OK. `cause` is what the store threw last, and a client hears the word of `toldAs`. */
+  fault(status, cause, toldAs = status) {
+    return isUnavailable(status) ? new Unavailable(wordsOf(status), cause, unjudgedBy(toldAs)) : ofStatus(status, this.#told());
   }
 
   // What a call told beside its status.

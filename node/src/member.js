@@ -4,9 +4,11 @@
 // and what the library says is to be done.
 
 import { Claims, up } from "./claims.js";
-import { Closed, Gone, Jump, NotAllowed, Refusal, SvidError, Unavailable, isUnavailable, wordsOf } from "./errors.js";
+import { CLAIM_FAR, LATE, Closed, Gone, Jump, NotAllowed, Refusal, SvidError, Unavailable, isUnavailable, wordsOf } from "./errors.js";
+import { tell } from "./given.js";
 import { Hearing } from "./hearing.js";
 import { ANSWER, ANY, APPEND, AT_DISK, AT_LOG, AT_STORE, CLAIM, JUDGE, NONE, NOTHING, NO_BUNDLE, OK } from "./library.js";
+import { Twice } from "./twice.js";
 
 const NO_SIGNATURE = "BadSignature", NO_DOMAIN = "UnknownDomain";
 const NOBODY = new Uint8Array(32);
@@ -27,6 +29,7 @@ export class Member {
   #life;
   #wait;
   #isBound;
+  #lateAs; // the status whose word a client hears where its time is over
   #own;
   #clock;
   #sources;
@@ -35,13 +38,18 @@ export class Member {
   #retry; // keeps the last use once more that the disk did not take
   #claims;
   #hearing;
+  #twice; // in mode once
+  #onTwice;
   #editions = 0; // how often the bundles were replaced
   #open = new Map(); // the requests that have no answer yet, by their numbers
   #withdrawals = new Map(); // those that are on their way to the store
   #timer;
 
-  /** `terms` has `mode`, `wait` (in seconds), `callers`, `store`, `own`, `longest`, `ahead`, `life`, `clock`, and a `journal` and `sources` of bundles, or none. */
-  constructor(library, verifier, { mode, wait, callers, store, own, longest, ahead, life, clock, sources, journal }) {
+  /**
+   * `terms` has `mode`, `wait` (in seconds), `callers`, `store`, `own`, `longest`, `ahead`, `life`, `clock`,
+   * `validatorId`, `onTwice`, and a `journal` and `sources` of bundles, if there are any.
+   */
+  constructor(library, verifier, { mode, wait, callers, store, own, longest, ahead, life, clock, sources, validatorId, onTwice, journal }) {
     this.#library = library;
     this.#verifier = verifier;
     this.#callers = callers;
@@ -49,7 +57,10 @@ export class Member {
     this.#life = life;
     this.#wait = wait;
     this.#isBound = mode === "bound";
+    this.#lateAs = this.#isBound || mode === "strict" ? CLAIM_FAR : LATE;
     this.#own = own;
+    if (mode === "once") this.#twice = new Twice(library, validatorId);
+    this.#onTwice = onTwice;
     this.#clock = clock;
     this.#sources = sources;
     this.#isBundled = sources === undefined;
@@ -121,6 +132,12 @@ export class Member {
     const { mayLack, cause } = await ended;
     if (mayLack) throw new Unavailable(MAY_LACK_IT, cause);
     return use;
+  }
+
+  /** Takes messages of other validators, and tells of the tokens that they accepted too. */
+  take(now, messages) {
+    if (!this.#twice) return this.#library.take(now, messages);
+    for (const key of this.#twice.take(now, messages)) tell(this.#onTwice, key);
   }
 
   /** Replaces the bundles. Throws BadBundles, and then the old ones stay. */
@@ -209,7 +226,7 @@ export class Member {
     try {
       return this.#library.come(up());
     } catch (why) {
-      throw why instanceof Unavailable ? new Unavailable(why.message, this.#cause) : why;
+      throw why instanceof Unavailable ? new Unavailable(why.message, this.#cause, why.reason) : why;
     }
   }
 
@@ -275,8 +292,12 @@ export class Member {
   #answer(request, { number, status, use }) {
     // (a disk that hangs takes nothing, until it says otherwise)
     if (request.isWriting) this.#hand(this.#library.wrote(up(), number, false));
-    if (status === OK) return request.resolve(this.#library.acceptedOf(request.token.bytes, this.#own, request.subject, use));
-    request.reject(this.#refusal(this.#library.fault(status, request.why ?? this.#cause), request));
+    if (status === OK) {
+      this.#twice?.add(use);
+      return request.resolve(this.#library.acceptedOf(request.token.bytes, this.#own, request.subject, use));
+    }
+    const toldAs = status === LATE ? this.#lateAs : status;
+    request.reject(this.#refusal(this.#library.fault(status, request.why ?? this.#cause, toldAs), request));
   }
 
   // What a refusal is to say: where no key could be asked, or where no bundle has come yet, it is not the token's fault.

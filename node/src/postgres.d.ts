@@ -11,7 +11,7 @@ export interface PostgresStoreOptions {
   group?: string;
   /** The `longest` of the validators. By default 3,600. */
   longest?: Seconds;
-  /** The `ahead` of the validators. By default 10. */
+  /** The `ahead` of the validators. By default 30. */
   ahead?: Seconds;
   /** How many servers must have a claim before it counts. By default 1. */
   replicas?: number;

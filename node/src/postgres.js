@@ -23,7 +23,7 @@ export class PostgresStore {
   #withdrawn = new Map();
 
   /** Connects in the background. */
-  static async open({ servers, group = "svid", longest = 3600, ahead = 10, replicas = 1, wait = 2, onWarning } = {}) {
+  static async open({ servers, group = "svid", longest = 3600, ahead = 30, replicas = 1, wait = 2, onWarning } = {}) {
     if (!(wait > 0 && wait < 2 ** 21)) throw new RangeError("wait is a number of seconds above 0");
     const library = await Library.start(), back = BigInt(said.STEP_BACK / 1000), least = BigInt(said.LEAST_MARGIN / 1000);
     const lasts = library.claimUntil(limit("longest", longest), 2n * limit("ahead", ahead));

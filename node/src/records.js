@@ -1,6 +1,7 @@
 // What callers get of a token that was accepted or withdrawn, and how `JSON.stringify` writes it.
 
-const hexOf = (bytes) => Array.from(bytes, (it) => it.toString(16).padStart(2, "0")).join("");
+/** The hexadecimal digits of bytes. */
+export const hexOf = (bytes) => Array.from(bytes, (it) => it.toString(16).padStart(2, "0")).join("");
 // A number of 64 bits: as a text where JavaScript's numbers do not have it.
 const numberOf = (it) => (it <= Number.MAX_SAFE_INTEGER ? Number(it) : String(it));
 const written = (it) => (typeof it === "bigint" ? numberOf(it) : it instanceof Uint8Array ? hexOf(it) : it);

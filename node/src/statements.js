@@ -63,7 +63,7 @@ export const FAULTS = {
   standby: "the server is a standby",
   rights: "this user may not use the store of the group: an administrator gives it the rights that svidd schema --role prints",
   held: "somebody else claims the token at the moment, and has not committed that",
-  run: "the server was started again, and members look whether it lacks claims",
+  run: "the server was restarted, and members check whether it lacks claims",
   back: "the store's clock went back",
   unlooked: "nobody has looked at the store for a while, or its clock went ahead",
   gone: "the entry was just removed",

@@ -2,11 +2,12 @@
 
 import { Refusal } from "./errors.js";
 import {
-  aboutCheck, audiences, bundlesOf, bytesOf, callerOf, clockOf, expiryOf, keyOf, limit, longestOf, modeOf, nameOf, patternsOf, random, readPatterns, seconds, tokenOf,
+  aboutCheck, audiences, bundlesOf, bytesOf, callerOf, clockOf, expiryOf, hookOf, keyOf, limit, longestOf, modeOf, nameOf, patternsOf, random, readPatterns, seconds, tokenOf,
   validatorId, waitOf,
 } from "./given.js";
 import { BATCH, LEAST_RSA_BITS, Library, MOST_RSA_BITS, USUAL_RSA_BITS, joined } from "./library.js";
 import { Member } from "./member.js";
+import { hexOf } from "./records.js";
 import { Verifier } from "./signatures.js";
 
 const NO_SIGNATURE = "BadSignature";
@@ -29,6 +30,13 @@ function verifierOf(options) {
 /** The sources of bundles that a caller names. (Their module is for Node alone.) */
 async function sourcesOf(follow) {
   return (await import("./follow.js")).Sources.open({ ...follow });
+}
+
+/** Tells an operator of a token that several validators accepted. */
+function warnOfTwice(key) {
+  const said = `several validators accepted the token ${hexOf(key)}: it may be stolen, or its client sent it twice`;
+  if (globalThis.process?.emitWarning) globalThis.process.emitWarning(said, { code: "SVID_TWICE" });
+  else console.warn(said);
 }
 
 /** What a state folder keeps of a validator, and its store. (Their modules are for Node alone.) */
@@ -74,8 +82,9 @@ export class Validator {
     const own = audiences(options.audiences), { mode, state, ...given } = modeOf(options), wait = waitOf(options.wait), clock = clockOf(options.now);
     if (options.follow !== undefined && options.bundles !== undefined) throw new TypeError("give bundles, or follow sources of them");
     const bundles = options.follow === undefined ? bundlesOf(options.bundles) : [];
-    const longest = longestOf(options.longest), ahead = limit("ahead", options.ahead ?? 10), step = limit("step", options.step);
+    const longest = longestOf(options.longest), ahead = limit("ahead", options.ahead ?? 30), step = limit("step", options.step);
     const callers = patternsOf("callers", options.callers), verifier = verifierOf(options);
+    const onTwice = hookOf("onTwice", options.onTwice) ?? warnOfTwice;
     const following = options.follow && sourcesOf(options.follow);
     // (all options are read by here: whoever gave them may change them while this waits)
     const terms = { longest, ahead, step, validatorId: await validatorId(options.validatorId) }, life = await random(), sources = await following;
@@ -85,7 +94,7 @@ export class Validator {
       readPatterns(callers, (...it) => library.allows(...it));
       if (callers && own.some((it) => it.includes("\n"))) throw new RangeError("with callers, no audience has a line feed");
       library.openValidator(terms, own, bundles);
-      const given = { mode, wait, callers, store, own, longest, ahead, life, clock, sources, journal };
+      const given = { mode, wait, callers, store, own, longest, ahead, life, clock, sources, validatorId: terms.validatorId, onTwice, journal };
       return { library, mode, clock, follows: sources !== undefined, kept, member: new Member(library, verifier(library), given) };
     }).catch(async (why) => {
       await letGo(kept);
@@ -177,7 +186,7 @@ export class Validator {
 
   /** Takes messages of other validators, or a record that was saved. */
   take(messages, now) {
-    this.#library.take(this.#time(now), bytesOf("messages", messages));
+    this.#member.take(this.#time(now), bytesOf("messages", messages));
   }
 
   /** The record as messages, in pieces. */

@@ -54,7 +54,8 @@ async function answers(listener, requests, { path = "/", method = "GET", seen = 
 
 // The status of an answer, and its challenge or its body.
 const shortly = (res, text) => [res.statusCode, res.headers["www-authenticate"] ?? text];
-const UNAVAILABLE = [503, '{"reason":"NotJudged","result":"unavailable"}\n'];
+const unavailable = (reason) => [503, `{"reason":"${reason}","result":"unavailable"}\n`];
+const UNAVAILABLE = unavailable("NotJudged");
 
 for (const [name, listener] of Object.entries(SERVERS)) {
   test(`${name}: what is not let in is answered as svidd does`, async () => {
@@ -160,9 +161,9 @@ for (const [name, listener] of Object.entries(SERVERS)) {
     const told = [], onError = (why) => told.push([why.name, why.cause?.message]);
     const closed = await Validator.open({ ...terms, callers: "spiffe://example.org/other" }), good = token(one);
     assert.deepEqual(await answers(listener(closed, { onError }), [[`Bearer ${good}`]]), [[403, 'Bearer error="insufficient_scope", error_description="NotAllowed"']]);
-    const store = new MemoryStore(), validator = await Validator.open({ ...terms, mode: "strict", store, wait: 0.2 });
+    const store = new MemoryStore(), validator = await Validator.open({ ...terms, mode: "strict", store, wait: 2 });
     store.put = () => Promise.reject(new Error("the store is away"));
-    assert.deepEqual(await answers(listener(validator, { onError }), [[`Bearer ${good}`]]), [UNAVAILABLE]);
+    assert.deepEqual(await answers(listener(validator, { onError }), [[`Bearer ${good}`]]), [unavailable("NotClaimed")]);
     assert.deepEqual(told, [["Unavailable", "the store is away"]]);
     for (const it of [closed, validator]) it.close();
   });

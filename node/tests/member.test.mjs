@@ -96,7 +96,7 @@ test("validators of one store accept each token once", async () => {
 });
 
 test("over a store that fails now and then, and is slow, no token is accepted twice", async () => {
-  const store = new Fickle(), both = [await strict(store, { wait: 0.05 }), await strict(store, { wait: 0.05 })], tokens = times(40, () => token(one));
+  const store = new Fickle(), both = [await strict(store, { wait: 0.2 }), await strict(store, { wait: 0.2 })], tokens = times(40, () => token(one));
   let seed = 7;
   const chance = (most) => (seed = (seed * 48_271) % 2_147_483_647) % most;
   store.before = store.after = async () => {
@@ -177,11 +177,11 @@ test("a check that is late leaves its claim to this life", async () => {
 test("claims are put again and again to a store that does not answer, and its error is told", async () => {
   const store = new Fickle(), validator = await strict(store, { wait: 0.3 }), text = token(one);
   store.before = away;
-  for (let n = 0; n < 2; n++) {
+  await until(async () => {
     const why = await validator.check(text).catch((it) => it);
-    assert.deepEqual([why.name, why.cause.message], ["Unavailable", "the store is away"]);
-  }
-  assert.ok(store.puts.length > 2);
+    assert.equal(why.name, "Unavailable");
+    return why.cause?.message === "the store is away" && store.puts.length > 2; // (a check that is late before it was put has no cause)
+  });
   store.before = () => {};
   assert.equal(await inTime(validator, text), "accepted");
   validator.close();
@@ -307,9 +307,13 @@ test("a call that hangs does not hold up the others", async () => {
 });
 
 test("a claim whose check is late is not put any more", async () => {
-  const store = new Fickle(), validator = await strict(store, { wait: 0.2 }), late = token(one), hold = gate();
+  const store = new Fickle(), validator = await strict(store, { wait: 0.2 }), hold = gate();
   store.before = () => (store.puts.length === 1 ? hold.passed.then(away) : undefined);
-  assert.equal(await said(validator.check(late)), "Unavailable");
+  let late;
+  await until(async () => {
+    assert.equal(await said(validator.check((late = token(one)))), "Unavailable");
+    return store.puts.length > 0; // (a busy machine may be late with the claim itself)
+  });
   hold.open();
   // (what has no answer is put again within 250 ms)
   const begun = performance.now();
@@ -390,9 +394,12 @@ test("a withdrawal reaches the other validators by the store", async () => {
 test("a withdrawal that the store may not have says so", async () => {
   const store = new Fickle(), before = timers(), validator = await strict(store, { wait: 0.2 }), text = token(one);
   store.before = away;
-  const why = await validator.withdraw(text).catch((it) => it);
-  assert.deepEqual([why.name, why.cause.message], ["Unavailable", "the store is away"]);
-  assert.match(why.message, /withdraw it again/);
+  await until(async () => {
+    const why = await validator.withdraw(text).catch((it) => it);
+    assert.equal(why.name, "Unavailable");
+    assert.match(why.message, /withdraw it again/);
+    return why.cause?.message === "the store is away"; // (one that is late before the store was asked has no cause)
+  });
   store.before = () => Promise.reject(); // (a store may throw anything)
   await assert.rejects(validator.withdraw(text), { name: "Unavailable", message: /withdraw it again/ });
   const hold = held(store);
@@ -450,14 +457,14 @@ test("a check has two seconds, unless an option says more", async () => {
   const validator = await Validator.open({ ...terms, wait: undefined, verify: () => gate().passed }), begun = performance.now();
   assert.equal(await said(validator.check(token(one))), "Unavailable");
   const took = performance.now() - begun;
-  assert.ok(took > 1900 && took < 60_000, String(took));
+  assert.ok(took > 1900 && took < PATIENCE * 1000, String(took));
   validator.close();
 });
 
 test("an answer of a verifier that comes too late is worth nothing for another token", async () => {
   // (a token that comes later has the handle of the one that is late)
   const slow = gate(), late = token(one), verify = (_alg, _key, signed) => (late.startsWith(Buffer.from(signed).toString()) ? slow.passed : false);
-  const validator = await Validator.open({ ...terms, verify, wait: 0.2 });
+  const validator = await Validator.open({ ...terms, verify, wait: 2 });
   assert.equal(await said(validator.check(late)), "Unavailable");
   const next = said(validator.check(token(issuer())));
   validator.renew(one.bundles);
@@ -477,12 +484,12 @@ test("those that wait are late one by one", async () => {
 });
 
 test("who waits behind a late claim goes on", async () => {
-  const store = new Fickle(), validator = await strict(store, { wait: 0.4 }), text = token(one), hold = gate();
+  const store = new Fickle(), validator = await strict(store, { wait: 3 }), text = token(one), hold = gate();
   store.before = () => (store.puts.length === 1 ? hold.passed : undefined);
   const first = said(validator.check(text));
   await until(() => store.puts.length);
   const came = performance.now();
-  await until(() => performance.now() > came + 200);
+  await until(() => performance.now() > came + 1500);
   // (its turn comes as the first one is late, and it is not late itself; its claim is that of the same life)
   const second = validator.check(text);
   assert.deepEqual([await first, await said(second)], ["Unavailable", "accepted"]);
@@ -607,7 +614,7 @@ test("a check has its answer though its validator was dropped", async () => {
     const check = async () => (await Validator.open({ ...terms, mode: "strict", wait: 0.3, store })).check(token);
     let answer;
     check().catch((why) => (answer = why.name));
-    await collectUntil(() => puts);
+    await collectUntil(() => puts || answer);
     for (let n = 0; n < 5; n++) gc();
     // (nothing else keeps the process from here on)
     process.on("exit", () => console.log(answer));`);
@@ -651,7 +658,7 @@ test("opening does not wait for a store longer than a check does", async () => {
 
 test("a store that goes away, and comes back", async () => {
   const store = new Fickle(), validator = await strict(store, { wait: 0.1 });
-  assert.equal(validator.ready, true);
+  await until(() => validator.ready);
   store.before = away;
   // (on a busy machine the time of a check may be over before its claim goes out)
   await until(async () => {
@@ -709,7 +716,7 @@ test("withdrawals that fail, or are none, are read again, and tell that the stor
   store.withdrawals = away;
   const validator = await bound(store, { wait: 0.1 });
   assert.equal(validator.ready, false);
-  assert.equal((await validator.check(text, { caller: "10.0.0.7" }).catch((it) => it)).cause.message, "the store is away");
+  await until(async () => (await validator.check(text, { caller: "10.0.0.7" }).catch((it) => it)).cause?.message === "the store is away");
   store.withdrawals = async (after) => (wrong.length ? wrong.shift() : read(after));
   await until(() => validator.ready);
   assert.equal(wrong.length, 0);

@@ -36,7 +36,7 @@ after(async () => {
 
 let groups = 0;
 const OWNER = new Uint8Array(32).fill(111), WITHDRAWN = new Uint8Array(32);
-const claim = (n, owner = OWNER) => ({ key: new Uint8Array(32).fill(n), owner, expires: BigInt(now() + 300) });
+const claim = (n, owner = OWNER) => ({ key: new Uint8Array(32).fill(n), owner, expires: BigInt(now() + 3000) });
 
 /** A group of its own, whose store is there. */
 async function group() {
@@ -81,7 +81,7 @@ const TESTS = {
 };
 async function runs(tests) {
   const env = { ...OPEN, SVID_STORE_CLIENT: `${process.execPath} ${TOP}/node/tests/store-client.mjs` };
-  const words = ["-test.v", "-test.timeout", "20m", "-test.run", `^(${tests})$`];
+  const words = ["-test.v", "-test.timeout", "50m", "-test.run", `^(${tests})$`];
   const ran = await run(binary, words, { cwd: `${go}/claims/postgres`, env, ...LOUD }).catch((why) => why);
   assert.equal(ran.code, undefined, `${ran.stdout?.match(/^--- FAIL.*/gm)} ${ran.stdout?.slice(-5000)} ${ran.stderr?.slice(-2000)}`);
   assert.equal(ran.stdout.match(/^--- PASS: /gm).length, tests.split("|").length);
@@ -131,7 +131,7 @@ test("a withdrawal wins over a claim", async () => {
 
 test("a call ends though the server does not answer", async () => {
   const name = await group();
-  await withStores([{ group: name, wait: 0.5 }], async (store) => {
+  await withStores([{ group: name, wait: 1.5 }], async (store) => {
     assert(await isOf(store, 1, OWNER));
     await tell("pause");
     try {
@@ -139,7 +139,7 @@ test("a call ends though the server does not answer", async () => {
       for (const call of calls) {
         const begun = performance.now();
         await assert.rejects(call, StoreFault);
-        assert(performance.now() - begun < 5000); // (a busy machine)
+        assert(performance.now() - begun < (PATIENCE * 1000) / 3); // (a busy machine)
       }
     } finally {
       await tell("resume");

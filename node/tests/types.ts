@@ -58,7 +58,7 @@ const store: Store = {
   withdraw: async (key, expires) => console.log(key.length, expires > 0n),
   withdrawals: async (after) => ({ these: [{ key: new Uint8Array(32), expires: 5 }], last: after }),
 };
-const strict = await Validator.open({ audiences: "ledger", bundles: "{}", mode: "strict", store, wait: 0.5, callers: ["spiffe://example.org"] });
+const strict = await Validator.open({ audiences: "ledger", bundles: "{}", mode: "strict", store, wait: 0.5, callers: ["spiffe://example.org"], onTwice: (key) => console.error(key.length) });
 const reason: string | null = strict.ready ? null : strict.unready(5);
 const bound = await Validator.open({ audiences: "ledger", bundles: "{}", mode: "bound", store: new MemoryStore({ margin: 5n, now: () => 5 }) });
 await bound.check("a.b.c", { caller: "10.0.0.7", now: 5n });

@@ -87,7 +87,6 @@ test("a refusal has a name and a sentence, and nothing of the token", async () =
   assert.ok(why instanceof Refusal && why instanceof SvidError && why instanceof Error);
   assert.equal(String(why), "Replayed: The token was accepted before, here or by a validator whose messages were taken.");
   assert.ok(!JSON.stringify({ ...why }).includes(text.slice(0, 10)));
-  assert.equal(REFUSALS.length, 25);
   assert.equal(REFUSALS.at(-1), "Replayed");
   validator.close();
 });
@@ -243,6 +242,37 @@ test("validators that hear of a use refuse the token", async () => {
   assert.throws(() => late.take("text"), TypeError);
   assert.throws(() => late.answer(use.message), { name: "BadMessages", reason: "NotSummary" });
   for (const it of [validator, other, late]) it.close();
+});
+
+test("of a token that another one accepted too, a validator says so once", async () => {
+  const keys = [], onTwice = (key) => {
+    keys.push(hex(key));
+    throw new Error("no logger");
+  };
+  const first = await Validator.open({ ...terms, onTwice }), two = await Validator.open(terms), time = now(), three = await Validator.open({ ...terms, onTwice });
+  const tokens = Array.from({ length: 40 }, () => token(one)), uses = [];
+  for (const it of tokens) uses.push((await two.check(it, time)).use);
+  const early = await first.check(tokens[20], time);
+  first.take(new Uint8Array(uses.slice(0, 20).flatMap(({ message }) => [...message])), time);
+  assert.deepEqual(keys, []);
+  // (of what was accepted before the first messages, and after them)
+  for (const [n, { use }] of [[20, early], [30, await first.check(tokens[30], time)]]) {
+    for (let again = 0; again < 2; again++) {
+      first.take(uses[n].message, time);
+      assert.deepEqual(keys.splice(0), again ? [] : [hex(use.key)]);
+    }
+  }
+  const { use } = await first.check(tokens[31], time);
+  first.take(use.message, time);
+  first.take((await three.withdrawKey(use.key, time + 60, time)).message, time);
+  assert.deepEqual(keys, []);
+  assert.throws(() => first.take(new Uint8Array(5)), { name: "BadMessages" });
+  await assert.rejects(Validator.open({ ...terms, onTwice: 7 }), { name: "TypeError", message: "onTwice is a function" });
+  const warned = new Promise((resolve) => process.once("warning", resolve));
+  two.take((await three.check(tokens[35], time)).use.message, time);
+  const { code, message } = await warned;
+  assert.deepEqual([code, message.includes(hex(uses[35].key))], ["SVID_TWICE", true]);
+  for (const it of [first, two, three]) it.close();
 });
 
 test("a record is saved and put back, in one piece or in many", async () => {

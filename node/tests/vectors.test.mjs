@@ -121,7 +121,7 @@ test("calls of a validator", async () => {
 
 test("bundles", async () => {
   const file = vectorsOf("bundles");
-  const faults = ["NotObject", "Domain", "Keys", "BadBundles"];
+  const faults = ["NotObject", "Domain", "Keys", "Unnamed", "BadBundles"];
   let read = 0;
   for (const vector of file.vectors) {
     if (vector.form === "workload") continue; // (this package takes no bundles of that form)

@@ -13,7 +13,7 @@ const EMPTY = Uint8Array.from([...Buffer.from("JSR\x02\x01"), ...Array(12).fill(
 test("calls that do nothing", async () => {
   const time = now(), validator = await open({ step: 100 }), late = await open({ ahead: undefined });
   validator.tick(time);
-  late.tick(time + 11);
+  late.tick(time + 31);
   assert.throws(() => validator.tick(time + 101), { name: "Jump", message: sentences("JUMP") });
   await assert.rejects(validator.withdrawKey(new Uint8Array(32), time, time), { name: "Gone", message: sentences("GONE") });
   assert.throws(() => validator.take(late.record(), time), { name: "TooFar", message: sentences("TOO_FAR") });
@@ -26,9 +26,15 @@ test("calls that do nothing", async () => {
 
 test("bundles that can't be read", async () => {
   const rank = (number) => `It is number ${number} of the names in rising order, counted from 0.`;
+  const opened = await open();
   const rows = [["[]", "NOT_OBJECT", ""], ['{"a":{"keys":[]},"B":{}}', "DOMAIN", rank(0)], ['{"a":{"keys":[]},"b":{}}', "KEYS", rank(1)]];
   for (const [bundles, name, where] of rows) {
     await assert.rejects(open({ bundles }), { name: "BadBundles", message: sentences(`BUNDLES_${name}`, where) });
+  }
+  for (const bundles of ['{"keys":[],"spiffe_sequence":1}', '{"A":1,"keys":null}']) {
+    const unnamed = { name: "BadBundles", message: sentences("BUNDLES_UNNAMED") };
+    await assert.rejects(open({ bundles }), unnamed);
+    assert.throws(() => opened.renew(bundles), unnamed);
   }
   const none = '{"keys":[]}', given = [["a", "[]", "NOT_OBJECT"], ["B", none, "DOMAIN"], ["a", "{}", "KEYS"], ["spiffe://b", none, "TWICE"]];
   for (const [domain, text, name] of given) {

@@ -1,4 +1,4 @@
-// Draws what is said of a token: its colours and marks, its claims, the 25 refusals and the keys.
+// Draws what is said of a token: its colours and marks, its claims, the refusals and the keys.
 
 import { stringAt } from "./json.js";
 import { byId, fill, make } from "./dom.js";
@@ -88,7 +88,7 @@ function memberRow(it, object, part, meanings, marks, now) {
 
 const STATES = { passed: "passed", holds: "refused", later: "not reached", unasked: "not looked at" };
 
-/** Makes the table of the 25 refusals, before anything is judged. */
+/** Makes the table of the refusals, before anything is judged. */
 export function makeChecks() {
   for (const { name } of REFUSALS) {
     if (GROUPS[name]) byId("checks").append(make("tbody", {}, make("tr", { class: "group" }, make("th", { colspan: 3, scope: "rowgroup" }, GROUPS[name]))));

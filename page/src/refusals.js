@@ -1,4 +1,4 @@
-// The 25 refusals in the order in which the library looks for them: what each asks, and, where one holds, why and where in the token.
+// The refusals in the order in which the library looks for them: what each asks, and, where one holds, why and where in the token.
 // Which one holds says the library alone.
 
 import { member, stringAt } from "./json.js";

@@ -6,6 +6,7 @@ import { once } from "node:events";
 import { readFileSync } from "node:fs";
 import { test } from "node:test";
 import { Library } from "../src/library.js";
+import { REFUSALS } from "../src/refusals.js";
 import { base64url, batch, mutated as mutatedBy, random } from "./tokens.mjs";
 
 const CALLS = 100_000, ROUND = 500, SESSION_CALLS = 8;
@@ -173,7 +174,7 @@ test("the module answers as the library for Linux does", async (t) => {
   }
   t.diagnostic(`page: ${made} calls; statuses: ${[...reached].sort().map((it) => it.join(" × ")).join(", ")}`);
   const verdicts = [...reached.keys()].filter((it) => it.startsWith("check ")).length;
-  assert.equal(verdicts, 26, "a refusal did not come up"); // (the 25, and the acceptance)
+  assert.equal(verdicts, REFUSALS.length + 1, "a refusal did not come up"); // (these, and the acceptance)
   assert.ok(reached.size > 60, `${reached.size} statuses are too few for this to mean much`);
 });
 

@@ -60,7 +60,7 @@ export class Firefox {
       }
     });
     await this.send("WebDriver:NewSession", {});
-    await this.send("WebDriver:SetTimeouts", { script: 120_000 });
+    await this.send("WebDriver:SetTimeouts", { script: 600_000 });
   }
 
   // The port that it listens at, once it does.

@@ -5,6 +5,7 @@ import { mkdtemp, readFile, rm, writeFile } from "node:fs/promises";
 import { tmpdir } from "node:os";
 import { join } from "node:path";
 import { after, before, test } from "node:test";
+import { REFUSALS } from "../src/refusals.js";
 import { Browser } from "./browser.mjs";
 import { batch, random } from "./tokens.mjs";
 import { vectorsOf } from "./vectors.mjs";
@@ -49,7 +50,7 @@ async function fileOf(name, content) {
 test("it opens with nothing in it, and says what to do", async () => {
   assert.equal(await page.text("verdict-said"), "Paste a token");
   assert.match(await page.text("about"), /^svid \d+\.\d+\.\d+; the module has [\d,]+ bytes and asks its host for nothing\.$/);
-  assert.equal(await page.run(() => document.querySelectorAll("#checks [data-state=later]").length), 25);
+  assert.equal(await page.run(() => document.querySelectorAll("#checks [data-state=later]").length), REFUSALS.length);
 });
 
 test("its policy lets it fetch nothing", async () => {
@@ -230,7 +231,7 @@ test("a check says in words whether the token passed it, at every width", async 
     await page.write({ own: "", time: String(NOW) });
     assert.deepEqual(await seen("NotAudience"), ["not looked at", "aud names this service", "else NotAudience"], `at ${width}`);
     const apart = await page.run(() => [...document.querySelectorAll("#checks [data-state]")].map(({ cells: [state, says] }) => says.getClientRects()[0].left - state.firstElementChild.getBoundingClientRect().right));
-    assert.ok(apart.length === 25 && Math.min(...apart) >= 8, `at ${width} a word is ${Math.min(...apart)} pixels from what follows it`);
+    assert.ok(apart.length === REFUSALS.length && Math.min(...apart) >= 8, `at ${width} a word is ${Math.min(...apart)} pixels from what follows it`);
     const wide = await page.run(() => document.documentElement.scrollWidth - innerWidth);
     assert.ok(wide <= 0, `at ${width} the page is ${wide} pixels too wide`);
     await page.click("live");

@@ -82,7 +82,7 @@ export function testVerdicts(start) {
   });
   after(() => browser?.close());
 
-  test("every refusal has a token here", () => assert.deepEqual([Object.keys(REFUSED), ORDER.length], [ORDER, 25]));
+  test("every refusal has a token here", () => assert.deepEqual(Object.keys(REFUSED), ORDER));
 
   for (const [name, { token, fields = {}, press, marked, member, why }] of Object.entries(REFUSED)) {
     test(`a token is refused as ${name}`, async () => {

@@ -13,7 +13,7 @@
 `Validator` is the whole of it for one process, and `Validator(state=..)` keeps its record over
 restarts. Several processes share a store (`Validator(mode="strict", store=..)`), tell each other by
 messages, or have the sidecar svidd in front of them.
-`Refused` has a subclass for each of the 25 reasons to refuse a token. `svid.asgi` and `svid.wsgi`
+`Refused` has a subclass for each reason to refuse a token. `svid.asgi` and `svid.wsgi`
 are middlewares for web services, and `svid.testing` is for your tests.
 """
 

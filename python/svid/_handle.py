@@ -11,10 +11,10 @@ from collections.abc import Callable, Iterator
 from typing import Any
 
 from . import _library as lib
-from ._bundles import bundle_words
+from ._bundles import bundle_words, is_unnamed
 from ._signatures import Verifies
 from ._token import Token
-from ._words import no_memory, reason, said
+from ._words import REASONS, no_memory, reason, said
 from .errors import (
     REFUSALS,
     BadBundles,
@@ -85,7 +85,7 @@ class Handle:
         opens = lib.library.svid_validator_open_by_lengths
         status = opens(self._at, *lent, bundles, len(bundles), self._told_at)
         if status != lib.OK:
-            raise _bundles_fault(status, self._told)
+            raise _bundles_fault(status, self._told, bundles)
         self._freeing = weakref.finalize(self, _close, self._words)
         self._freeing.atexit = False  # a thread that outlives the interpreter may be in a call
         _handles.add(self)
@@ -119,7 +119,7 @@ class Handle:
         at = lib.address(words)
         status = lib.library.svid_bundles_open(at, bundles, len(bundles), lib.address(told))
         if status != lib.OK:
-            raise _bundles_fault(status, told)
+            raise _bundles_fault(status, told, bundles)
         try:
             with self._lock:
                 status = lib.library.svid_validator_renew_by(self._at, at, self._told_at)
@@ -286,11 +286,13 @@ def fault(status: int, told: lib.Told | None = None) -> Exception:
     return RuntimeError(f"libsvid answered {status}, which include/svid.h does not explain")
 
 
-def _bundles_fault(status: int, told: lib.Told) -> Exception:
-    """The exception for a status of bundles that is not OK."""
+def _bundles_fault(status: int, told: lib.Told, bundles: bytes) -> Exception:
+    """The exception for a status of these bundles that is not OK."""
     if status == lib.TOO_MUCH:
         return BadBundles(said(status))
     if status in (lib.BUNDLES_NOT_OBJECT, lib.BUNDLES_DOMAIN, lib.BUNDLES_KEYS):
+        # (To what reads bundles, the `keys` of one without a name are a name: a join knows better.)
+        status = lib.BUNDLES_UNNAMED if is_unnamed(bundles) else status
         return BadBundles(bundle_words(status, told.offset))
     return fault(status, told)
 
@@ -303,15 +305,6 @@ _FAULTS: dict[int, Callable[[], Exception]] = {
     lib.JUMP: Jump,
     lib.NOT_ALLOWED: NotAllowed,
 }
-REASONS = {
-    lib.CLAIM_FAR: "NotClaimed",
-    lib.CLAIM_DEAF: "EntriesLost",
-    lib.LATE: "NotJudged",
-    lib.NOT_KEPT: "NotKept",
-    lib.LEFT: "NotJudged",
-    **dict.fromkeys(lib.UNREADY, "NotReady"),
-}
-"""Why there is no answer about a token, by status: the words of docs/SIDECAR-REFERENCE.md."""
 
 
 def _close(words: ctypes.Array[ctypes.c_uint64]) -> None:

@@ -20,11 +20,11 @@ from typing import Any, NamedTuple, TypeVar, Union
 
 from . import _library as lib
 from ._claims import Claims, Due, up
-from ._handle import REASONS, Handle, fault
+from ._handle import Handle, fault
 from ._journal import Journal
 from ._signatures import Verifies
 from ._token import Token
-from ._words import said
+from ._words import REASONS, said
 from .errors import Closed, Error, Gone, Jump, Unavailable
 from .records import Accepted, Use
 from .stores import Claim, Store

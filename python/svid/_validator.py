@@ -20,6 +20,7 @@ from ._allow import allows, patterns
 from ._bundles import Bundles, Path
 from ._follow import Followed
 from ._journal import Journal
+from ._local import LocalStore
 from ._member import Member
 from ._signatures import USUAL_RSA_BITS, Verifier, Verifies
 from ._token import says
@@ -84,7 +85,7 @@ class Validator:
         callers: str | Iterable[str] | None = None,
         store: Store | None = None,
         longest: Seconds = 3600,
-        ahead: int = 10,
+        ahead: int = 30,
         step: int | None = None,
         validator_id: bytes | None = None,
         refresh: float | None = 1.0,
@@ -107,9 +108,10 @@ class Validator:
             by all that share the `store`. "reuse": again and again.
         callers: patterns of the SPIFFE IDs that may call (`svid.allows`). A good token of another
             caller raises NotAllowed, and is not used up. None lets all call.
-        store: the store of the group, for "strict" and "bound". In each mode but "strict" the
-            validator hears the withdrawals of a `svid.TellingStore`, once a second. In "once" and
-            "reuse" that is all that a store is for.
+        store: the store of the group, for "strict" and "bound". None in "bound" with `state` keeps
+            the claims in its folder "claims", for this validator alone. In each mode but "strict"
+            the validator hears the withdrawals of a `svid.TellingStore`, once a second. In "once"
+            and "reuse" that is all that a store is for.
         longest: how many seconds a token may still live; a token that expires later is refused as
             TooLongLived. `svid.UNLIMITED` is no limit. It bounds how long a use stays in the
             record, and for how long a store that has lost entries lets nobody in.
@@ -150,8 +152,9 @@ class Validator:
             raise ValueError(f"wait is a number of seconds, and at least {_LEAST_WAIT}")
         if mode not in lib.MODES:
             raise ValueError(f"mode is one of {', '.join(lib.MODES)}, and not {mode!r}")
-        if store is None and mode in _CLAIMS:
-            raise ValueError(f"give a store in the mode {mode}")
+        if store is None and mode in _CLAIMS and (mode == "strict" or state is None):
+            other = " or a state" if mode == "bound" else ""
+            raise ValueError(f"give a store{other} in the mode {mode}")
         if store is not None and mode not in _CLAIMS and not hasattr(store, "withdrawals"):
             raise ValueError(f"in the mode {mode} a store tells its withdrawals, and this can't")
         self._verifies = verifies or Verifier(rsa_bits)
@@ -173,11 +176,17 @@ class Validator:
         if callers is not None and any(b"\n" in it for it in own):
             raise ValueError("with callers, no audience has a line feed")
         self._journal = None if state is None else Journal(state)
+        self._local: LocalStore | None = None
         if self._journal is not None:
             validator_id = self._journal.validator_id
         elif validator_id is None:
             validator_id = os.urandom(16)
         try:
+            if mode == "bound" and store is None and state is not None:
+                claims = pathlib.Path(os.fsdecode(state)) / "claims"
+                now = functools.partial(self._seconds, None)
+                self._local = LocalStore(claims, terms["longest"], terms["ahead"], now)
+                store = self._local
             self._handle = Member(
                 **terms,
                 validator_id=validator_id,
@@ -195,8 +204,7 @@ class Validator:
             self._follow()
         except BaseException:
             self._followed.drop()
-            if self._journal is not None:
-                self._journal.close()
+            self._end_folders()
             raise
 
     def __enter__(self: Self) -> Self:
@@ -226,9 +234,13 @@ class Validator:
     def close(self) -> None:
         """Frees the record and the bundles, and ends all threads. Closing twice does nothing."""
         self._followed.close()
-        if self._journal is not None:
-            self._journal.close()
+        self._end_folders()
         self._handle.close()
+
+    def _end_folders(self) -> None:
+        for it in self._journal, self._local:
+            if it is not None:
+                it.close()
 
     def check(
         self, token: Token, now: float | None = None, *, caller: bytes | None = None

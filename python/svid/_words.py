@@ -21,6 +21,20 @@ DUE: dict[int, str] = {
 # lists:end
 """What is due where messages are at fault, by status."""
 
+# lists:begin reasons (written by tools/lists from lists/statuses.toml)
+REASONS: dict[int, str] = {
+    2: "NoMemory",
+    9: "ClockJump",
+    58: "NotClaimed",
+    59: "EntriesLost",
+    201: "NotJudged",
+    202: "NotKept",
+    203: "NotJudged",
+    **dict.fromkeys(range(211, 223), "NotReady"),
+}
+# lists:end
+"""Why there is no answer about a token, by status: the words of docs/SIDECAR-REFERENCE.md."""
+
 
 def _written(write: Callable[..., int], status: int) -> tuple[bytes, int]:
     """A text that the library has for a status, and how much of it is no advice."""

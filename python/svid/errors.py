@@ -1,6 +1,6 @@
 """What a validator raises.
 
-`Refused` and its 25 subclasses say why a token is refused. The others say why a call did nothing::
+`Refused` and its subclasses say why a token is refused. The others say why a call did nothing::
 
     Error
     ├── Refused          the token is refused: one subclass for each reason

@@ -39,7 +39,7 @@ _BINARY = pq.Format.BINARY
 _LONGEST_ERROR = 1024
 _NAME = re.compile(r"(?!pg_)[A-Za-z0-9_-]{1,63}")
 _DEFAULT_LONGEST = 3600
-_DEFAULT_AHEAD = 10
+_DEFAULT_AHEAD = 30
 _DEFAULT_WAIT = 2.0
 _Value = Union[bytes, str, int, None]
 

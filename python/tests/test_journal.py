@@ -357,10 +357,14 @@ def test_a_check_waits_for_the_disk(tmp_path, slow):
         for call in checks.check, checks.withdraw:
             with pytest.raises(svid.Unavailable):
                 call(one if call == checks.check else two)
-        with pytest.raises(svid.Replayed):
-            checks.check(one)
-        with pytest.raises(svid.Withdrawn):
-            checks.check(two)
+
+        def is_refused(token, why):  # (a check may be late before it is judged)
+            with pytest.raises((why, svid.Unavailable)) as raised:
+                checks.check(token)
+            return raised.type is why
+
+        until(lambda: is_refused(one, svid.Replayed))
+        until(lambda: is_refused(two, svid.Withdrawn))
         slow.go.set()
 
 

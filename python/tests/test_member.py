@@ -182,7 +182,7 @@ def test_a_store_that_fails_now_and_then():
                 time.sleep(0.03)
 
     tokens = [fresh(jti=str(it)) for it in range(40)]
-    with strict(store, wait=0.05) as one, strict(store, wait=0.05) as other:
+    with strict(store, wait=0.2) as one, strict(store, wait=0.2) as other:
         store.before = store.after = fault
         said = []
 
@@ -702,17 +702,16 @@ def test_a_store_that_is_not_there_yet(caplog):
 def test_an_answer_that_is_not_handed_on():
     """As where there is no memory for that: nobody waits for longer than their time."""
     store = Fickle()
-    with strict(store, wait=1) as checks, holding(store):
-        member = checks._handle
+    with strict(store, wait=3) as checks, holding(store):
+        member, came = checks._handle, []
         calls = [Soon(checks.check, fresh(jti="1")), Soon(checks.withdraw, fresh(jti="2"))]
 
         def have_come():
             with member._lock:
-                have = len(member._open) == len(member._withdrawals) == 1
-                if have:
-                    member._open.clear()
-                    member._withdrawals.clear()
-            return have
+                for them in member._open, member._withdrawals:
+                    came.extend(them)
+                    them.clear()
+            return len(came) == 2
 
         until(have_come)
         assert [it.answer for it in calls] == ["Unavailable"] * 2

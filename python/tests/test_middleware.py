@@ -369,7 +369,7 @@ def test_a_check_that_waits_does_not_hold_up_the_event_loop(tmp_path, monkeypatc
         go.set()  # (this comes behind the request, which would wait for ever on the event loop)
         await request
 
-    with validator(state=tmp_path, wait=10) as checks:
+    with validator(state=tmp_path, wait=PATIENCE) as checks:
         monkeypatch.setattr(os, "fdatasync", fdatasync)
         asyncio.run(main(checks))
     assert seen == [HELLO[6:]]

@@ -103,7 +103,7 @@ def store_of(machine, group, **terms):
 
 
 def claim(n, owner=b"o"):
-    return svid.Claim(bytes([n]) * 32, owner * 32, int(time.time()) + 300)
+    return svid.Claim(bytes([n]) * 32, owner * 32, int(time.time()) + 3000)
 
 
 def put(store, *claims):
@@ -121,7 +121,7 @@ def put(store, *claims):
 def test_store(binary, name):
     """What go/claims/postgres promises of a member over real servers."""
     ran = subprocess.run(
-        [binary, "-test.v", "-test.timeout", "20m", "-test.run", f"^({TESTS[name]})$"],
+        [binary, "-test.v", "-test.timeout", "50m", "-test.run", f"^({TESTS[name]})$"],
         cwd=TOP / "go/claims/postgres",
         env={**OPEN, "SVID_STORE_CLIENT": f"{sys.executable} {CLIENT}"},
         capture_output=True,
@@ -184,7 +184,7 @@ def test_a_sidecar_and_a_service_share_a_group(machine, svidd, tmp_path):
             port = _port(tmp_path / "log")
             until(lambda: _get(port, "/readyz") == 200)
             with PostgresStore(machine.url, group="both") as store:
-                terms = {"mode": "strict", "longest": 3600, "ahead": 10}
+                terms = {"mode": "strict", "longest": 3600, "ahead": 30}
                 with validator(store=store, **terms) as checks:
                     for n in range(20):
                         _race(port, checks, fresh(jti=f"both {n}"), n % 2 == 0)
@@ -255,7 +255,7 @@ def test_withdrawals_are_forgotten_once_they_are_over(machine, group):
 
 def test_a_call_ends_though_the_server_does_not_answer(machine, group):
     """It fails within `wait`, or soon after it. The same claim finds its own entry later."""
-    with store_of(machine, group, wait=0.5) as store:
+    with store_of(machine, group, wait=1.5) as store:
         put(store, claim(1))
         machine.tell("pause")
         try:
@@ -269,7 +269,7 @@ def test_a_call_ends_though_the_server_does_not_answer(machine, group):
                 begun = time.monotonic()
                 with pytest.raises(StoreFault):
                     call()
-                assert time.monotonic() - begun < 5  # (a busy machine)
+                assert time.monotonic() - begun < PATIENCE / 3  # (a busy machine)
         finally:
             machine.tell("resume")
         assert put(store, claim(2))[0].owner == b"o" * 32

@@ -163,9 +163,9 @@ def test_without_limits_a_token_and_a_clock_may_go_far():
         assert verdict(checks, token(exp=last, jti="1"), NOW).startswith("accepted")
 
 
-def test_messages_may_lie_ten_seconds_ahead():
+def test_messages_may_lie_thirty_seconds_ahead():
     with validator() as checks, validator() as other:
-        message = other.check(token(), NOW + 10).use.message
+        message = other.check(token(), NOW + 30).use.message
         with pytest.raises(svid.TooFar):
             checks.take(message, NOW - 1)
         checks.take(message, NOW)

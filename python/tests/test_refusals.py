@@ -1,4 +1,4 @@
-"""Each of the 25 refusals, by a token that has it, and the errors of the other calls."""
+"""Each refusal, by a token that has it, and the errors of the other calls."""
 
 import json
 import pickle
@@ -36,7 +36,7 @@ def checks():
 
 
 def test_every_refusal_has_a_token():
-    assert len(REFUSED) == 25
+    assert len(REFUSED) == len(REFUSALS)
 
 
 @pytest.mark.parametrize("name", REFUSED)

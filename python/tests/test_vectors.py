@@ -39,7 +39,8 @@ def test_calls_of_a_validator(vector):
 
 @each(BUNDLES)
 def test_bundles(vector, tmp_path):
-    fault = vector["answer"].split(" ")[0] in ("NotObject", "Domain", "Keys", "BadBundles")
+    faults = ("NotObject", "Domain", "Keys", "Unnamed", "BadBundles")
+    fault = vector["answer"].split(" ")[0] in faults
     try:
         bundles = bundles_of(vector, tmp_path)
         with svid.Validator(audiences="ledger", bundles=bundles) as checks:

@@ -80,6 +80,8 @@ def test_messages_that_nothing_is_read_of():
         (b"[]", "BUNDLES_NOT_OBJECT", ""),
         (b'{"a":{"keys":[]},"B":{}}', "BUNDLES_DOMAIN", "0"),
         (b'{"a":{"keys":[]},"b":{}}', "BUNDLES_KEYS", "1"),
+        (b'{"keys":[],"spiffe_sequence":1}', "BUNDLES_UNNAMED", ""),
+        (b'{"A":1,"keys":null}', "BUNDLES_UNNAMED", ""),
     ],
 )
 def test_what_is_wrong_with_bundles(bundles, name, rank):

@@ -15,11 +15,15 @@ static const char *const NAMES[] = { "svid_bundles_open", "svid_bundles_ask", "s
 
 /* What a call wrote: its status, and all that it may write. */
 typedef struct { uint32_t status; svid_told told; svid_question question; uint8_t out[8192]; } answer;
+#define MORE question
 
 /* What a call is lent. */
+typedef svid_bundles handle;
+#define CLOSE svid_bundles_close
 enum { TEXT, TOKEN, INPUTS };
 typedef struct { const uint8_t *bytes; size_t len; } input;
-typedef struct { input in[INPUTS]; svid_bundles *b; svid_validator *v; uint8_t *out; size_t room; svid_told *told; svid_question *question; } loan;
+typedef struct { input in[INPUTS]; svid_bundles *h; svid_validator *v; uint8_t *out; size_t room; svid_told *told; svid_question *question; } loan;
+#include "handle.h"
 
 static loan lent(svid_bundles *b, svid_validator *v, answer *a) {
     loan l = { { { bundles, bundles_len }, { token, token_len } }, b, v, a->out, sizeof a->out, &a->told, &a->question };
@@ -29,16 +33,11 @@ static loan lent(svid_bundles *b, svid_validator *v, answer *a) {
 static uint32_t call_with(int which, const loan *l) {
     const input *in = l->in;
     switch (which) {
-    case OPEN: return svid_bundles_open(l->b, in[TEXT].bytes, in[TEXT].len, l->told);
-    case ASK: return svid_bundles_ask(l->b, in[TOKEN].bytes, in[TOKEN].len, SVID_MOST_CANDIDATES, l->out, l->room, l->told);
-    case QUESTION: return svid_bundles_question(l->b, in[TOKEN].bytes, in[TOKEN].len, 0, l->question, l->told);
-    default: return svid_validator_renew_by(l->v, l->b, l->told);
+    case OPEN: return svid_bundles_open(l->h, in[TEXT].bytes, in[TEXT].len, l->told);
+    case ASK: return svid_bundles_ask(l->h, in[TOKEN].bytes, in[TOKEN].len, SVID_MOST_CANDIDATES, l->out, l->room, l->told);
+    case QUESTION: return svid_bundles_question(l->h, in[TOKEN].bytes, in[TOKEN].len, 0, l->question, l->told);
+    default: return svid_validator_renew_by(l->v, l->h, l->told);
     }
-}
-
-static void call(int which, svid_bundles *b, svid_validator *v, answer *a) {
-    loan l = lent(b, v, a);
-    answered = a->status = call_with(which, &l);
 }
 
 /* (Threads make this call at once, so it keeps its answer to itself.) */
@@ -66,118 +65,10 @@ static void begin(int which, svid_bundles *b, svid_validator *v) {
     open_validator(v, "{}");
 }
 
-static void end(svid_bundles *b, svid_validator *v) {
-    svid_bundles_close(b);
-    holds(b->word == 0 && b->held == NULL, "it is open after close");
-    svid_bundles_close(b);
-    svid_validator_close(v);
-}
-
-static void clear(answer *a) { memset(a, 0, sizeof *a); memset(a->out, 0xA5, sizeof a->out); memset(&a->question, 0x5A, sizeof a->question); }
-
-static void refused(void) {
-    static answer due, got, none;
-    long tried = 0;
-    for (int which = 0; which < CALLS; which++) {
-        svid_bundles b;
-        svid_validator v;
-        at = NAMES[which];
-        refused_at = 0;
-        begin(which, &b, &v);
-        asked = freed = 0;
-        clear(&due);
-        call(which, &b, &v, &due);
-        long all = asked;
-        holds(due.status == SVID_OK, "it does not do what it is for");
-        holds(which != RENEW_BY || (all == 0 && freed == 0), "a renewal takes memory, or gives it back");
-        holds(which == RENEW_BY || all > 0, "no allocation was seen");
-        end(&b, &v);
-        holds(standing == 0, "memory is held after close");
-        for (long n = 1; n <= all; n++) {
-            tried++;
-            begin(which, &b, &v);
-            asked = 0;
-            refused_at = n;
-            clear(&got);
-            call(which, &b, &v, &got);
-            refused_at = 0;
-            if (got.status == SVID_NO_MEMORY) {
-                svid_told told = got.told;
-                clear(&none);
-                holds(told.len == 0 && told.input == 0 && told.message == 0 && told.offset == 0 && told.more == 0, "want of memory tells more");
-                holds(!memcmp(got.out, none.out, sizeof none.out) && !memcmp(&got.question, &none.question, sizeof none.question), "want of memory writes");
-                holds((b.word == 0) == (which == OPEN), "want of memory opens or closes");
-                clear(&got);
-                call(which, &b, &v, &got);
-            }
-            holds(!memcmp(&got, &due, sizeof due), "the answer differs");
-            end(&b, &v);
-            holds(standing == 0, "memory is held after close");
-        }
-    }
-    printf("%ld allocations refused", tried);
-}
-
-/* (the pages are given back at the end of the process) */
-static void guarded(void) {
-    static answer due, got;
-    static const size_t rooms[] = { 0, 1, 100, sizeof due.out };
-    for (int turn = 0; turn < 2 * CALLS; turn++) {
-        int which = turn / 2, first = turn % 2;
-        at = NAMES[which];
-        for (size_t i = 0; i < sizeof rooms / sizeof *rooms; i++) {
-            svid_bundles b, c;
-            svid_validator v, w;
-            begin(which, &b, &v);
-            begin(which, &c, &w);
-            clear(&due);
-            loan plain = lent(&b, &v, &due);
-            plain.room = rooms[i];
-            due.status = call_with(which, &plain);
-            clear(&got);
-            loan l = lent(&c, &w, &got);
-            for (int k = 0; k < INPUTS; k++) l.in[k].bytes = between(l.in[k].bytes, l.in[k].len, first);
-            l.b = between(&c, sizeof c, first);
-            l.v = between(&w, sizeof w, first);
-            l.out = between(got.out, rooms[i], first);
-            l.room = rooms[i];
-            l.told = between(&got.told, sizeof got.told, first);
-            l.question = between(&got.question, sizeof got.question, first);
-            answered = got.status = call_with(which, &l);
-            c = *l.b, w = *l.v;
-            memcpy(got.out, l.out, rooms[i]);
-            got.told = *l.told, got.question = *l.question;
-            holds(!memcmp(&got, &due, sizeof got), "the answer differs");
-            end(&b, &v);
-            end(&c, &w);
-        }
-    }
-    printf("%d calls in %zu rooms between pages that can't be touched", CALLS, sizeof rooms / sizeof *rooms);
-}
-
-/* Both are the same call, but for one input or room of no bytes. */
-static void nulls(void) {
-    static answer due, got;
-    static const uint8_t nothing[1];
-    answer *both[] = { &due, &got };
-    for (int which = 0; which < CALLS; which++) {
-        at = NAMES[which];
-        for (int input_of = 0; input_of <= INPUTS; input_of++) {
-            for (int i = 0; i < 2; i++) {
-                svid_bundles b;
-                svid_validator v;
-                begin(which, &b, &v);
-                clear(both[i]);
-                loan l = lent(&b, &v, both[i]);
-                if (input_of < INPUTS) l.in[input_of].bytes = i ? NULL : nothing, l.in[input_of].len = 0;
-                else l.out = i ? NULL : l.out, l.room = 0;
-                answered = both[i]->status = call_with(which, &l);
-                end(&b, &v);
-            }
-            holds(!memcmp(&got, &due, sizeof got), "NULL is answered otherwise");
-        }
-    }
-    printf("NULL for each input of %d calls", CALLS);
+static void took(int which, long asked_for, long kept) {
+    (void)kept;
+    holds(which != RENEW_BY || (asked_for == 0 && freed == 0), "a renewal takes memory, or gives it back");
+    holds(which == RENEW_BY || asked_for > 0, "no allocation was seen");
 }
 
 #define KEY "{\"kty\":\"EC\",\"use\":\"jwt-svid\",\"kid\":\"%d\"}"
@@ -413,43 +304,19 @@ static void threads(void) {
     printf("8 threads, one acceptance");
 }
 
-typedef struct { int which; svid_bundles *b; svid_validator *v; answer *a; } job;
-
-static void *run_job(void *given) {
-    job *j = given;
-    call(j->which, j->b, j->v, j->a);
-    return NULL;
-}
-
-/* Bundles with an entry that is as deep as a reader of JSON lets it be. */
-static size_t deep(uint8_t *to, int depth) {
+/* Bundles with an entry that is so deep. */
+static void deepen(int depth) {
+    uint8_t *to = bundles;
     size_t len = 0;
     len += (size_t)sprintf((char *)to, "{\"a\":{\"keys\":[");
     for (int i = 0; i < depth; i++) len += (size_t)sprintf((char *)to + len, "{\"\":");
     to[len++] = '0';
     for (int i = 0; i < depth; i++) to[len++] = '}';
     memcpy(to + len, "]}}", 3);
-    return len + 3;
+    bundles_len = len + 3;
 }
 
-static void stack(void) {
-    static answer a;
-    static const int depths[] = { 100, 123, 124, 10000 };
-    size_t most = 0, deeps = sizeof depths / sizeof *depths;
-    for (size_t turn = 0; turn < CALLS + deeps; turn++) {
-        svid_bundles b;
-        svid_validator v;
-        job j = { turn < CALLS ? (int)turn : OPEN, &b, &v, &a };
-        at = NAMES[j.which];
-        begin(j.which, &b, &v);
-        if (turn >= CALLS) bundles_len = deep(bundles, depths[turn - CALLS]);
-        clear(&a);
-        size_t used = stack_of(run_job, &j);
-        if (used > most) most = used;
-        end(&b, &v);
-    }
-    is_stack(most, STACK_MOST);
-}
+static void stack(void) { stack_with(deepen); }
 
 int main(int count, char **words) {
     static const part parts[] = {

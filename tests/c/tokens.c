@@ -15,26 +15,28 @@ static const char *const NAMES[] = { "svid_token_open", "svid_validator_ask_toke
 /* What a call wrote: its status, and all that it may write. */
 typedef struct { uint32_t status; svid_told told; svid_use used; uint8_t out[8192]; } answer;
 
+#define MORE used
+
 /* What a call is lent. */
-typedef struct {
-    const uint8_t *token; size_t token_len;
-    const uint8_t *key; size_t key_len;
-    const uint8_t *input; size_t input_len;
-    const uint8_t *signature; size_t signature_len;
-    svid_token *t; svid_validator *v; svid_bundles *b; uint8_t *out; size_t room; svid_use *used; svid_told *told;
-} loan;
+typedef svid_token handle;
+#define CLOSE svid_token_close
+enum { TOKEN, KEY, INPUT, SIGNATURE, INPUTS };
+typedef struct { const uint8_t *bytes; size_t len; } input;
+typedef struct { input in[INPUTS]; svid_token *h; svid_validator *v; svid_bundles *b; uint8_t *out; size_t room; svid_use *used; svid_told *told; } loan;
+#include "handle.h"
 
 static loan lent(svid_token *t, svid_validator *v, answer *a) {
-    loan l = { token, token_len, maker, maker_len, token, signed_len, signature, signature_len, t, v, NULL, a->out, sizeof a->out, &a->used, &a->told };
+    loan l = { { { token, token_len }, { maker, maker_len }, { token, signed_len }, { signature, signature_len } }, t, v, NULL, a->out, sizeof a->out, &a->used, &a->told };
     return l;
 }
 
 static uint32_t call_with(int which, const loan *l) {
+    const input *in = l->in;
     switch (which) {
-    case OPEN: return svid_token_open(l->t, l->token, l->token_len, l->told);
-    case ASK: return svid_validator_ask_token(l->v, l->t, SVID_MOST_CANDIDATES, l->out, l->room, l->told);
-    case JUDGE: return svid_validator_judge_token(l->v, NOW, l->key, l->key_len, l->input, l->input_len, l->signature, l->signature_len, l->t, l->out, l->room, l->used, l->told);
-    default: return svid_validator_check_token(l->v, NOW, l->key, l->key_len, l->input, l->input_len, l->signature, l->signature_len, l->t, l->out, l->room, l->used, l->told);
+    case OPEN: return svid_token_open(l->h, in[TOKEN].bytes, in[TOKEN].len, l->told);
+    case ASK: return svid_validator_ask_token(l->v, l->h, SVID_MOST_CANDIDATES, l->out, l->room, l->told);
+    case JUDGE: return svid_validator_judge_token(l->v, NOW, in[KEY].bytes, in[KEY].len, in[INPUT].bytes, in[INPUT].len, in[SIGNATURE].bytes, in[SIGNATURE].len, l->h, l->out, l->room, l->used, l->told);
+    default: return svid_validator_check_token(l->v, NOW, in[KEY].bytes, in[KEY].len, in[INPUT].bytes, in[INPUT].len, in[SIGNATURE].bytes, in[SIGNATURE].len, l->h, l->out, l->room, l->used, l->told);
     }
 }
 
@@ -45,10 +47,10 @@ static uint32_t ask_by_text(const loan *l) {
     static uint8_t made[SVID_SIGNATURE_ROOM], rows[8192];
     svid_signed over;
     svid_told told, listed;
-    uint32_t status = svid_bundles_ask(l->b, l->token, l->token_len, SVID_MOST_CANDIDATES, rows, sizeof rows, &listed);
+    uint32_t status = svid_bundles_ask(l->b, l->in[TOKEN].bytes, l->in[TOKEN].len, SVID_MOST_CANDIDATES, rows, sizeof rows, &listed);
     memset(l->told, 0, sizeof *l->told);
     if (status != SVID_OK) return status;
-    holds(svid_token_signature(l->token, l->token_len, &over, made, sizeof made, &told) == SVID_OK, "a token that is read has no signature");
+    holds(svid_token_signature(l->in[TOKEN].bytes, l->in[TOKEN].len, &over, made, sizeof made, &told) == SVID_OK, "a token that is read has no signature");
     size_t len = put_number(l->out, over.len);
     len += put_number(l->out + len, told.len);
     memcpy(l->out + len, made, told.len);
@@ -67,19 +69,14 @@ static uint32_t call_by_text(int which, const loan *l) {
     svid_told listed, told;
     size_t count = 0;
     if (which == ASK) return ask_by_text(l);
-    if (svid_bundles_ask(l->b, l->token, l->token_len, SVID_MOST_CANDIDATES, rows, sizeof rows, &listed) != SVID_OK) listed.len = 0;
+    if (svid_bundles_ask(l->b, l->in[TOKEN].bytes, l->in[TOKEN].len, SVID_MOST_CANDIDATES, rows, sizeof rows, &listed) != SVID_OK) listed.len = 0;
     for (size_t from = 0, number = 0; from < listed.len && !count; number++) {
         from += 4 + number_at(rows + from);
         size_t len = number_at(rows + from);
-        if (len == l->key_len && !memcmp(rows + from + 4, l->key, len)) count += svid_bundles_question(l->b, l->token, l->token_len, number, &asked_of, &told) == SVID_OK;
+        if (len == l->in[KEY].len && !memcmp(rows + from + 4, l->in[KEY].bytes, len)) count += svid_bundles_question(l->b, l->in[TOKEN].bytes, l->in[TOKEN].len, number, &asked_of, &told) == SVID_OK;
         from += 4 + len;
     }
-    return svid_bundles_judge(l->b, &setting, (const uint8_t *)"ledger", 6, lens, 1, &asked_of, count, l->token, l->token_len, l->out, l->room, l->used, l->told);
-}
-
-static void call(int which, svid_token *t, svid_validator *v, answer *a) {
-    loan l = lent(t, v, a);
-    answered = a->status = call_with(which, &l);
+    return svid_bundles_judge(l->b, &setting, (const uint8_t *)"ledger", 6, lens, 1, &asked_of, count, l->in[TOKEN].bytes, l->in[TOKEN].len, l->out, l->room, l->used, l->told);
 }
 
 /* A token that was read, or, before the call that reads it, a closed handle; and a validator. */
@@ -94,125 +91,9 @@ static void begin(int which, svid_token *t, svid_validator *v) {
     holds(answered == SVID_OK, "a validator does not open");
 }
 
-static void end(svid_token *t, svid_validator *v) {
-    svid_token_close(t);
-    holds(t->word == 0 && t->held == NULL, "it is open after close");
-    svid_token_close(t);
-    svid_validator_close(v);
-}
-
-static void clear(answer *a) { memset(a, 0, sizeof *a); memset(a->out, 0xA5, sizeof a->out); memset(&a->used, 0x5A, sizeof a->used); }
-
-static void refused(void) {
-    static answer due, got, none;
-    long tried = 0;
-    for (int which = 0; which < CALLS; which++) {
-        svid_token t;
-        svid_validator v;
-        at = NAMES[which];
-        refused_at = 0;
-        begin(which, &t, &v);
-        asked = 0;
-        long before = standing;
-        clear(&due);
-        call(which, &t, &v, &due);
-        long all = asked;
-        holds(which == OPEN || which == CHECK || standing == before, "it keeps memory");
-        holds(due.status == SVID_OK, "it does not do what it is for");
-        holds(all > 0, "no allocation was seen");
-        end(&t, &v);
-        holds(standing == 0, "memory is held after close");
-        for (long n = 1; n <= all; n++) {
-            tried++;
-            begin(which, &t, &v);
-            asked = 0;
-            refused_at = n;
-            clear(&got);
-            call(which, &t, &v, &got);
-            refused_at = 0;
-            if (got.status == SVID_NO_MEMORY) {
-                svid_told told = got.told;
-                clear(&none);
-                holds(told.len == 0 && told.input == 0 && told.message == 0 && told.offset == 0 && told.more == 0, "want of memory tells more");
-                holds(!memcmp(got.out, none.out, sizeof none.out) && !memcmp(&got.used, &none.used, sizeof none.used), "want of memory writes");
-                holds((t.word == 0) == (which == OPEN), "want of memory opens or closes");
-                clear(&got);
-                call(which, &t, &v, &got);
-            }
-            holds(!memcmp(&got, &due, sizeof due), "the answer differs");
-            end(&t, &v);
-            holds(standing == 0, "memory is held after close");
-        }
-    }
-    printf("%ld allocations refused", tried);
-}
-
-/* (the pages are given back at the end of the process) */
-static void guarded(void) {
-    static answer due, got;
-    static const size_t rooms[] = { 0, 1, SVID_ID_ROOM, sizeof due.out };
-    for (int turn = 0; turn < 2 * CALLS; turn++) {
-        int which = turn / 2, first = turn % 2;
-        at = NAMES[which];
-        for (size_t i = 0; i < COUNT(rooms); i++) {
-            svid_token t, s;
-            svid_validator v, w;
-            begin(which, &t, &v);
-            begin(which, &s, &w);
-            clear(&due);
-            loan plain = lent(&t, &v, &due);
-            plain.room = rooms[i];
-            due.status = call_with(which, &plain);
-            clear(&got);
-            loan l = lent(&s, &w, &got);
-            l.token = between(token, token_len, first);
-            l.key = between(maker, maker_len, first);
-            l.input = between(token, signed_len, first);
-            l.signature = between(signature, signature_len, first);
-            l.t = between(&s, sizeof s, first);
-            l.v = between(&w, sizeof w, first);
-            l.out = between(got.out, rooms[i], first);
-            l.room = rooms[i];
-            l.used = between(&got.used, sizeof got.used, first);
-            l.told = between(&got.told, sizeof got.told, first);
-            answered = got.status = call_with(which, &l);
-            s = *l.t, w = *l.v;
-            memcpy(got.out, l.out, rooms[i]);
-            got.told = *l.told, got.used = *l.used;
-            holds(!memcmp(&got, &due, sizeof got), "the answer differs");
-            end(&t, &v);
-            end(&s, &w);
-        }
-    }
-    printf("%d calls in %zu rooms between pages that can't be touched", CALLS, COUNT(rooms));
-}
-
-/* Both are the same call, but for one input or room of no bytes. */
-static void nulls(void) {
-    static answer due, got;
-    static const uint8_t nothing[1];
-    answer *both[] = { &due, &got };
-    for (int which = 0; which < CALLS; which++) {
-        at = NAMES[which];
-        for (int input_of = 0; input_of < 5; input_of++) {
-            for (int i = 0; i < 2; i++) {
-                svid_token t;
-                svid_validator v;
-                begin(which, &t, &v);
-                clear(both[i]);
-                loan l = lent(&t, &v, both[i]);
-                if (input_of == 0) l.token = i ? NULL : nothing, l.token_len = 0;
-                else if (input_of == 1) l.key = i ? NULL : maker, l.key_len = 0;
-                else if (input_of == 2) l.input = i ? NULL : nothing, l.input_len = 0;
-                else if (input_of == 3) l.signature = i ? NULL : nothing, l.signature_len = 0;
-                else l.out = i ? NULL : l.out, l.room = 0;
-                answered = both[i]->status = call_with(which, &l);
-                end(&t, &v);
-            }
-            holds(!memcmp(&got, &due, sizeof got), "NULL is answered otherwise");
-        }
-    }
-    printf("NULL for each input of %d calls", CALLS);
+static void took(int which, long asked_for, long kept) {
+    holds(which == OPEN || which == CHECK || kept == 0, "it keeps memory");
+    holds(asked_for > 0, "no allocation was seen");
 }
 
 /* A token of these parts. */
@@ -288,7 +169,7 @@ static void answers(void) {
                 loan l = lent(NULL, NULL, &due), read = lent(&t, &v, &got);
                 l.b = &b;
                 /* (the key; and before that a part of it, and none) */
-                l.key_len = read.key_len = turn % 3 == 0 ? 0 : turn % 3 == 1 ? maker_len - 1 : maker_len;
+                l.in[KEY].len = read.in[KEY].len = turn % 3 == 0 ? 0 : turn % 3 == 1 ? maker_len - 1 : maker_len;
                 due.status = call_by_text(which, &l);
                 if (opened != SVID_OK) {
                     answered = due.status;
@@ -328,7 +209,7 @@ static void renewed(void) {
             at = NAMES[which];
             clear(&got);
             loan l = lent(&t, &v[whose], &got);
-            l.key = by ? other_key : maker;
+            l.in[KEY].bytes = by ? other_key : maker;
             answered = call_with(which, &l);
             holds(answered == (which == ASK || by == whose ? SVID_OK : SVID_BAD_SIGNATURE), "another answer");
             holds(which != ASK || (memmem(got.out, got.told.len, other_key, maker_len) != NULL) == (whose == 1), "the key that is listed");
@@ -356,12 +237,12 @@ static void mixed(void) {
             begin(which, &t, &v);
             clear(&got);
             loan l = lent(&t, &v, &got);
-            if (turn == 1 || turn == 3) l.input = other;
-            if (turn == 2 || turn == 3) l.signature = other_signature;
-            if (turn == 4) l.input_len--;
-            if (turn == 5) l.signature_len--;
-            if (turn == 6) l.input = signature, l.input_len = signature_len, l.signature = token, l.signature_len = signed_len;
-            if (turn == 7) l.input_len = l.signature_len = 0;
+            if (turn == 1 || turn == 3) l.in[INPUT].bytes = other;
+            if (turn == 2 || turn == 3) l.in[SIGNATURE].bytes = other_signature;
+            if (turn == 4) l.in[INPUT].len--;
+            if (turn == 5) l.in[SIGNATURE].len--;
+            if (turn == 6) l.in[INPUT].bytes = signature, l.in[INPUT].len = signature_len, l.in[SIGNATURE].bytes = token, l.in[SIGNATURE].len = signed_len;
+            if (turn == 7) l.in[INPUT].len = l.in[SIGNATURE].len = 0;
             answered = call_with(which, &l);
             holds(answered == (turn == 0 ? SVID_OK : SVID_BAD_SIGNATURE), "another answer");
             end(&t, &v);
@@ -370,37 +251,16 @@ static void mixed(void) {
     printf("what was verified of one token is no answer for another");
 }
 
-typedef struct { int which; svid_token *t; svid_validator *v; answer *a; } job;
-static void *run_job(void *given) {
-    job *j = given;
-    call(j->which, j->t, j->v, j->a);
-    return NULL;
+/* A token whose payload is so deep. */
+static void deepen(int depth) {
+    static char nested[2 * 10000 + 64];
+    int n = sprintf(nested, "{\"a\":");
+    for (int i = 0; i < depth; i++) nested[n + i] = '[', nested[n + 2 * depth - 1 - i] = ']';
+    strcpy(nested + n + 2 * depth, "}");
+    make_token("{\"alg\":\"ES256\"}", nested);
 }
 
-static void stack(void) {
-    static answer a;
-    static const int depths[] = { 100, 123, 124, 10000 };
-    size_t most = 0;
-    for (size_t turn = 0; turn < CALLS + COUNT(depths); turn++) {
-        svid_token t;
-        svid_validator v;
-        job j = { turn < CALLS ? (int)turn : OPEN, &t, &v, &a };
-        at = NAMES[j.which];
-        if (turn >= CALLS) {
-            static char nested[2 * 10000 + 64];
-            int deep = depths[turn - CALLS], n = sprintf(nested, "{\"a\":");
-            for (int i = 0; i < deep; i++) nested[n + i] = '[', nested[n + 2 * deep - 1 - i] = ']';
-            strcpy(nested + n + 2 * deep, "}");
-            make_token("{\"alg\":\"ES256\"}", nested);
-        }
-        begin(j.which, &t, &v);
-        clear(&a);
-        size_t used = stack_of(run_job, &j);
-        if (used > most) most = used;
-        end(&t, &v);
-    }
-    is_stack(most, STACK_MOST);
-}
+static void stack(void) { stack_with(deepen); }
 
 int main(int count, char **words) {
     static const part parts[] = { { "refused", refused }, { "guarded", guarded }, { "nulls", nulls }, { "answers", answers }, { "renewed", renewed }, { "mixed", mixed }, { "stack", stack } };

@@ -16,10 +16,10 @@ SPIRES_FILE = "SPIRE's file as it is, in the place of an object of trust domains
 WORKLOAD = "SPIFFE_Workload_API, section 6.2"
 
 
-def domains(name, text, answer, source=BUNDLES):
+def domains(name, text, answer, source=BUNDLES, readers=None):
     """The page has a field for both forms, of text alone, and takes an empty one for no trust domains."""
-    is_for_page = isinstance(text, str) and text.strip() and name != SPIRES_FILE
-    readers = {} if is_for_page else {"readers": [it for it in READERS if it != "page"]}
+    is_for_page = isinstance(text, str) and text.strip()
+    readers = {"readers": readers} if readers else {} if is_for_page else {"readers": [it for it in READERS if it != "page"]}
     kind = {"text": text} if isinstance(text, str) else {"hex": text.hex()}
     return {"name": name, "from": source, **readers, "form": "domains", **kind, "token": token(), "answer": answer}
 
@@ -147,7 +147,8 @@ def vectors():
         "Keys 0",
         f"{BUNDLES}: the first faulty name",
     )
-    yield domains(SPIRES_FILE, json_text(spire), "Keys 0", f"{BUNDLES}: it has no names of trust domains")
+    yield domains(SPIRES_FILE, json_text(spire), "Keys 0", f"{BUNDLES}: it has no names of trust domains", ["c", "svid"])
+    yield domains(f"{SPIRES_FILE}, for a package", json_text(spire), "Unnamed", f"{BUNDLES}: svid_bundles_join says so", ["go", "python", "rust"])
 
     yield document("SPIRE's file", json_text(spire), accepted())
     yield document(

@@ -10,6 +10,7 @@ import (
 	"github.com/nats-io/nats.go"
 
 	"svid.example/go/v3/internal/brief"
+	"svid.example/go/v3/internal/streams"
 )
 
 // The API of JetStream, as far as the client's own calls would leave out what matters: a setting that the client does not
@@ -17,16 +18,13 @@ import (
 
 // A streamInfo is what the broker says about the bucket's stream.
 type streamInfo struct {
-	Config  config
+	Config  streams.Config
 	Created time.Time
 	State   struct {
 		First uint64 `json:"first_seq"`
 		Last  uint64 `json:"last_seq"`
 	}
 }
-
-// A config is each setting of a stream, by its name.
-type config map[string]json.RawMessage
 
 // A stored is a value as the broker has it.
 type stored struct {

@@ -1,18 +1,16 @@
 package jetstream
 
 import (
-	"bytes"
 	"context"
 	"encoding/json"
 	"errors"
 	"fmt"
-	"sort"
-	"strings"
 	"time"
 
 	"github.com/nats-io/nats.go"
 
 	"svid.example/go/v3/carriers"
+	"svid.example/go/v3/internal/streams"
 )
 
 // A bucket is what a member knows of the group's bucket when it begins to read it.
@@ -98,92 +96,40 @@ func (g *Group) makeBucket() error {
 	return nil
 }
 
-// A setting of a bucket's stream is as it must be, or due says what it must be.
-type setting struct {
-	due  string
-	good func(value json.RawMessage) bool
-}
-
 // settings are those that must have a certain value, so that what is in the bucket stays there until it expires, whoever
 // may publish to it.
-func (g *Group) settings() map[string]setting {
-	exactly := func(due any) setting {
-		text, err := json.Marshal(due)
-		return setting{string(text), func(value json.RawMessage) bool { return err == nil && bytes.Equal(value, text) }}
-	}
-	number := func(due string, good func(int64) bool) setting {
-		return setting{due, func(value json.RawMessage) bool {
-			var n int64
-			return json.Unmarshal(value, &n) == nil && good(n)
-		}}
-	}
-	return map[string]setting{
-		"name":                    exactly(g.stream),
-		"subjects":                exactly([]string{g.subject + ">"}),
-		"storage":                 exactly("file"),
-		"retention":               exactly("limits"), // and not until it is read
-		"discard":                 exactly("new"),
-		"discard_new_per_subject": exactly(true), // A second value of a key is refused, and does not replace the first.
-		"max_msgs_per_subject":    exactly(1),
-		"max_msgs":                exactly(-1),
-		"max_bytes":               exactly(-1), // NATS 2.9 drops the oldest values there, though it is to refuse new ones.
-		"max_consumers":           exactly(-1),
-		"deny_delete":             exactly(true),
-		"deny_purge":              exactly(true),
-		"allow_rollup_hdrs":       exactly(false),
-		"max_age": number(fmt.Sprintf("0 or at least %d (%v)", g.options.TTL, g.options.TTL), func(n int64) bool {
-			return n == 0 || n >= int64(g.options.TTL)
-		}),
-		"max_msg_size": number(fmt.Sprintf("-1 or at least %d", mostValue), func(n int64) bool { return n == -1 || n >= mostValue }),
-		"num_replicas": number(fmt.Sprintf("at least %d", g.options.Replicas), func(n int64) bool { return n >= int64(g.options.Replicas) }),
+func (g *Group) settings() map[string]streams.Setting {
+	return map[string]streams.Setting{
+		"name":                    streams.Exactly(g.stream),
+		"subjects":                streams.Exactly([]string{g.subject + ">"}),
+		"storage":                 streams.Exactly("file"),
+		"retention":               streams.Exactly("limits"), // and not until it is read
+		"discard":                 streams.Exactly("new"),
+		"discard_new_per_subject": streams.Exactly(true), // A second value of a key is refused, and does not replace the first.
+		"max_msgs_per_subject":    streams.Exactly(1),
+		"max_msgs":                streams.Exactly(-1),
+		"max_bytes":               streams.Exactly(-1), // NATS 2.9 drops the oldest values there, though it is to refuse new ones.
+		"max_consumers":           streams.Exactly(-1),
+		"deny_delete":             streams.Exactly(true),
+		"deny_purge":              streams.Exactly(true),
+		"allow_rollup_hdrs":       streams.Exactly(false),
+		"max_age":                 streams.Age(g.options.TTL),
+		"max_msg_size":            streams.MessageSize(mostValue),
+		"num_replicas":            streams.Replicas(g.options.Replicas),
 	}
 }
-
-// free are the settings that may have any value: none of them makes a stream forget. (No value of a member has the id by
-// which a server finds duplicates.)
-var free = map[string]bool{"description": true, "metadata": true, "placement": true, "compression": true, "duplicate_window": true,
-	"allow_direct": true}
-
-// off are the values of a setting that is not set. All settings but those of settings and free must be so, also those that
-// only servers of the future know.
-var off = map[string]bool{"": true, "false": true, "0": true, `""`: true, "null": true, "[]": true, "{}": true}
-
-// fixed are the settings that no server changes once the stream is made, in this direction.
-var fixed = map[string]bool{"storage": true, "retention": true, "max_consumers": true, "mirror": true, "republish": true, "sealed": true,
-	"template_owner": true, "first_seq": true}
 
 // keeps is an error where a bucket with these settings may lose a value before its token has expired, or can't be written
 // or read. It says which settings are wrong, what they are and what they must be.
-func (g *Group) keeps(c config) error {
-	var wrong []string
-	remake := false
-	say := func(name, due string) {
-		is := string(c[name])
-		if is == "" {
-			is = "missing"
-		}
-		wrong = append(wrong, fmt.Sprintf("%s is %s and must be %s", name, is, due))
-		remake = remake || fixed[name]
-	}
-	settings := g.settings()
-	for name, s := range settings {
-		if !s.good(c[name]) {
-			say(name, s.due)
-		}
-	}
-	for name, value := range c {
-		if _, is := settings[name]; !is && !free[name] && !off[string(value)] {
-			say(name, "left out")
-		}
-	}
-	if len(wrong) == 0 {
+func (g *Group) keeps(c streams.Config) error {
+	wrong, isFixed := c.Wrong(g.settings())
+	if wrong == "" {
 		return nil
 	}
-	sort.Strings(wrong)
 	what := "change them (nats stream edit)"
-	if remake {
+	if isFixed {
 		what = "stop the whole group, remove the stream (nats stream rm) and start the group again"
 	}
 	return fmt.Errorf("group: the bucket %s may lose values: of its stream %s %s: %s; see docs/SIDECAR-OPERATION.md, \"The bucket\"",
-		g.options.Name, g.stream, strings.Join(wrong, ", "), what)
+		g.options.Name, g.stream, wrong, what)
 }

@@ -12,6 +12,7 @@ import (
 
 	"svid.example/go/v3/internal/natstest"
 	"svid.example/go/v3/internal/patience"
+	"svid.example/go/v3/internal/streams"
 )
 
 // oldBucket is the bucket as members made it once: a key-value bucket, whose values whoever may publish to it can remove.
@@ -35,7 +36,7 @@ func TestJoinRefusesABucketThatForgets(t *testing.T) {
 	t.Parallel()
 	s := natstest.Start(t)
 	a := join(t, options(1, s.URL))
-	if _, err := a.js.AddStream(&nats.StreamConfig{Name: "source", Subjects: []string{"source"}}); err != nil {
+	if _, err := natstest.JetStream(t, a.conn).AddStream(&nats.StreamConfig{Name: "source", Subjects: []string{"source"}}); err != nil {
 		t.Fatal(err)
 	}
 	const edit, remake = "change them", "stop the whole group"
@@ -155,7 +156,7 @@ func TestSettingsOfTheFuture(t *testing.T) {
 		if err != nil {
 			t.Fatal(err)
 		}
-		var c config
+		var c streams.Config
 		if err := json.Unmarshal(whole, &c); err != nil {
 			t.Fatal(err)
 		}
@@ -207,7 +208,7 @@ func TestABucketThatIsChanged(t *testing.T) {
 	s := natstest.Start(t)
 	a := join(t, options(1, s.URL))
 	awaitHeld(t, a, tell(t, a, 1))
-	operator{t, a.js}.edit(func(c *nats.StreamConfig) { c.MaxBytes = 1 << 20 })
+	operator{t, natstest.JetStream(t, a.conn)}.edit(func(c *nats.StreamConfig) { c.MaxBytes = 1 << 20 })
 	natstest.Await(t, "a line about it", func() bool { return a.logged("max_bytes is 1048576 and must be -1") })
 	awaitHeld(t, a, tell(t, a, 2))
 }

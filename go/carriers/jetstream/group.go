@@ -37,6 +37,7 @@ import (
 	"github.com/nats-io/nats.go"
 
 	"svid.example/go/v3/carriers"
+	"svid.example/go/v3/claims"
 	"svid.example/go/v3/internal/brief"
 )
 
@@ -181,8 +182,8 @@ func (o Options) check() error {
 	switch {
 	case len(o.Servers) == 0:
 		return errors.New("group: no server is named")
-	case !carriers.ValidName(o.Name):
-		return fmt.Errorf("group: the name %q is not letters, digits, - and _ alone", o.Name)
+	case !claims.ValidName(o.Name):
+		return fmt.Errorf("group: the name %q is not letters, digits, - and _ alone, or has more than 64 of them", o.Name)
 	case o.TTL <= 0:
 		return errors.New("group: a TTL is needed: the longest life of a token, and twice the bound for clocks")
 	case o.Replicas < 0 || o.Replicas > MostReplicas:

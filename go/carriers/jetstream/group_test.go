@@ -9,7 +9,6 @@ import (
 	"io"
 	"net"
 	"os"
-	"os/exec"
 	"regexp"
 	"runtime"
 	"strings"
@@ -21,6 +20,7 @@ import (
 	"github.com/nats-io/nats.go"
 
 	"svid.example/go/v3/internal/broker"
+	"svid.example/go/v3/internal/logtest"
 	"svid.example/go/v3/internal/natstest"
 	"svid.example/go/v3/internal/patience"
 	"svid.example/go/v3/svid"
@@ -237,7 +237,7 @@ func TestKeysOfTheBucket(t *testing.T) {
 	if err := a.Put(patient(t), Claims, 3, batch(key(3), a.id)); err != nil {
 		t.Fatal(err)
 	}
-	kv, err := a.js.KeyValue("test")
+	kv, err := natstest.JetStream(t, a.conn).KeyValue("test")
 	if err != nil {
 		t.Fatal(err)
 	}
@@ -452,8 +452,8 @@ func TestReadingBeginsAnewForAnOwnValue(t *testing.T) {
 	s := natstest.Start(t)
 	a := join(t, options(1, s.URL))
 	awaitHeld(t, a, tell(t, a, 1))
-	for c := range a.js.ConsumerNames(a.stream) {
-		if err := a.js.DeleteConsumer(a.stream, c); err != nil {
+	for c := range natstest.JetStream(t, a.conn).ConsumerNames(a.stream) {
+		if err := natstest.JetStream(t, a.conn).DeleteConsumer(a.stream, c); err != nil {
 			t.Fatal(err)
 		}
 	}
@@ -543,7 +543,7 @@ func TestAGapIsTold(t *testing.T) {
 	p.cut()
 	tell(t, a, 2)
 	other := batch(key(7), a.id)
-	operator{t, a.js}.remove(a.keyOf(Uses, 2), other)
+	operator{t, natstest.JetStream(t, a.conn)}.remove(a.keyOf(Uses, 2), other)
 	last := tell(t, a, 3)
 	p.hold(false)
 	awaitHeld(t, b, last)
@@ -562,7 +562,7 @@ func TestAGapInFrontOfTheFirstValueIsTold(t *testing.T) {
 	s := natstest.Start(t)
 	p := newProxy(t, s.URL)
 	a := join(t, options(1, s.URL))
-	by := operator{t, a.js}
+	by := operator{t, natstest.JetStream(t, a.conn)}
 	for round, before := range []int{0, 3} {
 		for n := 0; n < before; n++ {
 			awaitHeld(t, a, tell(t, a, 10+n))
@@ -604,7 +604,7 @@ func TestAGapOfAllValuesIsTold(t *testing.T) {
 	p.hold(true)
 	p.cut()
 	awaitHeld(t, a, tell(t, a, 1))
-	operator{t, a.js}.removeAll()
+	operator{t, natstest.JetStream(t, a.conn)}.removeAll()
 	p.hold(false)
 	natstest.Await(t, "the gap", func() bool { return b.logged("values are gonefrom1to1") }) // by idle
 	last := tell(t, a, 2)
@@ -621,7 +621,7 @@ func TestWhatIsGoneBeforeAMemberJoins(t *testing.T) {
 	for n := 1; n < 4; n++ {
 		awaitHeld(t, a, tell(t, a, n))
 	}
-	by := operator{t, a.js}
+	by := operator{t, natstest.JetStream(t, a.conn)}
 	by.removeAllBut(1)
 	b := join(t, options(2, s.URL))
 	wantValues(t, b, Value{Kind: Uses, Position: 3, Message: batch(key(3), a.id)})
@@ -676,7 +676,7 @@ func TestValuesThatWereReadAreNoGap(t *testing.T) {
 	for n := 0; n < 3; n++ {
 		awaitHeld(t, b, tell(t, a, n))
 	}
-	operator{t, a.js}.removeAll()
+	operator{t, natstest.JetStream(t, a.conn)}.removeAll()
 	p.cut()
 	c := join(t, options(3, s.URL))
 	last := tell(t, a, 3)
@@ -707,7 +707,7 @@ func TestValuesAtPositionsThatWereReadBefore(t *testing.T) {
 	a, b := join(t, options(1, s.URL)), join(t, options(2, p.URL))
 	awaitHeld(t, b, tell(t, a, 1))
 	s.Kill()
-	copyDir(t, dir, before)
+	logtest.CopyAll(t, dir, before)
 	begin()
 	for n := 2; n < 4; n++ {
 		awaitHeld(t, b, tell(t, a, n))
@@ -721,7 +721,7 @@ func TestValuesAtPositionsThatWereReadBefore(t *testing.T) {
 	if err := os.Mkdir(dir, 0o700); err != nil {
 		t.Fatal(err)
 	}
-	copyDir(t, before, dir)
+	logtest.CopyAll(t, before, dir)
 	begin()
 	c := join(t, options(3, s.URL))
 	for n := 10; n < 13; n++ {
@@ -734,14 +734,6 @@ func TestValuesAtPositionsThatWereReadBefore(t *testing.T) {
 	wantBegins(t, b, Log{}, Log{Ready: 4, Missed: true})
 	if !b.logged("the broker has lost values") {
 		t.Error(b.lines)
-	}
-}
-
-// copyDir copies a folder of a server that does not run.
-func copyDir(t testing.TB, from, to string) {
-	t.Helper()
-	if out, err := exec.Command("cp", "-a", from+"/.", to+"/").CombinedOutput(); err != nil {
-		t.Fatalf("%v: %s", err, out)
 	}
 }
 
@@ -818,7 +810,7 @@ func TestValuesThatAreNoBatchAreAside(t *testing.T) {
 	t.Parallel()
 	s := natstest.Start(t)
 	a := join(t, options(1, s.URL))
-	kv, err := a.js.KeyValue("test")
+	kv, err := natstest.JetStream(t, a.conn).KeyValue("test")
 	if err != nil {
 		t.Fatal(err)
 	}
@@ -854,7 +846,7 @@ func TestValuesAreTakenAtOnce(t *testing.T) {
 	t.Parallel()
 	s := natstest.Start(t)
 	a := join(t, options(1, s.URL))
-	kv, err := a.js.KeyValue("test")
+	kv, err := natstest.JetStream(t, a.conn).KeyValue("test")
 	if err != nil {
 		t.Fatal(err)
 	}
@@ -898,7 +890,7 @@ func TestBucketThatWasRemovedIsMadeAnew(t *testing.T) {
 	for n := 0; n < 20; n++ {
 		awaitHeld(t, b, tell(t, a, n))
 	}
-	if err := a.js.DeleteKeyValue("test"); err != nil {
+	if err := natstest.JetStream(t, a.conn).DeleteKeyValue("test"); err != nil {
 		t.Fatal(err)
 	}
 	awaitHeld(t, b, tell(t, a, 99))
@@ -982,11 +974,11 @@ func TestSummariesBringBackWhatWasLost(t *testing.T) {
 	s := natstest.Start(t)
 	a, b := join(t, options(1, s.URL)), join(t, options(2, s.URL))
 	var uses [][]byte
-	for n := 0; n < 40000; n++ {
+	for n := 0; n < 20000; n++ {
 		one := batch(key(n), a.id)
 		uses = append(uses, one[headLen:])
 	}
-	lost := batchOf(uses...) // 2.6 MB, more than a message of the broker has room for
+	lost := batchOf(uses...) // 1.3 MB, more than a message of the broker has room for
 	nothing := func([]byte, int) ([][]byte, error) { return [][]byte{batchOf()}, nil }
 	a.Summaries(time.Hour, func() ([]byte, error) { return []byte("of a"), nil }, func(summary []byte, most int) ([][]byte, error) {
 		if string(summary) != "of b" {
@@ -1003,7 +995,7 @@ func TestSummariesBringBackWhatWasLost(t *testing.T) {
 		}
 		return n
 	}
-	natstest.Await(t, "40,000 uses", func() bool { return got() == 40000 })
+	natstest.Await(t, "20,000 uses", func() bool { return got() == 20000 })
 	if b.Aside() != 0 {
 		t.Error(b.Aside(), b.lines)
 	}
@@ -1112,18 +1104,23 @@ func TestAHeartbeatOfOtherValues(t *testing.T) {
 		f.name("c")
 		f.given = 2
 		r := reader{group: a.Group, seen: row.seen, last: time.Now().Add(-row.last)}
-		for _, want := range []error{row.want, nil} {
+		beat := func() error {
 			f.arrive(&nats.Msg{Header: nats.Header{"Status": {"100"}, "Description": {"Idle Heartbeat"}, "Nats-Last-Consumer": {row.sent}}})
 			these, err := f.next(patience.Long)
 			if err != nil {
 				t.Fatal(err)
 			}
-			if err := r.values(f, these); err != want {
-				t.Errorf("%s: %v, and not %v", name, err, want)
-			}
-			if !r.doubted.IsZero() {
-				r.doubted = r.doubted.Add(time.Hour)
-			}
+			return r.values(f, these)
+		}
+		natstest.Await(t, name, func() bool { // (a busy broker may answer no question in time)
+			r.doubted = time.Time{}
+			return beat() == row.want
+		})
+		if !r.doubted.IsZero() {
+			r.doubted = r.doubted.Add(time.Hour)
+		}
+		if err := beat(); err != nil {
+			t.Errorf("%s again: %v", name, err)
 		}
 	}
 }

@@ -2,7 +2,6 @@ package jetstream
 
 import (
 	"context"
-	"os"
 	"strings"
 	"syscall"
 	"testing"
@@ -12,6 +11,7 @@ import (
 	"svid.example/go/v3/carriers"
 	"svid.example/go/v3/internal/broker"
 	"svid.example/go/v3/internal/logtest"
+	"svid.example/go/v3/internal/natstest"
 )
 
 // A machine is a NATS server of a test that all carriers pass.
@@ -60,34 +60,12 @@ func (s *machine) Garbage(t testing.TB, name string) int {
 
 func (s *machine) stream(t testing.TB) nats.JetStreamContext {
 	t.Helper()
-	nc, err := nats.Connect(s.URL)
-	if err != nil {
-		t.Fatal(err)
-	}
-	t.Cleanup(nc.Close)
-	js, err := nc.JetStream()
-	if err != nil {
-		t.Fatal(err)
-	}
-	return js
+	return natstest.JetStream(t, natstest.Connect(t, s.URL))
 }
 
 func (s *machine) Copy(t testing.TB) func() {
-	kept := t.TempDir()
-	s.Server.Stop()
-	copyDir(t, s.dir, kept)
-	s.Start(t)
-	return func() {
-		s.Server.Kill()
-		if err := os.RemoveAll(s.dir); err != nil {
-			t.Fatal(err)
-		}
-		if err := os.Mkdir(s.dir, 0o700); err != nil {
-			t.Fatal(err)
-		}
-		copyDir(t, kept, s.dir)
-		s.Start(t)
-	}
+	t.Helper()
+	return logtest.Copied(t, s.dir, s.Server.Stop, s.Server.Kill, s.Start)
 }
 
 func (s *machine) Destroy(t testing.TB, name string) {

@@ -8,7 +8,7 @@ import (
 
 	"github.com/nats-io/nats.go"
 
-	"svid.example/go/v3/carriers"
+	"svid.example/go/v3/internal/pause"
 )
 
 const (
@@ -40,7 +40,7 @@ func (g *Group) Summaries(every time.Duration, summary func() ([]byte, error), a
 			if err := g.repair(subject, summary); err != nil && g.life.Err() == nil {
 				g.log("a summary has no answer", "why", err)
 			}
-			carriers.Pause(g.life, every/2+time.Duration(rand.Int63n(int64(every)+1))) // Members do not ask all at once.
+			pause.For(g.life, every/2+time.Duration(rand.Int63n(int64(every)+1))) // Members do not ask all at once.
 		}
 	}()
 }

@@ -8,7 +8,8 @@ import (
 
 	"github.com/nats-io/nats.go"
 
-	"svid.example/go/v3/carriers"
+	"svid.example/go/v3/internal/pause"
+	"svid.example/go/v3/internal/streams"
 )
 
 const (
@@ -82,7 +83,7 @@ func (g *Group) watch(b bucket) {
 		}
 		r.anew = false
 		said, behind = err.Error(), r.seen
-		carriers.Pause(g.life, rest)
+		pause.For(g.life, rest)
 	}
 }
 
@@ -319,7 +320,7 @@ func (r *reader) isLost(info *streamInfo, ask func() (streamInfo, error)) (lost 
 			r.begin(bucketOf(*info), true)
 			return true, errAnother
 		}
-		carriers.Pause(r.group.life, lossPause)
+		pause.For(r.group.life, lossPause)
 		if *info, err = ask(); err != nil {
 			return false, err
 		}
@@ -331,7 +332,7 @@ func (r *reader) ask() (streamInfo, error) { return r.group.info(r.group.life, r
 
 // mind says that someone changed the bucket, so that it may lose values. Who has read them goes on: the next one to join
 // does not.
-func (r *reader) mind(c config) {
+func (r *reader) mind(c streams.Config) {
 	err := r.group.keeps(c)
 	if err == nil {
 		r.forget = ""
@@ -412,7 +413,7 @@ func (r *reader) idle(f *feed) error {
 		if r.vain < 3 {
 			r.vain++
 		}
-		return fmt.Errorf("no value came behind %d, and %d is there", r.seen, info.State.Last)
+		return fmt.Errorf("no value came after %d, and %d is there", r.seen, info.State.Last)
 	case info.State.Last == r.seen && isLate: // The own value is lost, or was one of an earlier bucket.
 		r.group.stored.Store(r.seen)
 	}

@@ -92,7 +92,7 @@ func TestTheServersClock(t *testing.T) {
 	}
 	claimstest.Put(t, b, claim(before.Time+300))
 	shift(t, m.Pid(), 0)
-	f := claimstest.Put(t, a, claim(claimstest.Now()+300))[0]
+	f := claimstest.Put(t, a, claim(claimstest.Now()+3000))[0]
 	if f.Deaf < before.Time+claimstest.Usual.Lasts {
 		t.Errorf("behind the step back: %+v, and before %+v", f, before)
 	}
@@ -101,7 +101,7 @@ func TestTheServersClock(t *testing.T) {
 	if is := claimstest.State(t, a); is.Time < claimstest.Now()+9000 {
 		t.Errorf("%+v", is)
 	}
-	if f := claimstest.Put(t, b, claim(claimstest.Now()+300))[0]; f.Time < claimstest.Now()+9000 {
+	if f := claimstest.Put(t, b, claim(claimstest.Now()+3000))[0]; f.Time < claimstest.Now()+9000 {
 		t.Errorf("%+v", f)
 	}
 }

@@ -3,7 +3,6 @@ package nats
 import (
 	"context"
 	"fmt"
-	"os"
 	"path/filepath"
 	"sync"
 	"syscall"
@@ -13,13 +12,14 @@ import (
 	"svid.example/go/v3/claims"
 	"svid.example/go/v3/claims/claimstest"
 	"svid.example/go/v3/internal/broker"
+	"svid.example/go/v3/internal/logtest"
 	"svid.example/go/v3/internal/natstest"
 	"svid.example/go/v3/internal/patience"
 )
 
 // electing is more time than three servers need to elect the leaders of all streams: up to nine seconds for a vote, and again where a vote
 // is split, which is more often so on a busy machine.
-const electing = 40 * time.Second
+const electing = 90 * time.Second
 
 // A crowd puts claims of the same keys at several members, each call until all is answered.
 type crowd struct {
@@ -313,7 +313,7 @@ func clusterIsPutBack(t *testing.T, isSeen bool) {
 	begin := func() *Store {
 		store := newStore(t, o)
 		if isSeen {
-			store.forRun = 10 * time.Second // (a busy machine takes its time to let the other one look)
+			store.forRun = compares
 		}
 		t.Cleanup(func() { store.Close() })
 		claimstest.Open(t, store)
@@ -326,7 +326,7 @@ func clusterIsPutBack(t *testing.T, isSeen bool) {
 	all((*broker.Server).Stop)
 	kept := t.TempDir()
 	for i, dir := range dirs {
-		copied(t, dir, filepath.Join(kept, fmt.Sprint(i)))
+		logtest.CopyAll(t, dir, filepath.Join(kept, fmt.Sprint(i)))
 	}
 	start()
 	c := one(1)
@@ -336,8 +336,7 @@ func clusterIsPutBack(t *testing.T, isSeen bool) {
 	}
 	all((*broker.Server).Kill)
 	for i, dir := range dirs {
-		os.RemoveAll(filepath.Join(dir, "jetstream"))
-		copied(t, filepath.Join(kept, fmt.Sprint(i), "jetstream"), dir)
+		logtest.CopyAll(t, filepath.Join(kept, fmt.Sprint(i)), dir)
 	}
 	start()
 	c.Owner = claimstest.Own(2)
@@ -375,12 +374,7 @@ func TestALeaderHangs(t *testing.T) {
 		crowd.more(what, len(members))
 	}
 	answers("claims")
-	js, done, err := adminAt(servers[0].URL)
-	if err != nil {
-		t.Fatal(err)
-	}
-	info, err := js.StreamInfo("KV_hangs-claims")
-	done()
+	info, err := admin(t, servers[0].URL).StreamInfo("KV_hangs-claims")
 	if err != nil {
 		t.Fatal(err)
 	}

@@ -30,6 +30,10 @@ type record struct {
 	Withdrawals int64  `json:"withdrawals"` // the same
 	Deleted     uint64 `json:"deleted"`     // messages between the first claim and the last one that are gone
 	Gone        uint64 `json:"gone"`        // the same of withdrawals
+
+	// Where the stream of claims began when the epoch did, and that of withdrawals. The epoch is deaf to what was before that.
+	First           uint64 `json:"first"`
+	FirstWithdrawal uint64 `json:"first_withdrawal"`
 }
 
 // known is what a member knows of the store.

@@ -51,7 +51,7 @@ func haveEnded(t *testing.T, m *machine, o claimstest.Options, before claims.Sta
 }
 
 func one(owner int) claims.Claim {
-	return claims.Claim{Key: claimstest.Key(), Owner: claimstest.Own(owner), Expires: claimstest.Now() + 300}
+	return claims.Claim{Key: claimstest.Key(), Owner: claimstest.Own(owner), Expires: claimstest.Now() + 3000}
 }
 
 func wantOwner(t *testing.T, f claims.Found, owner claims.Owner) {
@@ -128,7 +128,7 @@ func TestAnAnswerThatNeverComes(t *testing.T) {
 	t.Parallel()
 	m := newMachine(t)
 	a := open(t, m, claimstest.Options{Name: "never", Terms: claimstest.Usual})
-	nc, err := client.Connect(m.URL)
+	nc, err := client.Connect(m.URL, client.Timeout(patience.Long))
 	if err != nil {
 		t.Fatal(err)
 	}
@@ -136,7 +136,7 @@ func TestAnAnswerThatNeverComes(t *testing.T) {
 	if _, err := nc.Subscribe("silent", func(*client.Msg) {}); err != nil {
 		t.Fatal(err)
 	}
-	nc.Flush()
+	nc.FlushTimeout(patience.Long)
 	const questions = 500
 	answered := make(chan int, questions)
 	ctx, cancel := context.WithCancel(context.Background())
@@ -296,6 +296,39 @@ func TestSettingsThatLose(t *testing.T) {
 	wantOwner(t, claimstest.Put(t, b, one(3))[0], claimstest.Own(3))
 }
 
+// Entries that left too early end one epoch, and not each one that follows: for who saw that, and for who starts later.
+func TestWhatLeftTooEarlyEndsOneEpoch(t *testing.T) {
+	t.Parallel()
+	m := newMachine(t)
+	o := claimstest.Options{Name: "early", Terms: claimstest.Usual}
+	a, b := open(t, m, o), open(t, m, o)
+	before := claimstest.State(t, a)
+	claimstest.Put(t, a, one(1))
+	js := admin(t, m.URL)
+	i, err := js.StreamInfo(a.stream(ofClaims))
+	if err != nil {
+		t.Fatal(err)
+	}
+	due := i.Config
+	i.Config.MaxAge, i.Config.Duplicates = time.Second, 0
+	for _, config := range []client.StreamConfig{i.Config, due} {
+		if _, err := js.UpdateStream(&config); err != nil {
+			t.Fatal(err)
+		}
+		natstest.Await(t, "the claim to go", func() bool {
+			is, err := js.StreamInfo(a.stream(ofClaims))
+			return err == nil && is.State.Msgs == 0
+		})
+	}
+	haveEnded(t, m, o, before, a, b)
+	next := claimstest.State(t, a)
+	for _, store := range []*Store{a, b, open(t, m, o), a, b} {
+		if is := claimstest.State(t, store); is.Epoch != next.Epoch || is.Deaf != next.Deaf {
+			t.Errorf("%+v, and then %+v", next, is)
+		}
+	}
+}
+
 // Each setting by which a stream may lose claims, or can't be written, is named, with what it must be.
 func TestUnfitStreams(t *testing.T) {
 	t.Parallel()
@@ -347,7 +380,7 @@ func TestAStreamIsMadeAnew(t *testing.T) {
 			before := claimstest.State(t, a)
 			c := one(1)
 			wantOwner(t, claimstest.Put(t, a, c)[0], c.Owner)
-			if _, err := b.Withdraw(patient(t), claims.Withdrawal{Key: claimstest.Key(), Expires: claimstest.Now() + 300}); err != nil {
+			if _, err := b.Withdraw(patient(t), claims.Withdrawal{Key: claimstest.Key(), Expires: claimstest.Now() + 3000}); err != nil {
 				t.Fatal(err)
 			}
 			js := admin(t, m.URL)
@@ -381,8 +414,7 @@ func TestALostTail(t *testing.T) {
 	t.Parallel()
 	for name, lose := range map[string]func(t *testing.T, folder, kept string){
 		"the last ones": func(t *testing.T, folder, kept string) {
-			os.RemoveAll(folder)
-			copied(t, kept, folder)
+			logtest.CopyAll(t, kept, folder)
 		},
 		"all": func(t *testing.T, folder, _ string) {
 			blocks, _ := filepath.Glob(filepath.Join(folder, "msgs", "*"))
@@ -408,7 +440,7 @@ func TestALostTail(t *testing.T) {
 			folder := filepath.Join(m.dir, "jetstream", "$G", "streams", a.stream(ofClaims))
 			kept := filepath.Join(t.TempDir(), "kept")
 			m.Server.Stop()
-			copied(t, folder, kept)
+			logtest.CopyAll(t, folder, kept)
 			m.Start(t)
 			c := one(1)
 			wantOwner(t, claimstest.Put(t, a, c)[0], c.Owner)
@@ -631,7 +663,7 @@ func TestATokenThatLivesTooLong(t *testing.T) {
 		t.Errorf("%+v", found[0])
 	}
 	wantOwner(t, found[1], fine.Owner)
-	c.Owner, c.Expires = claimstest.Own(2), claimstest.Now()+300
+	c.Owner, c.Expires = claimstest.Own(2), claimstest.Now()+3000
 	wantOwner(t, claimstest.Put(t, b, c)[0], c.Owner)
 }
 
@@ -756,6 +788,7 @@ func TestAMemberHearsOfAnotherStore(t *testing.T) {
 	claimstest.Put(t, a, one(1))
 	claimstest.Watch(t, a)
 	m.Empty(t, o.Name)
+	o.Compares = true
 	late := open(t, m, o)
 	if is := claimstest.State(t, late); is.Epoch == before.Epoch || is.Deaf < before.Time+o.Terms.Lasts {
 		t.Errorf("%+v, and before %+v", is, before)

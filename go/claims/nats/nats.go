@@ -26,6 +26,7 @@ import (
 	client "github.com/nats-io/nats.go"
 
 	"svid.example/go/v3/claims"
+	"svid.example/go/v3/internal/pause"
 	"svid.example/go/v3/svid"
 )
 
@@ -86,6 +87,7 @@ type Store struct {
 	settling *settling
 	every    time.Duration // between two looks at the streams
 	forRun   time.Duration // for which this member waits at a new run of the server for others that miss claims
+	forNew   time.Duration // and in a new store, for others that know another one
 	looked   atomic.Int64  // when all was found to be as it must be, by this machine's clock, in nanoseconds since 1970
 
 	unsteady atomic.Uint64 // how often the server was away, or did not answer
@@ -127,7 +129,7 @@ func New(o Options) (*Store, error) {
 	if o.Replicas == 0 {
 		o.Replicas = 1
 	}
-	s := &Store{o: o, base: "$KV." + o.Name + "-claims.", random: bufio.NewReaderSize(rand.Reader, 1<<10), waiting: map[string]slot{}, every: lookEvery, forRun: waitRun}
+	s := &Store{o: o, base: "$KV." + o.Name + "-claims.", random: bufio.NewReaderSize(rand.Reader, 1<<10), waiting: map[string]slot{}, every: lookEvery, forRun: waitRun, forNew: waitNew}
 	s.life, s.end = context.WithCancel(context.Background())
 	s.doubts.Store(1) // Nothing is known of the server yet.
 	return s, nil
@@ -165,19 +167,21 @@ func (s *Store) connect(ctx context.Context) error {
 		client.ErrorHandler(func(_ *client.Conn, _ *client.Subscription, err error) { s.log("broker says", "why", err) }),
 	}, s.o.Connect...)
 	var nc *client.Conn
-	err := persist(ctx, "connect", func() (bool, error) {
+	for {
 		var err error
-		nc, err = client.Connect(strings.Join(s.o.Servers, ","), options...)
-		return err == nil, err
-	})
-	if err != nil {
-		return err
+		if nc, err = client.Connect(strings.Join(s.o.Servers, ","), options...); err == nil {
+			break
+		}
+		if !pause.For(ctx, againWait) {
+			return failed("connect", err)
+		}
 	}
 	s.inbox = client.NewInbox()
 	if _, err := nc.Subscribe(s.inbox+".*", s.hear); err != nil {
 		nc.Close()
 		return err
 	}
+	var err error
 	if s.told, err = nc.SubscribeSync(s.base + "e.*"); err != nil {
 		nc.Close()
 		return err
@@ -194,35 +198,6 @@ func (s *Store) Close() error {
 	}
 	s.away(client.ErrConnectionClosed)
 	return nil
-}
-
-// persist does something again and again until it is done or ctx ends. do says whether it is done, also with an error for good.
-func persist(ctx context.Context, what string, do func() (bool, error)) error {
-	for {
-		done, err := do()
-		if done || err == nil {
-			return err
-		}
-		var unfit *claims.Unfit
-		if errors.As(err, &unfit) {
-			return err
-		}
-		if !pause(ctx, againWait) {
-			return failed(what, err)
-		}
-	}
-}
-
-// pause waits. It says whether ctx goes on.
-func pause(ctx context.Context, wait time.Duration) bool {
-	timer := time.NewTimer(wait)
-	defer timer.Stop()
-	select {
-	case <-ctx.Done():
-		return false
-	case <-timer.C:
-		return true
-	}
 }
 
 // keyText is a key as a part of a subject.

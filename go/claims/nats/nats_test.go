@@ -4,7 +4,6 @@ import (
 	"context"
 	"fmt"
 	"os"
-	"os/exec"
 	"path/filepath"
 	"strings"
 	"syscall"
@@ -16,10 +15,14 @@ import (
 	"svid.example/go/v3/claims"
 	"svid.example/go/v3/claims/claimstest"
 	"svid.example/go/v3/internal/broker"
+	"svid.example/go/v3/internal/logtest"
 	"svid.example/go/v3/internal/natstest"
 	"svid.example/go/v3/internal/patience"
 	"svid.example/go/v3/svid"
 )
+
+// compares is for how long a member waits for another one that looks at once: a busy machine takes its time.
+const compares = 10 * time.Second
 
 func TestMain(m *testing.M) {
 	waitNew, lookEvery = 2*time.Second, 0
@@ -90,25 +93,7 @@ func (m *machine) Resume(testing.TB) { syscall.Kill(m.Pid(), syscall.SIGCONT) }
 
 func (m *machine) Copy(t testing.TB) (restore func()) {
 	t.Helper()
-	kept := filepath.Join(t.TempDir(), "kept")
-	m.Server.Stop()
-	copied(t, m.dir, kept)
-	m.Start(t)
-	return func() {
-		m.Server.Kill()
-		if err := os.RemoveAll(filepath.Join(m.dir, "jetstream")); err != nil {
-			t.Fatal(err)
-		}
-		copied(t, filepath.Join(kept, "jetstream"), filepath.Join(m.dir, "jetstream"))
-		m.Start(t)
-	}
-}
-
-func copied(t testing.TB, from, to string) {
-	t.Helper()
-	if text, err := exec.Command("cp", "-a", from, to).CombinedOutput(); err != nil {
-		t.Fatalf("cp: %v: %s", err, text)
-	}
+	return logtest.Copied(t, m.dir, m.Server.Stop, m.Server.Kill, m.Start)
 }
 
 func (m *machine) Store(t testing.TB, o claimstest.Options) claims.Store {
@@ -117,7 +102,11 @@ func (m *machine) Store(t testing.TB, o claimstest.Options) claims.Store {
 	if o.Address != "" {
 		url = "nats://" + o.Address
 	}
-	return newStore(t, Options{Servers: []string{url}, Name: o.Name, Terms: o.Terms})
+	s := newStore(t, Options{Servers: []string{url}, Name: o.Name, Terms: o.Terms})
+	if o.Compares {
+		s.forRun, s.forNew = compares, compares
+	}
+	return s
 }
 
 func newStore(t testing.TB, o Options) *Store {
@@ -136,11 +125,11 @@ func newStore(t testing.TB, o Options) *Store {
 
 // adminAt does what an administrator can.
 func adminAt(url string) (js client.JetStreamContext, done func(), err error) {
-	nc, err := client.Connect(url)
+	nc, err := client.Connect(url, client.Timeout(patience.Long))
 	if err != nil {
 		return nil, nil, err
 	}
-	if js, err = nc.JetStream(client.MaxWait(5 * time.Second)); err != nil {
+	if js, err = nc.JetStream(client.MaxWait(patience.Long / 4)); err != nil {
 		nc.Close()
 	}
 	return js, nc.Close, err
@@ -148,12 +137,7 @@ func adminAt(url string) (js client.JetStreamContext, done func(), err error) {
 
 func admin(t testing.TB, url string) client.JetStreamContext {
 	t.Helper()
-	js, done, err := adminAt(url)
-	if err != nil {
-		t.Fatal(err)
-	}
-	t.Cleanup(done)
-	return js
+	return natstest.JetStream(t, natstest.Connect(t, url))
 }
 
 func (m *machine) Empty(t testing.TB, name string) {

@@ -10,6 +10,7 @@ import (
 	client "github.com/nats-io/nats.go"
 
 	"svid.example/go/v3/claims"
+	"svid.example/go/v3/internal/pause"
 	"svid.example/go/v3/svid"
 )
 
@@ -234,7 +235,7 @@ func (s *Store) settleThese(ctx context.Context, these []claims.Claim, outcomes 
 		if ctx.Err() != nil {
 			return 0, nil, failed("put", errLate)
 		}
-		if s.doubts.Load() == doubts && !pause(ctx, againWait) {
+		if s.doubts.Load() == doubts && !pause.For(ctx, againWait) {
 			return 0, nil, failed("put", errLate)
 		}
 	}

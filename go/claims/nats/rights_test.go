@@ -14,6 +14,7 @@ import (
 	"svid.example/go/v3/claims"
 	"svid.example/go/v3/claims/claimstest"
 	"svid.example/go/v3/internal/natstest"
+	"svid.example/go/v3/internal/patience"
 )
 
 // permitted is a server where a member has the rights of permissions.conf, and who shows no password is an administrator.
@@ -36,7 +37,7 @@ no_auth_user: admin
 func TestRightsSuffice(t *testing.T) {
 	t.Parallel()
 	m, member, rights := permitted(t)
-	spy, err := client.Connect(m.URL)
+	spy, err := client.Connect(m.URL, client.Timeout(patience.Long))
 	if err != nil {
 		t.Fatal(err)
 	}
@@ -52,7 +53,7 @@ func TestRightsSuffice(t *testing.T) {
 			t.Fatal(err)
 		}
 	}
-	spy.Flush()
+	spy.FlushTimeout(patience.Long)
 	o := Options{Servers: []string{m.URL}, Name: "svid", Terms: claimstest.Usual, Connect: []client.Option{member}}
 	begin := func() *Store {
 		s := newStore(t, o)
@@ -80,7 +81,7 @@ func TestRightsSuffice(t *testing.T) {
 		other := c
 		other.Owner = claimstest.Own(2)
 		wantOwner(t, claimstest.Put(t, b, other)[0], c.Owner)
-		w := claims.Withdrawal{Key: claimstest.Key(), Expires: claimstest.Now() + 300}
+		w := claims.Withdrawal{Key: claimstest.Key(), Expires: claimstest.Now() + 3000}
 		claimstest.Withdraw(t, b, w)
 		if all, _ := claimstest.Withdrawals(t, a, ""); len(all) == 0 || all[len(all)-1] != w {
 			t.Errorf("%v", all)
@@ -123,20 +124,20 @@ func TestRightsDoNoMore(t *testing.T) {
 	t.Cleanup(func() { a.Close() })
 	claimstest.Open(t, a)
 	denied := make(chan string, 100)
-	nc, err := client.Connect(m.URL, member, client.ErrorHandler(func(_ *client.Conn, _ *client.Subscription, err error) { denied <- err.Error() }))
+	nc, err := client.Connect(m.URL, member, client.Timeout(patience.Long), client.ErrorHandler(func(_ *client.Conn, _ *client.Subscription, err error) { denied <- err.Error() }))
 	if err != nil {
 		t.Fatal(err)
 	}
 	defer nc.Close()
 	violation := func(what string) {
 		t.Helper()
-		nc.Flush()
+		nc.FlushTimeout(patience.Long)
 		select {
 		case said := <-denied:
 			if !strings.Contains(strings.ToLower(said), "permissions violation") || !strings.Contains(said, what) {
 				t.Errorf("%s: %s", what, said)
 			}
-		case <-time.After(10 * time.Second):
+		case <-time.After(patience.Long):
 			t.Errorf("%s is permitted", what)
 		}
 	}

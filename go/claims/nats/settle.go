@@ -11,6 +11,8 @@ import (
 	client "github.com/nats-io/nats.go"
 
 	"svid.example/go/v3/claims"
+	"svid.example/go/v3/internal/pause"
+	"svid.example/go/v3/internal/streams"
 )
 
 // A settling finds out what the store is.
@@ -70,7 +72,7 @@ func (s *Store) ready(ctx context.Context) (*known, uint64, error) {
 			if why = now.err; errors.As(why, &unfit) {
 				return nil, 0, why
 			}
-			if why != nil && !pause(ctx, againWait) {
+			if why != nil && !pause.For(ctx, againWait) {
 				return nil, 0, why
 			}
 		case <-ctx.Done():
@@ -142,7 +144,7 @@ func (s *Store) check(ctx context.Context) error {
 		return err
 	}
 	s.steady = unsteady
-	x.is.age = time.Duration(x.all[ofClaims].Config.number("max_age"))
+	x.is.age = time.Duration(x.all[ofClaims].Config.Number("max_age"))
 	s.learn(x.is)
 	if x.is.isAlone {
 		s.reached(x.all[ofClaims].State.Last, x.all[ofWithdrawals].State.Last)
@@ -265,17 +267,17 @@ func (s *Store) raise(ctx context.Context, x exam) error {
 	terms := is.terms()
 	terms.Lasts = want.Lasts
 	for _, k := range []kind{ofClaims, ofWithdrawals} {
-		if n := x.all[k].Config.number("max_age"); n == 0 || n >= int64(age(terms)) {
+		if n := x.all[k].Config.Number("max_age"); n == 0 || n >= int64(age(terms)) {
 			continue
 		}
-		wanted := config{}
+		wanted := streams.Config{}
 		for name, value := range x.all[k].Config {
 			wanted[name] = value
 		}
 		wanted["max_age"] = json.RawMessage(fmt.Sprint(int64(age(terms))))
 		if err := s.api(ctx, "STREAM.UPDATE."+s.stream(k), wanted, nil); err != nil {
 			return claims.Unfitf("claims: the stream %s keeps entries for %v, and tokens of %d s want %v: run nats stream edit --max-age=%v %s (%v)", s.stream(k),
-				time.Duration(x.all[k].Config.number("max_age")), want.Lasts, age(terms), age(terms), s.stream(k), err)
+				time.Duration(x.all[k].Config.Number("max_age")), want.Lasts, age(terms), age(terms), s.stream(k), err)
 		}
 	}
 	for try := 0; is.Lasts < want.Lasts; try++ {
@@ -299,14 +301,14 @@ func (s *Store) raise(ctx context.Context, x exam) error {
 func (s *Store) quarantine(ctx context.Context, x exam, k *known, unsteady bool) error {
 	is, now, until := x.is, x.now, int64(0)
 	if k == nil && is.Before == "" {
-		until = is.Began + int64(waitNew)
+		until = is.Began + int64(s.forNew)
 	}
 	if wait := now + int64(s.forRun); (is.Run != x.run || unsteady && !is.isAlone && k != nil) && until < wait {
 		until = wait
 	}
 	isNew := k == nil && now < until
 	for now < until {
-		if !pause(ctx, quarantineLook) {
+		if !pause.For(ctx, quarantineLook) {
 			return ctx.Err()
 		}
 		var err error
@@ -351,7 +353,7 @@ func (x *exam) noted(r record) record {
 }
 
 func (i *info) isAlone() bool {
-	return i.Cluster == nil && i.Config.number("num_replicas") == 1 && string(i.Config["allow_direct"]) == "true"
+	return i.Cluster == nil && i.Config.Number("num_replicas") == 1 && string(i.Config["allow_direct"]) == "true"
 }
 
 // present returns all streams. It makes those that are missing; the loss says which, if there was a store before.
@@ -378,7 +380,7 @@ func (s *Store) present(ctx context.Context, k *known) (all [kinds]*info, missin
 		if isWhole {
 			return all, missing, nil
 		}
-		if !pause(ctx, againWait) {
+		if !pause.For(ctx, againWait) {
 			return all, "", ctx.Err()
 		}
 	}
@@ -447,6 +449,7 @@ func (s *Store) write(ctx context.Context, x exam, r record, run string, isEnd b
 		if r.Epoch, err = newLink(); err != nil {
 			return err
 		}
+		r.First, r.FirstWithdrawal = all[ofClaims].State.First, all[ofWithdrawals].State.First
 	}
 	r.Began, r.Run = x.now, run
 	r.Deleted, r.Gone = all[ofClaims].State.Deleted, all[ofWithdrawals].State.Deleted
@@ -474,7 +477,7 @@ func (s *Store) write(ctx context.Context, x exam, r record, run string, isEnd b
 			return err
 		}
 		// A server that was just elected may not have read it yet. If it never comes, it is another stream by now.
-		if time.Since(from) > lossWait || !pause(ctx, againWait) {
+		if time.Since(from) > lossWait || !pause.For(ctx, againWait) {
 			return failed("write the epoch's record", errLate)
 		}
 	}
@@ -531,10 +534,10 @@ func (s *Store) missed(ctx context.Context, x exam) (loss, error) {
 	if now+int64(seconds(is.Back)) < s.time.Load() || now+int64(seconds(is.Back)) < is.Began {
 		return loss(fmt.Sprintf("the store's time went back to %d", now/int64(time.Second))), nil
 	}
-	if why := s.front(is, c, now, ofClaims); why != "" {
+	if why := s.front(is, c, now, ofClaims, is.First); why != "" {
 		return why, nil
 	}
-	if why := s.front(is, w, now, ofWithdrawals); why != "" {
+	if why := s.front(is, w, now, ofWithdrawals, is.FirstWithdrawal); why != "" {
 		return why, nil
 	}
 	if own.time != 0 && now-own.time < int64(age(is.terms()))/2 {
@@ -556,9 +559,10 @@ type sample struct {
 	last uint64
 }
 
-// front says what is lost in front of a stream's first message: what came after a sample must be there until it has the stream's age.
-func (s *Store) front(is *known, i *info, now int64, k kind) loss {
-	keeps := i.Config.number("max_age")
+// front says what is lost in front of a stream's first message: what came after a sample must be there until it has the stream's age, unless it
+// was gone when the epoch began, at the position first.
+func (s *Store) front(is *known, i *info, now int64, k kind, first uint64) loss {
+	keeps := i.Config.Number("max_age")
 	if keeps == 0 {
 		keeps = 1 << 62
 	}
@@ -571,7 +575,7 @@ func (s *Store) front(is *known, i *info, now int64, k kind) loss {
 	}
 	slack := int64(seconds(is.Back)) + int64(time.Second)
 	for _, one := range all {
-		if i.State.First > one.last+1 && now-one.time < keeps-slack {
+		if i.State.First > one.last+1 && i.State.First > first && now-one.time < keeps-slack {
 			return loss(fmt.Sprintf("messages are gone from the beginning of %s, and are too young for that", s.stream(k)))
 		}
 	}

@@ -1,18 +1,17 @@
 package nats
 
 import (
-	"bytes"
 	"context"
 	"encoding/json"
 	"errors"
 	"fmt"
-	"sort"
-	"strings"
 	"time"
 
 	client "github.com/nats-io/nats.go"
 
 	"svid.example/go/v3/claims"
+	"svid.example/go/v3/internal/pause"
+	"svid.example/go/v3/internal/streams"
 )
 
 // A kind is one of the group's streams.
@@ -37,7 +36,7 @@ func (s *Store) stream(k kind) string { return "KV_" + s.o.Name + "-claims" + en
 
 // An info is what the server says about a stream.
 type info struct {
-	Config  config
+	Config  streams.Config
 	Created time.Time
 	State   struct {
 		First   uint64 `json:"first_seq"`
@@ -45,14 +44,6 @@ type info struct {
 		Deleted uint64 `json:"num_deleted"`
 	}
 	Cluster *struct{ Leader string }
-}
-
-// A config is each setting of a stream, by its name.
-type config map[string]json.RawMessage
-
-func (c config) number(name string) (n int64) {
-	_ = json.Unmarshal(c[name], &n)
-	return n
 }
 
 // age is for how long claims and withdrawals stay that these terms have: one is put when its token may live for Lasts by a time that the
@@ -87,77 +78,29 @@ func (s *Store) due(k kind) map[string]any {
 	return due
 }
 
-// free are the settings that may have any value: none of them makes a stream forget. (No message of a member has the id by which a server
-// finds duplicates.)
-var free = map[string]bool{"description": true, "metadata": true, "placement": true, "compression": true, "duplicate_window": true,
-	"allow_direct": true}
-
-// off are the values of a setting that is not set. All settings that are neither due nor free must be so, also those that only servers of
-// the future know.
-var off = map[string]bool{"": true, "false": true, "0": true, `""`: true, "null": true, "[]": true, "{}": true}
-
-// fixed are the settings that no server changes once the stream is made.
-var fixed = map[string]bool{"storage": true, "retention": true, "max_consumers": true, "mirror": true, "republish": true, "sealed": true,
-	"template_owner": true, "first_seq": true}
-
 // fit is an *Unfit where a stream with these settings may lose what it has, or can't be written. It says which are wrong, what they are and
 // what they must be.
-func (s *Store) fit(k kind, c config, terms claims.Terms) error {
-	var wrong []string
-	remake := false
-	say := func(name, due string) {
-		is := string(c[name])
-		if is == "" {
-			is = "missing"
-		}
-		wrong = append(wrong, fmt.Sprintf("%s is %s and must be %s", name, is, due))
-		remake = remake || fixed[name]
+func (s *Store) fit(k kind, c streams.Config, terms claims.Terms) error {
+	due := map[string]streams.Setting{}
+	for name, value := range s.due(k) {
+		due[name] = streams.Exactly(value)
 	}
-	due := s.due(k)
-	for name, value := range due {
-		if free[name] {
-			continue
-		}
-		n, isNumber := c.number(name), true
-		switch name {
-		case "max_age":
-			if least := int64(age(terms)); (k == ofClaims || k == ofWithdrawals) && n != 0 && n < least {
-				say(name, fmt.Sprintf("0 or at least %d (%v)", least, time.Duration(least)))
-			} else if k == ofEpochs && n != 0 {
-				say(name, "0")
-			}
-		case "max_msg_size":
-			if n != -1 && n < most[k] {
-				say(name, fmt.Sprintf("-1 or at least %d", most[k]))
-			}
-		case "num_replicas":
-			if n < int64(s.o.Replicas) {
-				say(name, fmt.Sprintf("at least %d", s.o.Replicas))
-			}
-		default:
-			isNumber = false
-		}
-		if isNumber {
-			continue
-		}
-		if text, err := json.Marshal(value); err != nil || !bytes.Equal(text, c[name]) && !(string(text) == "false" && off[string(c[name])]) {
-			say(name, string(text))
-		}
+	due["max_msg_size"], due["num_replicas"] = streams.MessageSize(most[k]), streams.Replicas(s.o.Replicas)
+	switch k {
+	case ofClaims, ofWithdrawals:
+		due["max_age"] = streams.Age(age(terms))
+	case ofClock:
+		due["max_age"] = streams.Any
 	}
-	for name, value := range c {
-		if _, is := due[name]; !is && !free[name] && !off[string(value)] {
-			say(name, "left out")
-		}
-	}
-	if len(wrong) == 0 {
+	wrong, isFixed := c.Wrong(due)
+	if wrong == "" {
 		return nil
 	}
-	sort.Strings(wrong)
 	what := "change them (nats stream edit)"
-	if remake {
+	if isFixed {
 		what = "stop the whole group for as long as a token may live, remove the stream (nats stream rm) and start the group again"
 	}
-	return claims.Unfitf("claims: the stream %s may lose claims: %s: %s; see docs/STORES.md, \"NATS\"", s.stream(k), strings.Join(wrong, ", "), what)
+	return claims.Unfitf("claims: the stream %s may lose claims: %s: %s; see docs/STORES.md, \"NATS\"", s.stream(k), wrong, what)
 }
 
 // api asks JetStream's API, and reads the answer into out.
@@ -236,7 +179,7 @@ func (s *Store) make(ctx context.Context, k kind) error {
 			return nil
 		}
 		if is(err, overlaps) && time.Since(begun) < making {
-			if !pause(ctx, againWait) {
+			if !pause.For(ctx, againWait) {
 				return ctx.Err()
 			}
 			continue

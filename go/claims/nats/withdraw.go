@@ -12,6 +12,7 @@ import (
 	client "github.com/nats-io/nats.go"
 
 	"svid.example/go/v3/claims"
+	"svid.example/go/v3/internal/pause"
 	"svid.example/go/v3/svid"
 )
 
@@ -183,7 +184,7 @@ func (s *Store) state(ctx context.Context) (claims.State, error) {
 		if ctx.Err() != nil {
 			return claims.State{}, failed("read the state", errLate)
 		}
-		if err != nil && !pause(ctx, againWait) {
+		if err != nil && !pause.For(ctx, againWait) {
 			return claims.State{}, err
 		}
 	}

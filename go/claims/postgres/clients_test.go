@@ -18,6 +18,7 @@ import (
 	"svid.example/go/v3/claims"
 	"svid.example/go/v3/claims/claimstest"
 	"svid.example/go/v3/internal/logtest"
+	"svid.example/go/v3/internal/patience"
 )
 
 // clientEnv names the command that makes the calls of a client of another language. With it, the tests of this package are tests of that client.
@@ -173,9 +174,9 @@ func maximum(a, b int) int {
 	return b
 }
 
-// call makes a call, for which it gives the client as long as ctx has, but no longer than a client of a service does.
-func (r *remote) call(ctx context.Context, longest time.Duration, name string, words ...string) ([]string, error) {
-	wait := longest
+// call makes a call, for which it gives the client as long as ctx has.
+func (r *remote) call(ctx context.Context, name string, words ...string) ([]string, error) {
+	wait := patience.Long
 	if end, ok := ctx.Deadline(); ok && time.Until(end) < wait {
 		wait = time.Until(end)
 	}
@@ -191,7 +192,7 @@ func (r *remote) make() {
 	for _, url := range r.options.URLs {
 		s, err := New(Options{URLs: []string{url}, Name: r.options.Name, Terms: r.options.Terms})
 		if err == nil {
-			ctx, cancel := context.WithTimeout(context.Background(), 5*time.Second)
+			ctx, cancel := context.WithTimeout(context.Background(), patience.Long)
 			s.make(ctx)
 			cancel()
 			s.Close()
@@ -217,7 +218,7 @@ func (r *remote) Open(ctx context.Context) (claims.State, error) {
 func (r *remote) State(ctx context.Context) (claims.State, error) { return r.state(ctx, "state") }
 
 func (r *remote) state(ctx context.Context, name string) (is claims.State, err error) {
-	answer, err := r.call(ctx, 5*time.Second, name)
+	answer, err := r.call(ctx, name)
 	if err != nil {
 		return is, err
 	}
@@ -236,7 +237,7 @@ func (r *remote) Put(ctx context.Context, these []claims.Claim, found []claims.F
 	for i, c := range these {
 		words[i] = fmt.Sprintf("%x:%x:%d", c.Key[:], c.Owner[:], c.Expires)
 	}
-	answer, err := r.call(ctx, time.Minute, "put", words...)
+	answer, err := r.call(ctx, "put", words...)
 	if err == nil && len(answer) != len(these) {
 		err = fmt.Errorf("%d answers to %d claims", len(answer), len(these))
 	}
@@ -271,7 +272,7 @@ func foundOf(words []string) (f claims.Found) {
 }
 
 func (r *remote) Withdraw(ctx context.Context, w claims.Withdrawal) (owner claims.Owner, err error) {
-	answer, err := r.call(ctx, 5*time.Second, "withdraw", hex.EncodeToString(w.Key[:]), text64(w.Expires))
+	answer, err := r.call(ctx, "withdraw", hex.EncodeToString(w.Key[:]), text64(w.Expires))
 	if err != nil {
 		return owner, err
 	}
@@ -281,7 +282,7 @@ func (r *remote) Withdraw(ctx context.Context, w claims.Withdrawal) (owner claim
 }
 
 func (r *remote) Withdrawals(ctx context.Context, after string) (these []claims.Withdrawal, last string, err error) {
-	answer, err := r.call(ctx, 5*time.Second, "withdrawals", "x"+hex.EncodeToString([]byte(after)))
+	answer, err := r.call(ctx, "withdrawals", "x"+hex.EncodeToString([]byte(after)))
 	if err != nil {
 		return nil, after, err
 	}
@@ -342,7 +343,7 @@ func together(t *testing.T, s *machine, ours, theirs claims.Store) {
 	logtest.Await(t, "more claims", func() bool { return ledger.Len() > n+200 })
 	end()
 	for n, by := range []claims.Store{ours, theirs} {
-		w := claims.Withdrawal{Key: claimstest.Key(), Expires: claimstest.Now() + 300}
+		w := claims.Withdrawal{Key: claimstest.Key(), Expires: claimstest.Now() + 3000}
 		claimstest.Withdraw(t, by, w)
 		other := []claims.Store{theirs, ours}[n]
 		if all, _ := claimstest.Withdrawals(t, other, ""); len(all) != n+1 || all[n] != w {

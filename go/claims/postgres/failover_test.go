@@ -112,7 +112,7 @@ func TestFailoverToAStandbyThatHasAll(t *testing.T) {
 func TestFailoverToTheWrongStandby(t *testing.T) {
 	t.Parallel()
 	primary := start(t)
-	primary.do(t, Schema("svid", claimstest.Usual, ""))
+	primary.do(t, schemaWith("svid", "5 seconds")) // (in which the other member looks)
 	right := follow(t, primary, "-c", "cluster_name=right")
 	wrong := follow(t, primary, "-c", "cluster_name=wrong")
 	primary.do(t, "ALTER SYSTEM SET synchronous_standby_names = '\"right\"'")
@@ -146,7 +146,7 @@ func TestFailoverToTheWrongStandby(t *testing.T) {
 func TestTwoPrimaries(t *testing.T) {
 	t.Parallel()
 	primary := start(t)
-	primary.do(t, strings.ReplaceAll(Schema("svid", claimstest.Usual, ""), fmt.Sprintf("interval '%d milliseconds'", quarantine.Milliseconds()), "interval '3 seconds'"))
+	primary.do(t, schemaWith("svid", "3 seconds"))
 	standby := follow(t, primary)
 	a := open(t, Options{URLs: []string{primary.URL, standby.URL}, Name: "svid"})
 	b := open(t, Options{URLs: []string{standby.URL, primary.URL}, Name: "svid"})
@@ -177,7 +177,7 @@ func TestTwoPrimaries(t *testing.T) {
 		t.Errorf("%+v", is)
 	}
 	// What it has since then counts for nobody who knows both.
-	split := claims.Claim{Key: claimstest.Key(), Owner: claimstest.Own(7), Expires: claimstest.Now() + 300}
+	split := claims.Claim{Key: claimstest.Key(), Owner: claimstest.Own(7), Expires: claimstest.Now() + 3000}
 	mine(t, old, split)
 	for _, store := range []claims.Store{a, b, c} {
 		if is := claimstest.State(t, store); is.Epoch == before.Epoch {
@@ -261,7 +261,7 @@ func TestStandbysAreNotWaitedForAnyMore(t *testing.T) {
 	}
 	for _, c := range append(these, claim(1)) {
 		var unfit *claims.Unfit
-		if f := claimstest.Try(a, time.Second, c)[0]; !errors.As(f.Err, &unfit) || !strings.Contains(f.Err.Error(), "synchronous_standby_names") {
+		if f := claimstest.Try(a, patience.Long, c)[0]; !errors.As(f.Err, &unfit) || !strings.Contains(f.Err.Error(), "synchronous_standby_names") {
 			t.Errorf("%+v", f)
 		}
 	}

@@ -9,6 +9,7 @@ import (
 
 	"svid.example/go/v3/claims"
 	"svid.example/go/v3/claims/claimstest"
+	"svid.example/go/v3/internal/logtest"
 )
 
 // A member that claims a token and does not commit that holds up nobody who claims another one, also in a call that has both.
@@ -35,21 +36,24 @@ func TestAClaimThatIsNotCommitted(t *testing.T) {
 	for i := 0; i < 255; i++ {
 		these = append(these, claim(2))
 	}
-	from := time.Now()
-	found := claimstest.Try(a, 4*time.Second, these...)
-	t.Log(time.Since(from))
-	if found[0].Err == nil {
-		t.Errorf("%+v", found[0])
-	}
-	failed := 0
-	for _, f := range found[1:] {
-		if f.Err != nil {
-			failed++
+	wait := 4 * time.Second
+	logtest.Await(t, "the others", func() bool {
+		found := claimstest.Try(a, wait, these...)
+		wait *= 2 // (a busy machine may be slow)
+		if found[0].Err == nil {
+			t.Fatalf("%+v", found[0])
 		}
-	}
-	if failed > 0 {
-		t.Errorf("%d of %d others fail: %v", failed, len(found)-1, found[1].Err)
-	}
+		failed := 0
+		for _, f := range found[1:] {
+			if f.Err != nil {
+				failed++
+			}
+		}
+		if failed > 0 {
+			t.Logf("%d of %d others fail: %v", failed, len(found)-1, found[1].Err)
+		}
+		return failed == 0
+	})
 	begun.Rollback()
 	mine(t, a, held)
 }

@@ -27,7 +27,7 @@ func open(t testing.TB, o Options) claims.Store {
 
 // claim is one of an owner, under a key of its own.
 func claim(n int) claims.Claim {
-	return claims.Claim{Key: claimstest.Key(), Owner: claimstest.Own(n), Expires: claimstest.Now() + 300}
+	return claims.Claim{Key: claimstest.Key(), Owner: claimstest.Own(n), Expires: claimstest.Now() + 3000}
 }
 
 // by is the same claim by another owner.
@@ -215,7 +215,7 @@ func TestOneOrder(t *testing.T) {
 	logtest.Await(t, "the call to wait", func() bool {
 		return s.Do(`DO $$ BEGIN ASSERT EXISTS (SELECT FROM pg_stat_activity WHERE wait_event_type = 'Lock' AND query LIKE '%put(%'); END $$`) == nil
 	})
-	if f := claimstest.Try(b, 5*time.Second, second)[0]; f.Err != nil || f.Owner != second.Owner {
+	if f := claimstest.Try(b, patience.Long, second)[0]; f.Err != nil || f.Owner != second.Owner {
 		t.Errorf("held up by a call that waits for another claim: %+v", f)
 	}
 	c.close()
@@ -234,7 +234,7 @@ func TestWithdrawalsOfAnotherEpoch(t *testing.T) {
 	a, b := open(t, o), open(t, o)
 	withdraw := func(n int) {
 		for ; n > 0; n-- {
-			claimstest.Withdraw(t, a, claims.Withdrawal{Key: claimstest.Key(), Expires: claimstest.Now() + 300})
+			claimstest.Withdraw(t, a, claims.Withdrawal{Key: claimstest.Key(), Expires: claimstest.Now() + 3000})
 		}
 	}
 	withdraw(2)
@@ -308,6 +308,7 @@ func TestAnOlderCopyThatWentOn(t *testing.T) {
 	s := &suite{start(t)}
 	o := Options{URLs: []string{s.URL}, Name: "svid"}
 	a, b := open(t, o), open(t, o)
+	s.comparing(t, "svid")
 	mine(t, a, claim(1))
 	before := claimstest.State(t, a)
 	restore := s.Copy(t)
@@ -332,7 +333,7 @@ func TestAStoreMadeAgain(t *testing.T) {
 	a := open(t, o)
 	before := claimstest.State(t, a)
 	mine(t, a, claim(1))
-	s.do(t, "DROP SCHEMA svid CASCADE; "+Schema("svid", claimstest.Usual, ""))
+	s.do(t, "DROP SCHEMA svid CASCADE; "+schemaWith("svid", "5 seconds"))
 	claimstest.Watch(t, a)
 	another(t, before, open(t, o), a)
 }
@@ -460,7 +461,7 @@ func TestNobodyLooks(t *testing.T) {
 func TestQuarantine(t *testing.T) {
 	t.Parallel()
 	s := start(t)
-	s.do(t, strings.ReplaceAll(Schema("svid", claimstest.Usual, ""), fmt.Sprintf("interval '%d milliseconds'", quarantine.Milliseconds()), "interval '3 days'"))
+	s.do(t, schemaWith("svid", "3 days"))
 	a := newStore(t, Options{URLs: []string{s.URL}, Name: "svid"})
 	ctx, cancel := context.WithTimeout(context.Background(), time.Second)
 	defer cancel()

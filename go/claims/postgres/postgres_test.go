@@ -1,8 +1,8 @@
 package postgres
 
 import (
+	"fmt"
 	"os"
-	"os/exec"
 	"strings"
 	"testing"
 	"time"
@@ -10,6 +10,7 @@ import (
 	"svid.example/go/v3/claims"
 	"svid.example/go/v3/claims/claimstest"
 	"svid.example/go/v3/internal/broker"
+	"svid.example/go/v3/internal/logtest"
 )
 
 // A machine is a server of PostgreSQL of a test.
@@ -61,7 +62,32 @@ func (s *suite) Store(t testing.TB, o claimstest.Options) claims.Store {
 	if o.Address != "" {
 		address = strings.Replace(address, s.Postgres.Address, o.Address, 1)
 	}
+	if o.Compares {
+		s.comparing(t, o.Name)
+	}
 	return newStore(t, Options{URLs: []string{address}, Name: o.Name, Terms: o.Terms})
+}
+
+// schemaWith is Schema of a store with another quarantine.
+func schemaWith(name, quarantined string) string {
+	return strings.ReplaceAll(Schema(name, claimstest.Usual, ""), fmt.Sprintf("interval '%d milliseconds'", quarantine.Milliseconds()), "interval '"+quarantined+"'")
+}
+
+// comparing lets the members of a store wait at another run of the server for so long that each of them has surely looked, also on a busy machine.
+// Where there is no store, it makes a new one of that kind.
+func (s *machine) comparing(t testing.TB, name string) {
+	t.Helper()
+	text := schemaWith(name, "5 seconds")
+	start, end := `CREATE FUNCTION "`+name+`".state(`, "END $$;"
+	_, function, _ := strings.Cut(text, start)
+	function, _, _ = strings.Cut(function, end)
+	function = strings.Replace(start, "CREATE", "CREATE OR REPLACE", 1) + function + end
+	logtest.Await(t, "a store whose members compare", func() bool {
+		if s.Do(`SELECT 1 FROM "`+name+`".epoch`) == nil {
+			return s.Do(function) == nil
+		}
+		return s.Do(text) == nil // (a member that runs may make it at the same time)
+	})
 }
 
 func newStore(t testing.TB, o Options) claims.Store {
@@ -93,25 +119,7 @@ func (s *suite) Resume(testing.TB)  { s.Postgres.Resume() }
 
 func (s *suite) Copy(t testing.TB) func() {
 	t.Helper()
-	kept := t.TempDir()
-	s.Postgres.Stop()
-	copyAll(t, s.Dir, kept)
-	s.start(t)
-	return func() {
-		s.Postgres.Kill()
-		copyAll(t, kept, s.Dir)
-		s.start(t)
-	}
-}
-
-// copyAll puts what a folder has into another one, instead of what that has.
-func copyAll(t testing.TB, from, to string) {
-	t.Helper()
-	for _, words := range [][]string{{"find", to, "-mindepth", "1", "-delete"}, {"cp", "-a", from + "/.", to}} {
-		if out, err := exec.Command(words[0], words[1:]...).CombinedOutput(); err != nil {
-			t.Fatalf("%v: %v %s", words, err, out)
-		}
-	}
+	return logtest.Copied(t, s.Dir, s.Postgres.Stop, s.Postgres.Kill, s.start)
 }
 
 // Empty drops the schema, again where a member that looks at it holds what the server wants at the moment, and waits for what it holds.

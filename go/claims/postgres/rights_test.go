@@ -58,7 +58,7 @@ func TestRights(t *testing.T) {
 	s.do(t, given)
 	a := open(t, o)
 	s.do(t, `REVOKE EXECUTE ON FUNCTION svid.withdraw FROM "the member"`)
-	if _, err := a.Withdraw(context.Background(), claims.Withdrawal{Key: claimstest.Key(), Expires: claimstest.Now() + 300}); err == nil ||
+	if _, err := a.Withdraw(context.Background(), claims.Withdrawal{Key: claimstest.Key(), Expires: claimstest.Now() + 3000}); err == nil ||
 		!strings.HasSuffix(err.Error(), `: GRANT EXECUTE ON FUNCTION svid.withdraw(bytea,bigint) TO "the member"`) {
 		t.Errorf("%v", err)
 	}
@@ -137,9 +137,9 @@ func TestAServerThatForgets(t *testing.T) {
 	s.do(t, "SELECT pg_reload_conf()")
 	blind.Replicas = 2
 	logtest.Await(t, "the right that is missing to be named", func() bool {
-		// (The first look of a second commits the time, and waits for the standby that is not there. So this one comes before.)
-		s.do(t, `SET synchronous_commit = local; SELECT other.state(NULL, '{}', '{}', '{}', true)`)
-		ctx, cancel := context.WithTimeout(context.Background(), 5*time.Second)
+		// (The first look of a second commits the time, and waits for the standby that is not there: not where the store has seen a later one.)
+		s.do(t, `SET synchronous_commit = local; UPDATE other.epoch SET latest = floor(date_part('epoch', clock_timestamp())) + 30`)
+		ctx, cancel := context.WithTimeout(context.Background(), 20*time.Second)
 		defer cancel()
 		store := newStore(t, blind)
 		defer store.Close()
@@ -152,7 +152,7 @@ func TestAServerThatForgets(t *testing.T) {
 		s.do(t, "ALTER SYSTEM SET "+name+" = off")
 		s.do(t, "SELECT pg_reload_conf()")
 		logtest.Await(t, "the setting", func() bool { _, err := a.State(context.Background()); return err != nil })
-		if f := claimstest.Try(a, time.Second, claim(1))[0]; f.Err == nil || !strings.Contains(f.Err.Error(), name+" is off and must be on") {
+		if f := claimstest.Try(a, patience.Long, claim(1))[0]; f.Err == nil || !strings.Contains(f.Err.Error(), name+" is off and must be on") {
 			t.Errorf("%+v", f)
 		}
 		if err := refused(t, o); !strings.Contains(err.Error(), name+" is off and must be on") {

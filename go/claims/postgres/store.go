@@ -47,7 +47,6 @@ type Store struct {
 	idle   []*conn
 	left   []string // sessions that may do yet what was given up
 	epoch  string   // the one that this member knows; "" where it knows none
-	names  string   // synchronous_standby_names, where they fit
 	unfit  error    // why nothing is accepted
 	marks  marks
 }
@@ -61,7 +60,7 @@ var (
 	errAnswer   = errors.New("the server's answer is none of this store")
 	errGone     = errors.New("the entry was just removed")
 	errTooLate  = errors.New("the token expires too late by the store's clock, and nothing was stored")
-	errRun      = errors.New("the server was started again, and members look whether it lacks claims")
+	errRun      = errors.New("the server was restarted, and members check whether it lacks claims")
 	errBack     = errors.New("the store's clock went back")
 	errUnlooked = errors.New("nobody has looked at the store for a while, or its clock went ahead")
 	errAlone    = errors.New("not as many servers have the claim as are to have it")

@@ -2,7 +2,6 @@ package redis
 
 import (
 	"context"
-	"crypto/tls"
 	"errors"
 	"fmt"
 	"net"
@@ -12,6 +11,8 @@ import (
 	"time"
 
 	"github.com/gomodule/redigo/redis"
+
+	"svid.example/go/v3/internal/secured"
 )
 
 // errProtocol: what came is no answer of a server of Redis.
@@ -56,7 +57,7 @@ func (s *server) dial(ctx context.Context) (*conn, error) {
 	if config == nil {
 		raw, err = new(net.Dialer).DialContext(ctx, s.network, s.address)
 	} else {
-		raw, err = (&tls.Dialer{Config: config}).DialContext(ctx, s.network, s.address)
+		raw, err = secured.Dial(ctx, s.network, s.address, config, mostWait)
 	}
 	if err != nil {
 		return nil, err

@@ -163,7 +163,7 @@ func (s *Store) due(it *shard, v view, node string) (*record, error) {
 		return s.end(r, time, v, node, known.id)
 	}
 	if is, want := r.terms, s.options.Terms; is.Margin < want.Margin || is.Back < want.Back || is.Margin < plus(is.Back, want.Margin-want.Back) {
-		return nil, claims.Unfitf("the group's store keeps claims for %d s behind their expiry, and allows its clock %d s back; this member needs %d s and %d s: give "+
+		return nil, claims.Unfitf("the group's store keeps claims for %d s past their expiry, and allows its clock %d s back; this member needs %d s and %d s: give "+
 			"all members the same clock tolerance, or give the group another name", r.terms.Margin, r.terms.Back, s.options.Terms.Margin, s.options.Terms.Back)
 	}
 	if greatest := seenIn(r, v.seen, it); v.time+r.terms.Back < greatest {

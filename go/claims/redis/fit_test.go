@@ -7,6 +7,7 @@ import (
 	"os"
 	"path/filepath"
 	"strings"
+	"syscall"
 	"testing"
 	"time"
 
@@ -14,6 +15,7 @@ import (
 	"svid.example/go/v3/claims/claimstest"
 	"svid.example/go/v3/internal/broker"
 	"svid.example/go/v3/internal/logtest"
+	"svid.example/go/v3/internal/patience"
 )
 
 // tryOpen opens a store, and says why it can't be.
@@ -41,10 +43,10 @@ func TestAServerThatForgets(t *testing.T) {
 	} {
 		s.do(t, "CONFIG", "SET", row.setting, row.bad)
 		var unfit *claims.Unfit
-		if err := tryOpen(t, Options{URLs: []string{s.URL}}, 10*time.Second); !errors.As(err, &unfit) || !strings.Contains(err.Error(), row.want) {
+		if err := tryOpen(t, Options{URLs: []string{s.URL}}, patience.Long); !errors.As(err, &unfit) || !strings.Contains(err.Error(), row.want) {
 			t.Errorf("%s: %v", name, err)
 		}
-		if err := tryOpen(t, Options{URLs: []string{s.URL + "?settings=unchecked"}}, 10*time.Second); err != nil {
+		if err := tryOpen(t, Options{URLs: []string{s.URL + "?settings=unchecked"}}, patience.Long); err != nil {
 			t.Errorf("%s: unchecked: %v", name, err)
 		}
 		s.do(t, "CONFIG", "SET", row.setting, row.good)
@@ -71,12 +73,33 @@ func TestASettingThatIsChanged(t *testing.T) {
 	if _, err := a.State(limited(t)); !errors.As(err, &unfit) {
 		t.Error(err)
 	}
-	if f := claimstest.Try(a, time.Second, claim(1))[0]; !errors.As(f.Err, &unfit) {
+	if f := claimstest.Try(a, patience.Long, claim(1))[0]; !errors.As(f.Err, &unfit) {
 		t.Errorf("%+v", f)
 	}
 	s.do(t, "CONFIG", "SET", "appendfsync", "always")
 	put(t, a, 1)
 	stays(t, before, a)
+}
+
+// rewrites says whether a server writes its file anew.
+func (s *machine) rewrites() bool {
+	answer, err := s.Do("EVAL", "return redis.call('INFO', 'persistence'):find('aof_rewrite_in_progress:1') and 1 or 0", "0")
+	return err == nil && answer == ":1"
+}
+
+// rewriting lets a server take hours for what it writes anew, until end: then what writes it is killed, and the next one is quick.
+func (s *machine) rewriting(t *testing.T) (end func()) {
+	t.Helper()
+	s.do(t, "DEBUG", "POPULATE", "100")
+	s.do(t, "CONFIG", "SET", "rdb-key-save-delay", "100000000")
+	return func() {
+		t.Helper()
+		s.do(t, "CONFIG", "SET", "rdb-key-save-delay", "0")
+		for _, pid := range broker.Children(s.Pid()) {
+			syscall.Kill(pid, syscall.SIGKILL)
+		}
+		logtest.Await(t, "the end of a rewrite", func() bool { return !s.rewrites() })
+	}
 }
 
 // A server whose file was just turned on has it once its first rewrite is over. A rewrite of one that has it already stops nobody.
@@ -85,19 +108,14 @@ func TestTheFirstRewrite(t *testing.T) {
 	s := start(t, "--enable-debug-command", "local")
 	o := Options{URLs: []string{s.URL}}
 	a := opened(t, o)
-	s.do(t, "DEBUG", "POPULATE", "100")
-	s.do(t, "CONFIG", "SET", "rdb-key-save-delay", "10000")
-	rewrites := func() bool {
-		answer, err := s.Do("EVAL", "return redis.call('INFO', 'persistence'):find('aof_rewrite_in_progress:1') and 1 or 0", "0")
-		return err == nil && answer == ":1"
-	}
+	end := s.rewriting(t)
 	s.do(t, "BGREWRITEAOF")
-	logtest.Await(t, "a rewrite", rewrites)
-	if err := tryOpen(t, o, 10*time.Second); err != nil || !rewrites() {
+	logtest.Await(t, "a rewrite", s.rewrites)
+	if err := tryOpen(t, o, patience.Long); err != nil || !s.rewrites() {
 		t.Errorf("during a rewrite of a file that has all: %v", err)
 	}
 	put(t, a, 1)
-	logtest.Await(t, "its end", func() bool { return !rewrites() })
+	end()
 	s.do(t, "CONFIG", "SET", "appendonly", "no")
 	a.mu.Lock()
 	a.checked = make(map[string]checked)
@@ -106,27 +124,24 @@ func TestTheFirstRewrite(t *testing.T) {
 	if _, err := a.State(limited(t)); !errors.As(err, &unfit) {
 		t.Error(err)
 	}
+	end = s.rewriting(t)
 	s.do(t, "CONFIG", "SET", "appendonly", "yes")
-	logtest.Await(t, "a rewrite", rewrites)
-	if f := claimstest.Try(a, time.Second, claim(1))[0]; f.Err == nil || !strings.Contains(f.Err.Error(), "first append-only file") {
+	logtest.Await(t, "a rewrite", s.rewrites)
+	if f := claimstest.Try(a, patience.Long, claim(1))[0]; f.Err == nil || !strings.Contains(f.Err.Error(), "first append-only file") {
 		t.Errorf("%+v", f)
 	}
+	end()
 	put(t, a, 1)
-	if rewrites() {
-		t.Error("it went on before the rewrite was over")
-	}
 }
 
 // A server that was never used, and whose file is being made, is not used before that is there.
 func TestAServerThatGetsAFile(t *testing.T) {
 	t.Parallel()
 	s := start(t, "--enable-debug-command", "local", "--appendonly", "no")
-	s.do(t, "DEBUG", "POPULATE", "600")
-	s.do(t, "CONFIG", "SET", "rdb-key-save-delay", "10000")
+	end := s.rewriting(t)
 	s.do(t, "CONFIG", "SET", "appendonly", "yes")
-	if err := tryOpen(t, Options{URLs: []string{s.URL}}, 3*time.Second); err == nil || !strings.Contains(err.Error(), "first append-only file") {
-		t.Error(err)
-	}
+	claimstest.Refuses(t, newStore(t, Options{URLs: []string{s.URL}}), "first append-only file")
+	end()
 	opened(t, Options{URLs: []string{s.URL}})
 }
 
@@ -146,7 +161,7 @@ func TestAKeyThatIsNoRecord(t *testing.T) {
 	for _, text := range []string{"x", strings.Repeat("a", 32), strings.Repeat("a", 1<<20)} {
 		s.do(t, "SET", "svid:{svid}:epoch", text)
 		var unfit *claims.Unfit
-		if err := tryOpen(t, Options{URLs: []string{s.URL}}, 10*time.Second); !errors.As(err, &unfit) || !strings.Contains(err.Error(), "svid:{svid}:epoch is not the record") {
+		if err := tryOpen(t, Options{URLs: []string{s.URL}}, patience.Long); !errors.As(err, &unfit) || !strings.Contains(err.Error(), "svid:{svid}:epoch is not the record") {
 			t.Errorf("%.40q: %v", text, err)
 		}
 	}
@@ -200,13 +215,13 @@ func TestRights(t *testing.T) {
 	acl(t, do, rights(t, "member"))
 	bare := strings.Replace(s.URL, "redis://", "redis://member:secret@", 1)
 	url := bare + "/2"
-	use := func(url string) error {
+	use := func(url string, wait time.Duration) error {
 		store, err := New(Options{URLs: []string{url}, Name: "svid", Terms: claimstest.Usual, Wait: 20 * time.Millisecond})
 		if err != nil {
 			return err
 		}
 		defer store.Close()
-		ctx, cancel := context.WithTimeout(context.Background(), time.Second/2)
+		ctx, cancel := context.WithTimeout(context.Background(), wait)
 		defer cancel()
 		if _, err := store.Open(ctx); err != nil {
 			return err
@@ -218,7 +233,7 @@ func TestRights(t *testing.T) {
 				return found[0].Err
 			}
 		}
-		if _, err := store.Withdraw(ctx, claims.Withdrawal{Key: claimstest.Key(), Expires: claimstest.Now() + 300}); err != nil {
+		if _, err := store.Withdraw(ctx, claims.Withdrawal{Key: claimstest.Key(), Expires: claimstest.Now() + 3000}); err != nil {
 			return err
 		}
 		if all, _, err := store.Withdrawals(ctx, ""); err != nil || len(all) == 0 {
@@ -239,13 +254,20 @@ func TestRights(t *testing.T) {
 		defer store.give(conn)
 		return store.turn(ctx, conn, shards)
 	}
-	logtest.Await(t, "what the rights allow", func() bool {
-		err := use(url)
-		if err != nil {
-			t.Log(err)
+	may := func(url string) bool {
+		for wait := time.Second / 2; ; wait *= 2 { // (what is not permitted is tried until the time is over)
+			err := use(url, wait)
+			if err == nil || strings.Contains(err.Error(), "NOPERM") {
+				return err == nil
+			}
+			if wait > patience.Long {
+				t.Fatal(err)
+			}
 		}
-		return err == nil
-	})
+	}
+	if !may(url) {
+		t.Error("the rights are not enough")
+	}
 	for _, word := range rights(t, "member") {
 		word = strings.Trim(word, "()'")
 		if !strings.HasPrefix(word, "+") || word == "+wait" || word == "+unwatch" { // (for replicas, and where two write at once)
@@ -262,11 +284,11 @@ func TestRights(t *testing.T) {
 			}
 		}
 		acl(t, do, less)
-		if err := use(url); err == nil {
+		if may(url) {
 			t.Errorf("the right %s is not needed", word)
 		}
-		if err := use(bare); (err == nil) != (word == "+select") {
-			t.Errorf("without the right %s, and with an address without a database: %v", word, err)
+		if is := may(bare); is != (word == "+select") {
+			t.Errorf("without the right %s, and with an address without a database: %v", word, is)
 		}
 	}
 	s.do(t, "ACL", "DELUSER", "member")
@@ -291,11 +313,11 @@ func TestRights(t *testing.T) {
 		c.Close()
 	}
 	s.do(t, "ACL", "SETUSER", "member", "-config|get")
-	err := tryOpen(t, Options{URLs: []string{url}}, 10*time.Second)
+	err := tryOpen(t, Options{URLs: []string{url}}, patience.Long)
 	if err == nil || !strings.Contains(err.Error(), "does not tell its settings") || strings.Contains(err.Error(), "secret") {
 		t.Errorf("%v", err)
 	}
-	if err := tryOpen(t, Options{URLs: []string{url + "?settings=unchecked"}}, 10*time.Second); err != nil {
+	if err := tryOpen(t, Options{URLs: []string{url + "?settings=unchecked"}}, patience.Long); err != nil {
 		t.Error(err)
 	}
 	wrong := strings.Replace(s.URL, "redis://", "redis://member:wrong@", 1)
@@ -321,7 +343,7 @@ func TestPasswords(t *testing.T) {
 	} {
 		t.Run(name, func(t *testing.T) {
 			t.Setenv(passwordVariable, row.variable)
-			wait := 10 * time.Second
+			wait := patience.Long
 			if !row.good {
 				wait = 300 * time.Millisecond
 			}
@@ -356,7 +378,7 @@ func TestTLS(t *testing.T) {
 		"another name":      {strings.Replace(r.URL, "127.0.0.1", "localhost", 1) + "?ssl_ca_certs=" + ca + "&ssl_certfile=" + cert + "&ssl_keyfile=" + key, false},
 		"no TLS":            {"redis://" + r.Address, false},
 	} {
-		wait := 10 * time.Second
+		wait := patience.Long
 		if !row.good {
 			wait = 300 * time.Millisecond
 		}

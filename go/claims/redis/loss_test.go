@@ -95,14 +95,14 @@ func TestAReplicaUnderTheSameName(t *testing.T) {
 	primary := start(t)
 	replica := startReplica(t, primary)
 	o := Options{URLs: []string{primary.URL}}
-	a, b := opened(t, o), opened(t, o)
+	a, b := opened(t, o), comparing(t, o)
 	put(t, a, 1)
 	before := claimstest.State(t, a)
 	has(t, replica, a)
 	replica.Redis.Kill()
 	lost := put(t, a, 1)
 	primary.Redis.Kill()
-	copyAll(t, replica.Dir, primary.Dir)
+	logtest.CopyAll(t, replica.Dir, primary.Dir)
 	claimstest.Watch(t, a)
 	primary.Start(t)
 	refused(t, b, lost)
@@ -208,13 +208,17 @@ func TestTwoPrimaries(t *testing.T) {
 	put(t, a, 1)
 	replica.do(t, "REPLICAOF", "NO", "ONE")
 	const both = "both that they are the primary"
-	if _, err := a.State(limited(t)); err == nil || !strings.Contains(err.Error(), both) {
-		t.Fatal(err)
-	}
+	logtest.Await(t, "a member to see both", func() bool {
+		_, err := a.State(limited(t))
+		return err != nil && strings.Contains(err.Error(), both)
+	})
 	if f := claimstest.Try(a, 5*time.Second, claim(1))[0]; f.Err == nil {
 		t.Errorf("%+v", f)
 	}
-	claimstest.Refuses(t, newStore(t, o), both)
+	logtest.Await(t, "a member that starts to see both", func() bool {
+		err := tryOpen(t, o, 5*time.Second)
+		return err != nil && strings.Contains(err.Error(), both)
+	})
 	host, port, _ := strings.Cut(primary.Redis.Address, ":")
 	replica.do(t, "REPLICAOF", host, port)
 	follows(t, replica)
@@ -281,16 +285,19 @@ func TestMembersCompareFirst(t *testing.T) {
 	s.Redis.Kill()
 	s.Start(t)
 	b := newStore(t, o)
-	ctx, cancel := context.WithTimeout(context.Background(), time.Second)
-	defer cancel()
-	if _, err := b.Open(ctx); !errors.Is(err, errCompares) && !errors.Is(err, context.DeadlineExceeded) && !errors.Is(err, os.ErrDeadlineExceeded) {
-		t.Fatal(err) // (the last two say that the time is over)
-	}
+	logtest.Await(t, "a member to say that it compares", func() bool {
+		ctx, cancel := context.WithTimeout(context.Background(), time.Second)
+		defer cancel()
+		if _, err := b.Open(ctx); err == nil {
+			t.Fatal("it does not compare")
+		}
+		r, _ := readRecord(recordOf(t, s, a))
+		return r.next != "" && r.until != 0
+	})
 	if f := claimstest.Try(a, 300*time.Millisecond, there)[0]; f.Err == nil { // (it may compare for as long as the other one said)
 		t.Errorf("%+v", f)
 	}
-	r, _ := readRecord(recordOf(t, s, a))
-	if r.id != before.Epoch || r.next == "" || r.until == 0 {
+	if r, _ := readRecord(recordOf(t, s, a)); r.id != before.Epoch || r.next == "" {
 		t.Errorf("%+v", r)
 	}
 }
@@ -443,7 +450,7 @@ func TestAClockThatIsADayOff(t *testing.T) {
 		t.Errorf("%+v", is)
 	}
 	c := claim(1)
-	if f := claimstest.Try(b, 5*time.Second, c)[0]; claimstest.Judge(c, f, 60) != claimstest.Expired {
+	if f := claimstest.Put(t, b, c)[0]; claimstest.Judge(c, f, 60) != claimstest.Expired {
 		t.Errorf("by a clock that is ahead: %+v", f)
 	}
 	late := newStore(t, o)
@@ -513,8 +520,8 @@ func TestWhatIsOverIsNotKept(t *testing.T) {
 		for n := 0; n < 2; n++ {
 			c := claim(n)
 			c.Expires = claimstest.Now() - ago
-			f := claimstest.Try(a, 5*time.Second, c)[0]
-			if f.Err != nil || f.Owner != c.Owner || f.Time < c.Expires+claimstest.Usual.Margin {
+			f := claimstest.Put(t, a, c)[0]
+			if f.Owner != c.Owner || f.Time < c.Expires+claimstest.Usual.Margin {
 				t.Errorf("%+v", f)
 			}
 			if got := s.do(t, "EXISTS", a.shards[0].key(&c)); got != ":0" {
@@ -658,9 +665,7 @@ func TestCluster(t *testing.T) {
 			own.URLs = append(own.URLs, strings.Replace(s.URL, "redis://", "redis://cluster-member:secret@", 1))
 		}
 		m := opened(t, own)
-		if n := len(put16(t, m)); n != 16 {
-			t.Errorf("%d of 16 shards", n)
-		}
+		logtest.Await(t, "claims of all shards", func() bool { return len(put16(t, m)) == 16 })
 		w := withdrawal()
 		claimstest.Withdraw(t, m, w)
 		if got, _ := claimstest.Withdrawals(t, m, ""); !contains(got, w) {
@@ -701,14 +706,19 @@ func TestCluster(t *testing.T) {
 	})
 }
 
-// put16 puts one claim into each shard, and returns those that have an answer.
-func put16(t *testing.T, m *Store) (answered []claims.Claim) {
-	var these []claims.Claim
+// of16 is one claim for each shard.
+func of16() (these []claims.Claim) {
 	for i := 0; i < shardCount; i++ {
 		c := claim(1)
 		c.Key[0] = byte(i << 4)
 		these = append(these, c)
 	}
+	return these
+}
+
+// put16 puts one claim into each shard, and returns those that have an answer.
+func put16(t *testing.T, m *Store) (answered []claims.Claim) {
+	these := of16()
 	for i, f := range claimstest.Try(m, 5*time.Second, these...) {
 		if f.Err == nil {
 			answered = append(answered, these[i])
@@ -802,18 +812,14 @@ func TestClusterTakeover(t *testing.T) {
 	before := claimstest.State(t, a)
 	claimstest.Watch(t, a)
 	claimstest.Watch(t, b)
-	there := put16(t, a)
-	if len(there) != 16 {
-		t.Fatal("not all were put")
-	}
+	there := of16()
+	claimstest.Put(t, a, there...)
 	from := owns(t, all[:3], a.shards[3])
 	for _, s := range all[3:] {
 		s.Pause()
 	}
-	lost := put16(t, a)
-	if len(lost) != 16 {
-		t.Fatal("not all were put")
-	}
+	lost := of16()
+	claimstest.Put(t, a, lost...)
 	all[from].Kill()
 	for _, s := range all[3:] {
 		s.Resume()
@@ -916,7 +922,7 @@ func TestATokenThatLivesTooLong(t *testing.T) {
 	a := opened(t, Options{URLs: []string{s.URL}})
 	c := claim(1)
 	c.Expires = claimstest.Now() + claimstest.Usual.Lasts + 100
-	if f := claimstest.Try(a, 5*time.Second, c)[0]; !errors.Is(f.Err, errTooLong) {
+	if f := claimstest.Try(a, patience.Long, c)[0]; !errors.Is(f.Err, errTooLong) {
 		t.Errorf("%+v", f)
 	}
 	if got := s.do(t, "EXISTS", a.shards[0].key(&c)); got != ":0" {
@@ -925,7 +931,7 @@ func TestATokenThatLivesTooLong(t *testing.T) {
 	a.mu.Lock()
 	a.shards[0].clock.store += 1000
 	a.mu.Unlock()
-	if f := claimstest.Try(a, 5*time.Second, c)[0]; !errors.Is(f.Err, errTooLong) {
+	if f := claimstest.Try(a, patience.Long, c)[0]; !errors.Is(f.Err, errTooLong) {
 		t.Errorf("by another time: %+v", f)
 	}
 }
@@ -963,7 +969,7 @@ func TestAnEndCoversWhatEachMemberKnows(t *testing.T) {
 	t.Parallel()
 	s := start(t)
 	o := Options{URLs: []string{s.URL}}
-	a, b := opened(t, o), opened(t, o)
+	a, b := opened(t, o), comparing(t, o)
 	before := claimstest.State(t, a)
 	a.mu.Lock()
 	a.shards[0].record.terms.Lasts += 1000 // (as if another member had just said so)
@@ -1018,24 +1024,30 @@ func TestAStoreThatWasMadeAnew(t *testing.T) {
 	before := claimstest.State(t, a)
 	put(t, a, 1)
 	s.do(t, "FLUSHALL")
+	o.Wait = mostWait
 	late := newStore(t, o)
-	ctx, cancel := context.WithTimeout(context.Background(), compares/3)
-	defer cancel()
-	if is, err := late.Open(ctx); err == nil {
-		t.Fatalf("who makes a store does not wait for others: %+v", is)
-	}
+	logtest.Await(t, "a new record", func() bool {
+		ctx, cancel := context.WithTimeout(context.Background(), time.Second)
+		defer cancel()
+		if is, err := late.Open(ctx); err == nil {
+			t.Fatalf("who makes a store does not wait for others: %+v", is)
+		}
+		return recordOf(t, s, a) != ""
+	})
 	if is := claimstest.State(t, a); is.Epoch == before.Epoch || is.Deaf < before.Time+claimstest.Usual.Lasts {
 		t.Errorf("%+v, and before %+v", is, before)
 	}
 	ended(t, before, late, a)
 }
 
-// Servers of a Cluster that hang do not keep a member from the others for good, though each look at them ends too early.
+// Servers of a Cluster that hang do not keep a member from the others for good, though each look at them ends too early. (Each look has longer than
+// the one before, and never as long as all of these servers take: a busy machine may be slow.)
 func TestServersThatHang(t *testing.T) {
 	t.Parallel()
+	const hanging = 4
 	_, o := clusterOf(t, 0, 3)
 	var hang []string
-	for i := 0; i < 2; i++ {
+	for i := 0; i < hanging; i++ {
 		l, err := net.Listen("tcp", "127.0.0.1:0")
 		if err != nil {
 			t.Fatal(err)
@@ -1049,14 +1061,17 @@ func TestServersThatHang(t *testing.T) {
 	a.mu.Lock()
 	a.from = 0
 	a.mu.Unlock()
-	var err error
-	for try := 0; try < 4; try++ {
-		ctx, cancel := context.WithTimeout(context.Background(), askWait+askWait/2)
-		_, err = a.State(ctx)
-		cancel()
-		if err == nil {
-			return
+	wait := askWait + askWait/2
+	logtest.Await(t, "a look that ends at a server that answers", func() bool {
+		ctx, cancel := context.WithTimeout(context.Background(), wait)
+		defer cancel()
+		_, err := a.State(ctx)
+		if err != nil {
+			t.Log(err)
 		}
-	}
-	t.Error(err)
+		if wait += askWait; wait > (hanging-1)*askWait {
+			wait = (hanging - 1) * askWait
+		}
+		return err == nil
+	})
 }

@@ -103,7 +103,6 @@ func (s *Store) split(these []claims.Claim) (parts []*part) {
 // A sent is what a member knew of a shard when it sent claims.
 type sent struct {
 	record record
-	latest uint64
 	now    uint64 // the store's time, as far as it is known
 }
 
@@ -122,7 +121,7 @@ func (s *Store) putPart(ctx context.Context, p *part, these []claims.Claim, foun
 	known := make([]sent, len(p.shards))
 	s.mu.Lock()
 	for i, it := range p.shards {
-		known[i] = sent{it.record, it.latest, it.clock.store + uint64(time.Since(it.clock.own)/time.Second)}
+		known[i] = sent{it.record, it.clock.store + uint64(time.Since(it.clock.own)/time.Second)}
 	}
 	s.mu.Unlock()
 	again, err := s.putNew(ctx, c, p, known, these, found)

@@ -2,8 +2,6 @@ package redis
 
 import (
 	"context"
-	"os/exec"
-	"strings"
 	"testing"
 	"time"
 
@@ -17,6 +15,15 @@ import (
 
 // compares is how long members of a test compare. They look at the state each 20 ms.
 const compares = 300 * time.Millisecond
+
+// comparing is a store that is open, and whose member lets others compare for as long as can be: a busy machine may be slow. It waits no longer
+// once another one has ended the epoch.
+func comparing(t testing.TB, o Options) *Store {
+	t.Helper()
+	store := opened(t, o)
+	store.options.Wait = mostWait
+	return store
+}
 
 // A machine is a redis-server of a test.
 type machine struct {
@@ -55,7 +62,11 @@ func (s *machine) Store(t testing.TB, o claimstest.Options) claims.Store {
 	if o.Address != "" {
 		url = "redis://" + o.Address
 	}
-	return newStore(t, Options{URLs: []string{url}, Name: o.Name, Terms: o.Terms, Replicas: s.replicas})
+	store := newStore(t, Options{URLs: []string{url}, Name: o.Name, Terms: o.Terms, Replicas: s.replicas})
+	if o.Compares {
+		store.options.Wait = mostWait
+	}
+	return store
 }
 
 // newStore is a store that is not open yet.
@@ -109,29 +120,11 @@ func (s *machine) Lie(t testing.TB, name string, key svid.TokenKey, entry []byte
 
 func (s *machine) Copy(t testing.TB) func() {
 	t.Helper()
-	kept := t.TempDir()
-	s.Redis.Stop()
-	copyAll(t, s.Dir, kept)
-	s.Start(t)
-	return func() {
-		s.Redis.Kill()
-		copyAll(t, kept, s.Dir)
-		s.Start(t)
-	}
-}
-
-// copyAll puts what a folder has into another one, instead of what that has.
-func copyAll(t testing.TB, from, to string) {
-	t.Helper()
-	for _, words := range [][]string{{"find", to, "-mindepth", "1", "-delete"}, {"cp", "-a", from + "/.", to}} {
-		if out, err := exec.Command(words[0], words[1:]...).CombinedOutput(); err != nil {
-			t.Fatalf("%v: %v %s", words, err, out)
-		}
-	}
+	return logtest.Copied(t, s.Dir, s.Redis.Stop, s.Redis.Kill, s.Start)
 }
 
 func claim(n int) claims.Claim {
-	return claims.Claim{Key: claimstest.Key(), Owner: claimstest.Own(n), Expires: claimstest.Now() + 300}
+	return claims.Claim{Key: claimstest.Key(), Owner: claimstest.Own(n), Expires: claimstest.Now() + 3000}
 }
 
 func limited(t testing.TB) context.Context {
@@ -141,5 +134,3 @@ func limited(t testing.TB) context.Context {
 }
 
 func TestStore(t *testing.T) { claimstest.Run(t, start(t)) }
-
-var _ = strings.Contains

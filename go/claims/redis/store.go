@@ -24,6 +24,7 @@ import (
 	"time"
 
 	"svid.example/go/v3/claims"
+	"svid.example/go/v3/internal/pause"
 )
 
 const (
@@ -273,17 +274,11 @@ func (s *Store) take(ctx context.Context, shards []*shard) (c *conn, err error) 
 func pauses() func(ctx context.Context) bool {
 	next := 2 * time.Millisecond
 	return func(ctx context.Context) bool {
-		timer := time.NewTimer(next)
-		defer timer.Stop()
+		now := next
 		if next *= 2; next > 50*time.Millisecond {
 			next = 50 * time.Millisecond
 		}
-		select {
-		case <-timer.C:
-			return true
-		case <-ctx.Done():
-			return false
-		}
+		return pause.For(ctx, now)
 	}
 }
 

@@ -22,7 +22,7 @@ func TestTheModule(t *testing.T) {
 		}
 	}
 	for path := range files {
-		if strings.HasSuffix(path, "_test.go") || strings.HasPrefix(path, "vendor/") || strings.HasPrefix(path, "wrong/") || strings.HasPrefix(path, "internal/sim/") || path == checkout {
+		if strings.HasSuffix(path, "_test.go") || strings.HasPrefix(path, "vendor/") || strings.HasPrefix(path, "wrong/") || strings.HasPrefix(path, "internal/envoytest/") || path == checkout {
 			t.Errorf("%s is there", path)
 		}
 	}

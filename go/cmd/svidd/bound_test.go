@@ -19,8 +19,7 @@ func inBound(t *testing.T, n int, url string, more ...string) []*process {
 	bundle := bundleOption(bundleFile(t, example))
 	all := make([]*process, n)
 	for i := range all {
-		all[i] = start(t, append([]string{bundle, "--replay", "bound", "--caller", "address:X-Real-Ip", "--store", url,
-			"--wait", "20s"}, more...)...)
+		all[i] = start(t, append([]string{bundle, "--replay", "bound", "--caller", "address:X-Real-Ip", "--store", url}, more...)...)
 	}
 	return all
 }
@@ -174,7 +173,7 @@ func TestBoundBehindEnvoy(t *testing.T) {
 		{rule: "principal", owner: [2]string{"192.0.2.1", "spiffe://example.org/a"}, same: [2]string{"192.0.2.2", "spiffe://example.org/a"},
 			thief: [2]string{"192.0.2.1", "spiffe://example.org/b"}, none: [2]string{"192.0.2.1", ""}},
 	} {
-		p, address := startEnvoy(t, false, "--replay", "bound", "--caller", row.rule, "--store", url, "--wait", "20s")
+		p, address := startEnvoy(t, false, "--replay", "bound", "--caller", row.rule, "--store", url)
 		envoy := envoytest.Start(t, address)
 		one := token(t, fmt.Sprint("envoy", i), lasting)
 		for _, it := range []struct {
@@ -209,7 +208,7 @@ func sentByEnvoy(t *testing.T, envoy *envoytest.Client, who [2]string, token str
 func TestNoHeaderNamesACallerToEnvoy(t *testing.T) {
 	t.Parallel()
 	_, url := stores["Redis"](t)
-	p, address := startEnvoy(t, false, "--replay", "bound", "--caller", "address:X-Real-Ip", "--store", url, "--wait", "20s")
+	p, address := startEnvoy(t, false, "--replay", "bound", "--caller", "address:X-Real-Ip", "--store", url)
 	envoy, one := envoytest.Start(t, address), token(t, "a header", lasting)
 	if status, body := p.sendsFrom("192.0.2.1", one); status != 200 {
 		t.Fatalf("the owner, by HTTP: %d %s", status, body)
@@ -234,7 +233,7 @@ func TestBoundWithoutAStore(t *testing.T) {
 	state := filepath.Join(t.TempDir(), "state")
 	bundle := bundleOption(bundleFile(t, example))
 	begin := func() *process {
-		return start(t, bundle, "--replay", "bound", "--caller", "address:X-Real-Ip", "--state", state, "--wait", "20s")
+		return start(t, bundle, "--replay", "bound", "--caller", "address:X-Real-Ip", "--state", state)
 	}
 	sent := tokens(t, "bound alone", 30)
 	refuses := func(p *process, client, token string) {

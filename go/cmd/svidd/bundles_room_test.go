@@ -7,6 +7,8 @@ import (
 	"strconv"
 	"strings"
 	"testing"
+
+	"svid.example/go/v3/internal/patience"
 )
 
 // Strangers whose bundles take much memory to read hold up nobody: the others are ready, and svidd stays well below the 512 MiB that its
@@ -25,7 +27,9 @@ func TestTheMemoryOfStrangersBundles(t *testing.T) {
 			}
 		}
 	}
-	p := start(t, "--replay", "reuse", "--longest", "1h", "--audience", "ledger", bundleOption(bundleFile(t, example)), "--bundles", folder)
+	p := prepare(t, nil, "--replay", "reuse", "--longest", "1h", "--audience", "ledger", bundleOption(bundleFile(t, example)), "--bundles", folder)
+	p.launch()
+	p.awaitFor(4*patience.Long, "ready", p.isReady) // (it reads 12 MiB with a race detector: on a busy machine that takes minutes)
 	p.want(token(t, "a", lasting), 200, "")
 	p.await("that the heaviest are passed over", func() bool { return strings.Contains(p.log.String(), "bundle passed over") })
 	pid, err := p.pid()

@@ -43,7 +43,7 @@ func TestTenServices(t *testing.T) {
 		must(t, os.MkdirAll(all, 0o755))
 		must(t, os.WriteFile(filepath.Join(all, "kustomization.yaml"), []byte(bases+"  - ../"+store+"\n  - ../monitoring\n"), 0o600))
 		rendered := rendered(t, all)
-		fleetIsWhole(t, store, rendered)
+		fleetIsWhole(t, store, rendered, len(services))
 		var options = map[string]bool{}
 		for name, mode := range services {
 			one := find(t, rendered, "Deployment", name+"-service")
@@ -80,8 +80,8 @@ func TestTenServices(t *testing.T) {
 	}
 }
 
-// fleetIsWhole looks at all objects of a cluster together.
-func fleetIsWhole(t *testing.T, store string, all []*manifest) {
+// fleetIsWhole looks at all objects of a cluster with so many services together.
+func fleetIsWhole(t *testing.T, store string, all []*manifest, services int) {
 	t.Helper()
 	names, pods := map[string]bool{}, map[string]map[string]any{}
 	for _, m := range all {
@@ -116,12 +116,12 @@ func fleetIsWhole(t *testing.T, store string, all []*manifest) {
 				t.Errorf("%s: the %s %s selects %v", store, m.Kind, m.Metadata.Name, found)
 			}
 		}
-		if (m.Kind == "PodMonitor" || m.Kind == "ClusterSPIFFEID") && len(selects(m, firstOf(member(m.raw, "spec", "selector", "matchLabels"), member(m.raw, "spec", "podSelector", "matchLabels")))) != 10 {
+		if (m.Kind == "PodMonitor" || m.Kind == "ClusterSPIFFEID") && len(selects(m, firstOf(member(m.raw, "spec", "selector", "matchLabels"), member(m.raw, "spec", "podSelector", "matchLabels")))) != services {
 			t.Errorf("%s: the %s does not select each service", store, m.Kind)
 		}
 		if m.Kind == "NetworkPolicy" && (m.Metadata.Name == "redis" || m.Metadata.Name == "nats") {
 			from := m.raw["spec"].(map[string]any)["ingress"].([]any)[0].(map[string]any)["from"].([]any)[0]
-			if found := selects(m, member(from.(map[string]any), "podSelector", "matchLabels")); len(found) != 10 {
+			if found := selects(m, member(from.(map[string]any), "podSelector", "matchLabels")); len(found) != services {
 				t.Errorf("%s: its policy lets in %v", store, found)
 			}
 		}

@@ -28,9 +28,6 @@ func several(t *testing.T, n int, mode, urls string, more ...string) []*process 
 	t.Helper()
 	bundle := bundleOption(bundleFile(t, example))
 	all := make([]*process, n)
-	if mode == "strict" && !strings.Contains(strings.Join(more, " "), "--wait") {
-		more = append(more[:len(more):len(more)], "--wait", "15s") // (a busy machine may be slow)
-	}
 	for i := range all {
 		args := []string{bundle, "--replay", mode, "--log", "errors", "--admin", filepath.Join(t.TempDir(), "admin.sock")}
 		if mode == "once" {
@@ -158,7 +155,7 @@ func TestStrictAcceptsOnceInTheWholeGroup(t *testing.T) {
 	t.Parallel()
 	const n = 1000
 	servers := natstest.Cluster(t, 3)
-	all := several(t, 3, "strict", strings.Join(broker.URLs(servers), ","), "--replicas", "3", "--wait", "10s")
+	all := several(t, 3, "strict", strings.Join(broker.URLs(servers), ","), "--replicas", "3")
 	accepted, unjudged := storm(all, tokens(t, "strict", n), 16)
 	if got := count(accepted); got != fmt.Sprintf("1:%d", n) {
 		t.Errorf("accepted %s; unjudged %s", got, count(unjudged))
@@ -272,7 +269,7 @@ func TestAWithdrawalReachesTheGroup(t *testing.T) {
 func TestTheBrokerIsAway(t *testing.T) {
 	t.Parallel()
 	server := natstest.Start(t)
-	strict := several(t, 1, "strict", server.URL, "--wait", "3s")[0]
+	strict := several(t, 1, "strict", server.URL, "--wait", "8s")[0]
 	once := several(t, 1, "once", server.URL)[0]
 	before := token(t, "before", lasting)
 	strict.want(before, 200, "")
@@ -316,16 +313,7 @@ func TestAMemberThatLies(t *testing.T) {
 // stream is JetStream, as an operator asks it.
 func stream(t *testing.T, url string) nats.JetStreamContext {
 	t.Helper()
-	conn, err := nats.Connect(url)
-	if err != nil {
-		t.Fatal(err)
-	}
-	t.Cleanup(conn.Close)
-	js, err := conn.JetStream()
-	if err != nil {
-		t.Fatal(err)
-	}
-	return js
+	return natstest.JetStream(t, natstest.Connect(t, url))
 }
 
 // bucket is the group's bucket, as any member can write to it.
@@ -344,14 +332,14 @@ func TestAStoreThatIsEmptied(t *testing.T) {
 	t.Parallel()
 	server, url := stores["Redis"](t)
 	redis := server.(*broker.Redis)
-	first := members(t, 1, url, "--wait", "10s")[0]
+	first := members(t, 1, url)[0]
 	used := token(t, "used", 30*time.Minute)
 	first.want(used, 200, "")
 	if _, err := redis.Do("FLUSHALL"); err != nil {
 		t.Fatal(err)
 	}
 	first.await("the loss", func() bool { return first.metric("svidd_store_epochs_total") != "0" })
-	later := prepare(t, nil, bundleOption(bundleFile(t, example)), "--replay", "strict", "--store", url, "--log", "errors", "--wait", "10s")
+	later := prepare(t, nil, bundleOption(bundleFile(t, example)), "--replay", "strict", "--store", url, "--log", "errors")
 	later.launch()
 	later.await("the store", func() bool {
 		_, why := later.get("/readyz")
@@ -372,7 +360,7 @@ func TestAStoreThatIsEmptied(t *testing.T) {
 func TestAStateFolderBesideAStore(t *testing.T) {
 	t.Parallel()
 	server, url := stores["Redis"](t)
-	p := members(t, 1, url, "--state", filepath.Join(t.TempDir(), "state"), "--wait", "10s")[0]
+	p := members(t, 1, url, "--state", filepath.Join(t.TempDir(), "state"))[0]
 	one := token(t, "one", 30*time.Minute)
 	p.want(one, 200, "")
 	p.end()
@@ -388,7 +376,7 @@ func TestAStateFolderBesideAStore(t *testing.T) {
 func TestWhoHasAToken(t *testing.T) {
 	t.Parallel()
 	_, url := stores["Redis"](t)
-	all := members(t, 2, url, "--wait", "10s", "--log", "decisions")
+	all := members(t, 2, url, "--log", "decisions")
 	one := token(t, "one", lasting)
 	all[0].want(one, 200, "")
 	all[1].want(one, 401, "Replayed")
@@ -401,30 +389,6 @@ func TestWhoHasAToken(t *testing.T) {
 	if status != 0 || !strings.HasSuffix(out, "\nused by "+id+"\n") {
 		t.Errorf("%d %q %q", status, out, err)
 	}
-}
-
-// keyOf is the key by which the record names a token.
-func keyOf(t *testing.T, token string) svid.TokenKey {
-	t.Helper()
-	keyring, err := svid.NewKeyring(example.Bundles())
-	if err != nil {
-		t.Fatal(err)
-	}
-	defer keyring.Close()
-	validator, err := svid.Open(svid.Options{Audiences: []string{"ledger"}, Bundles: example.Bundles(), Longest: svid.NoLimit, Step: svid.NoLimit})
-	if err != nil {
-		t.Fatal(err)
-	}
-	defer validator.Close()
-	yes, err := keyring.Verify(token)
-	if err != nil {
-		t.Fatal(err)
-	}
-	judged, err := validator.Judge(svid.Now(), token, yes)
-	if err != nil {
-		t.Fatal(err)
-	}
-	return judged.Use.Key
 }
 
 // Whatever is killed, no token that was answered 200 is answered 200 again.

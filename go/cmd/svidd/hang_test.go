@@ -10,7 +10,6 @@ import (
 	"strings"
 	"syscall"
 	"testing"
-	"time"
 )
 
 // hanging is what runs svidd so that a call of the system, such as fdatasync, does not return for an hour.
@@ -44,7 +43,6 @@ func TestADiskThatHangs(t *testing.T) {
 	p := prepare(t, hanging(t, "fdatasync"), bundleOption(bundleFile(t, example)), "--state", state, "--admin", admin, "--wait", "300ms")
 	p.more = []string{asSvidd + "=1"}
 	p.start()
-	p.client.Timeout = 10 * time.Second
 	for i := 0; i < 3; i++ {
 		one := token(t, fmt.Sprint(i), lasting)
 		p.want(one, 503, "NotKept")

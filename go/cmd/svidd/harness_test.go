@@ -152,10 +152,17 @@ func prepare(t testing.TB, program []string, args ...string) *process {
 	p := &process{t: t, program: program, address: freeAddress(t), log: &lines{}, client: &http.Client{
 		Timeout: patience.Long, Transport: &http.Transport{MaxIdleConnsPerHost: 64},
 	}}
-	p.args = append([]string{"serve", "--audience", "ledger", "--longest", "3600", "--listen", p.address}, args...)
+	p.args = []string{"serve", "--audience", "ledger", "--longest", "3600", "--listen", p.address}
+	if given := strings.Join(args, " "); !strings.Contains(given, "--wait") && !strings.Contains(given, "--config") {
+		p.args = append(p.args, "--wait", longWait)
+	}
+	p.args = append(p.args, args...)
 	t.Cleanup(p.kill)
 	return p
 }
+
+// longWait is for how long a request may wait for what is to be there, on a machine that does much else, too.
+const longWait = "2m"
 
 // freeAddress is one that the test's process holds, so that tests which run side by side get others.
 func freeAddress(t testing.TB) string {
@@ -176,7 +183,12 @@ func command(args ...string) *exec.Cmd {
 func (p *process) start() {
 	p.t.Helper()
 	p.launch()
-	p.await("ready", func() bool { status, _ := p.get("/readyz"); return status == http.StatusOK })
+	p.await("ready", p.isReady)
+}
+
+func (p *process) isReady() bool {
+	status, _ := p.get("/readyz")
+	return status == http.StatusOK
 }
 
 func (p *process) launch() {
@@ -200,9 +212,15 @@ func (p *process) launch() {
 // await waits until something is so.
 func (p *process) await(what string, is func() bool) {
 	p.t.Helper()
-	for look, end := patience.Looks(), time.Now().Add(patience.Long); !is(); look() {
+	p.awaitFor(patience.Long, what, is)
+}
+
+// awaitFor is await for what may take longer.
+func (p *process) awaitFor(most time.Duration, what string, is func() bool) {
+	p.t.Helper()
+	for look, end := patience.Looks(), time.Now().Add(most); !is(); look() {
 		if time.Now().After(end) {
-			p.t.Fatalf("waited %v for: %s\n%s", patience.Long, what, p.log)
+			p.t.Fatalf("waited %v for: %s\n%s", most, what, p.log)
 		}
 	}
 }

@@ -151,7 +151,7 @@ func manifests(t *testing.T, overlays ...string) (all []*manifest) {
 }
 
 // rendered is what kubectl makes of a folder.
-func rendered(t *testing.T, folder string) (all []*manifest) {
+func rendered(t *testing.T, folder string) []*manifest {
 	t.Helper()
 	var said bytes.Buffer
 	c := exec.Command("kubectl", "kustomize", folder)
@@ -160,9 +160,17 @@ func rendered(t *testing.T, folder string) (all []*manifest) {
 	if err != nil {
 		t.Fatalf("kubectl kustomize: %v (it is in Debian's kubernetes-client)\n%s", err, &said)
 	}
-	c = exec.Command(python, "-c", "import json, sys, yaml; json.dump(list(yaml.safe_load_all(sys.stdin)), sys.stdout)")
+	return parsed(t, text)
+}
+
+// parsed are the objects of a text of YAML.
+func parsed(t *testing.T, text []byte) (all []*manifest) {
+	t.Helper()
+	var said bytes.Buffer
+	c := exec.Command(python, "-c", "import json, sys, yaml; json.dump([it for it in yaml.safe_load_all(sys.stdin) if it], sys.stdout)")
 	c.Stdin, c.Stderr = bytes.NewReader(text), &said
-	if text, err = c.Output(); err != nil {
+	text, err := c.Output()
+	if err != nil {
 		t.Fatalf("%v: %s", err, &said)
 	}
 	var raw []map[string]any

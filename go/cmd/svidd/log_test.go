@@ -61,17 +61,15 @@ func (p *process) exitsWith(status int) {
 func TestALogThatNobodyReads(t *testing.T) {
 	t.Parallel()
 	p, reader := piped(t, bundleOption(bundleFile(t, example)), "--state", filepath.Join(t.TempDir(), "state"))
-	p.client.Timeout = 5 * time.Second
 	var asked int
 	for asked = 0; p.metric("svidd_log_lines_dropped_total") == "0"; asked += 100 {
 		if asked > 100_000 {
 			t.Fatal("no line is dropped")
 		}
 		for i := 0; i < 100; i++ {
-			p.want("a.b.c", 401, "HeaderSpelling")
-		}
-		if t.Failed() {
-			t.FailNow()
+			if p.want("a.b.c", 401, "HeaderSpelling"); t.Failed() {
+				t.FailNow()
+			}
 		}
 	}
 	p.want(token(t, "good", lasting), 200, "")
@@ -119,7 +117,6 @@ func TestALogThatNobodyReads(t *testing.T) {
 func TestTheEndOfALogThatNobodyReads(t *testing.T) {
 	t.Parallel()
 	p, _ := piped(t, bundleOption(bundleFile(t, example)), "--replay", "reuse")
-	p.client.Timeout = 5 * time.Second
 	for i := 0; i < 500 && !t.Failed(); i++ {
 		p.want("a.b.c", 401, "HeaderSpelling")
 	}

@@ -113,6 +113,8 @@ func TestOptionsThatServeCantRunWith(t *testing.T) {
 		{"replicas", "6", "from 1 to 5"},
 		{"replicas", "-1", "from 1 to 5"},
 		{"replicas", "5", ""},
+		{"log-addresses", "some", "is none of whole, network and none"},
+		{"log-addresses", "network", ""},
 		{"listen", "9901", "write HOST:PORT"},
 		{"listen", "127.0.0.1", "write HOST:PORT"},
 		{"listen", "127.0.0.1:", "write HOST:PORT"},

@@ -13,6 +13,7 @@ import os
 import subprocess
 import sys
 import tempfile
+import time
 
 import jwt
 from authlib.jose import JsonWebSignature
@@ -176,6 +177,13 @@ def main():
             "by": "PyJWT HS256",
             "due": "Alg",
             "token": confused.encode(json.dumps(one).encode(), public, "HS256", {"kid": "RS256"}),
+        }
+    )
+    bad.append(
+        {
+            "by": "PyJWT time.time()",
+            "due": "Exp",
+            "token": by_pyjwt(one | {"exp": time.time() + 300}, keys["ES256"], "ES256", "ES256"),
         }
     )
     bad.append(

@@ -51,7 +51,7 @@ func TestTokensOfOtherLibraries(t *testing.T) {
 			t.Errorf("%s: %d %s, and %s is due", one.By, status, body, one.Due)
 		}
 	}
-	if len(made.Good) != 33 || len(made.Bad) != 9 {
+	if len(made.Good) != 33 || len(made.Bad) != 10 {
 		t.Errorf("%d good tokens and %d bad ones", len(made.Good), len(made.Bad))
 	}
 	t.Logf("accepted %d tokens and refused %d", len(made.Good), len(made.Bad))

@@ -315,13 +315,13 @@ func (p *kubePod) said(r *running) string {
 func (p *kubePod) asks(r *running, one *probe) error {
 	at := net.JoinHostPort(p.address, fmt.Sprint(one.at(r.container)))
 	if one.HTTPGet == nil {
-		c, err := net.DialTimeout("tcp", at, time.Second)
+		c, err := net.DialTimeout("tcp", at, patience.Long)
 		if err == nil {
 			c.Close()
 		}
 		return err
 	}
-	client := http.Client{Timeout: time.Second}
+	client := http.Client{Timeout: patience.Long}
 	answer, err := client.Get("http://" + at + one.HTTPGet.Path)
 	if err != nil {
 		return err
@@ -482,7 +482,7 @@ func again(t *testing.T) bool {
 		return false
 	}
 	makeImage(t)
-	words := []string{"unshare", "--net", "--mount", os.Args[0], "-test.v", "-test.timeout=10m", "-test.run=^" + t.Name() + "$"}
+	words := []string{"unshare", "--net", "--mount", os.Args[0], "-test.v", "-test.timeout=50m", "-test.run=^" + t.Name() + "$"}
 	if os.Getuid() != 0 {
 		words = append([]string{"buildah", "unshare", "--"}, words...)
 	}
@@ -542,7 +542,7 @@ func TestPodsOfKubernetesOverNATS(t *testing.T) {
 		c.Close()
 		t.Error("the sidecar is reached from outside")
 	}
-	client := http.Client{Timeout: time.Second}
+	client := http.Client{Timeout: patience.Long}
 	for path, want := range map[string]int{"/metrics": 200, "/readyz": 200, "/healthz": 200, "/check": 404} {
 		answer, err := client.Get("http://" + one.address + ":9902" + path)
 		if err != nil {

@@ -14,15 +14,14 @@ func limitProcessors() {
 	if os.Getenv("GOMAXPROCS") != "" {
 		return
 	}
-	if n := processorsOf("/", os.ReadFile); n > 0 && n < runtime.GOMAXPROCS(0) {
+	if n := processorsOf(os.ReadFile); n > 0 && n < runtime.GOMAXPROCS(0) {
 		runtime.GOMAXPROCS(n)
 	}
 }
 
-// processorsOf is how many processors the control group may use, and those above it, rounded up; 0 where nothing limits that. root is
-// what the names of files begin with.
-func processorsOf(root string, read func(name string) ([]byte, error)) (least int) {
-	groups, err := read(path.Join(root, "proc/self/cgroup"))
+// processorsOf is how many processors the control group may use, and those above it, rounded up; 0 where nothing limits that.
+func processorsOf(read func(name string) ([]byte, error)) (least int) {
+	groups, err := read("/proc/self/cgroup")
 	if err != nil {
 		return 0
 	}
@@ -34,16 +33,16 @@ func processorsOf(root string, read func(name string) ([]byte, error)) (least in
 		folder, files := "", []string(nil)
 		switch {
 		case words[0] == "0": // version 2
-			folder, files = "sys/fs/cgroup", []string{"cpu.max"}
-		case contains(strings.Split(words[1], ","), "cpu"):
-			folder, files = "sys/fs/cgroup/cpu", []string{"cpu.cfs_quota_us", "cpu.cfs_period_us"}
+			folder, files = "/sys/fs/cgroup", []string{"cpu.max"}
+		case strings.Contains(","+words[1]+",", ",cpu,"):
+			folder, files = "/sys/fs/cgroup/cpu", []string{"cpu.cfs_quota_us", "cpu.cfs_period_us"}
 		default:
 			continue
 		}
 		for group := path.Clean("/" + words[2]); ; group = path.Dir(group) {
 			text := ""
 			for _, name := range files {
-				part, err := read(path.Join(root, folder, group, name))
+				part, err := read(path.Join(folder, group, name))
 				if err != nil {
 					text = ""
 					break
@@ -73,13 +72,4 @@ func quota(text string) int {
 		return 0
 	}
 	return int((time + period - 1) / period)
-}
-
-func contains(all []string, one string) bool {
-	for _, other := range all {
-		if other == one {
-			return true
-		}
-	}
-	return false
 }

@@ -26,7 +26,7 @@ func TestProcessorsOfAControlGroup(t *testing.T) {
 			"/sys/fs/cgroup/cpu/cpu.cfs_period_us": "100000\n"}, 0},
 		{"garbage", map[string]string{"/proc/self/cgroup": "0\n0::\nx:y", "/sys/fs/cgroup/cpu.max": "1 0\n"}, 0},
 	} {
-		got := processorsOf("/", func(name string) ([]byte, error) {
+		got := processorsOf(func(name string) ([]byte, error) {
 			text, is := row.files[name]
 			if !is {
 				return nil, os.ErrNotExist

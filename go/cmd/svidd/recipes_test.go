@@ -343,6 +343,7 @@ func (r *recipe) holds() {
 	if n := asked.Load(); n != 1 { // A second time, a token that was accepted is Replayed.
 		t.Errorf("the sidecar is asked %d times", n)
 	}
+	r.asksOnceWhereAConnectionEnds()
 	// Nor by an answer that is none of the sidecar's.
 	for _, status := range []int{204, 302, 403, 500, 503} {
 		other := r.listens()
@@ -353,6 +354,37 @@ func (r *recipe) holds() {
 			t.Errorf("an answer of %d: %d, and the service hears of %+v", status, answer.StatusCode, got.identity())
 		}
 		it.Close()
+	}
+}
+
+// asksOnceWhereAConnectionEnds wants 503 where the sidecar ends a connection that the proxy has kept, and does not answer: it may have accepted the
+// token. A proxy that asks again makes 401 of that.
+func (r *recipe) asksOnceWhereAConnectionEnds() {
+	r.t.Helper()
+	sidecar := r.listens()
+	defer sidecar.Close()
+	var asked, ends atomic.Int64
+	it := &http.Server{Handler: http.HandlerFunc(func(w http.ResponseWriter, _ *http.Request) {
+		asked.Add(1)
+		if ends.Load() > 0 {
+			panic(http.ErrAbortHandler)
+		}
+		w.Header().Set("X-Spiffe-Id", "spiffe://example.org/web")
+	})}
+	go func() { _ = it.Serve(sidecar) }()
+	defer it.Close()
+	for i := 0; i < 16; i++ { // (each thread of a proxy has connections of its own)
+		if answer, _ := r.send("GET", "/", "", "Authorization: Bearer a.b.c"); answer.StatusCode != 200 || r.served() == nil {
+			r.t.Fatalf("a sidecar that answers: %d", answer.StatusCode)
+		}
+	}
+	ends.Store(1)
+	for i := 0; i < 16; i++ {
+		asked.Store(0)
+		answer, _ := r.send("GET", "/", "", "Authorization: Bearer a.b.c")
+		if n := asked.Load(); answer.StatusCode != 503 || answer.Header.Get("Retry-After") == "" || r.served() != nil || n != 1 {
+			r.t.Errorf("the sidecar ends a connection: %d %v, and it is asked %d times", answer.StatusCode, answer.Header, n)
+		}
 	}
 }
 

@@ -21,34 +21,31 @@ import (
 // once and at the first try, and no sidecar says that entries are lost. A server that is ended hands over what it leads. Behind one
 // that is killed, requests wait for an election, which takes up to nine seconds.
 func TestServersOfNATSAreRestarted(t *testing.T) {
-	for name, row := range map[string]struct {
-		end  func(*testing.T, *broker.Server)
-		wait string
-	}{
-		"stopped": {func(_ *testing.T, s *broker.Server) { s.Stop() }, "30s"},
-		"lame duck": {func(t *testing.T, s *broker.Server) {
+	for name, end := range map[string]func(*testing.T, *broker.Server){
+		"stopped": func(_ *testing.T, s *broker.Server) { s.Stop() },
+		"lame duck": func(t *testing.T, s *broker.Server) {
 			if out, err := exec.Command("nats-server", "--signal", fmt.Sprint("ldm=", s.Pid())).CombinedOutput(); err != nil {
 				t.Errorf("%v %s", err, out)
 			}
 			s.Await()
-		}, "30s"},
-		"killed": {func(_ *testing.T, s *broker.Server) { s.Kill() }, "30s"},
+		},
+		"killed": func(_ *testing.T, s *broker.Server) { s.Kill() },
 	} {
-		row := row
+		end := end
 		t.Run(name, func(t *testing.T) {
 			t.Parallel()
-			rolling(t, row.wait, row.end)
+			rolling(t, end)
 		})
 	}
 }
 
-func rolling(t *testing.T, wait string, end func(*testing.T, *broker.Server)) {
+func rolling(t *testing.T, end func(*testing.T, *broker.Server)) {
 	config := filepath.Join(t.TempDir(), "nats.conf")
 	if err := os.WriteFile(config, []byte("lame_duck_duration: 30s\nlame_duck_grace_period: 1s\n"), 0o600); err != nil {
 		t.Fatal(err)
 	}
 	servers := natstest.Cluster(t, 3, "-c", config)
-	all := several(t, 3, "strict", strings.Join(broker.URLs(servers), ","), "--replicas", "3", "--wait", wait)
+	all := several(t, 3, "strict", strings.Join(broker.URLs(servers), ","), "--replicas", "3")
 	js := stream(t, strings.Join(broker.URLs(servers), ","))
 	stop := make(chan struct{})
 	var mu sync.Mutex

@@ -87,7 +87,7 @@ func TestStrictOverEachStore(t *testing.T) {
 		t.Run(name, func(t *testing.T) {
 			t.Parallel()
 			_, url := begin(t)
-			all := members(t, 3, url, "--wait", "20s")
+			all := members(t, 3, url)
 			n := many()
 			accepted, unjudged := storm(all, tokens(t, "each", n), 16)
 			if got := count(accepted); got != fmt.Sprintf("1:%d", n) {
@@ -107,7 +107,7 @@ func TestKilledOverEachStore(t *testing.T) {
 		t.Run(name, func(t *testing.T) {
 			t.Parallel()
 			server, url := begin(t)
-			all := members(t, 3, url, "--wait", "20s")
+			all := members(t, 3, url)
 			n := many()
 			sent := tokens(t, "killed", n)
 			var begun int64
@@ -143,7 +143,7 @@ func TestCopiesOfAStateFolder(t *testing.T) {
 	t.Parallel()
 	_, url := stores["Redis"](t)
 	state := filepath.Join(t.TempDir(), "state")
-	first := members(t, 1, url, "--state", state, "--wait", "20s")[0]
+	first := members(t, 1, url, "--state", state)[0]
 	first.want(token(t, "before", lasting), 200, "")
 	first.end()
 	copied := filepath.Join(t.TempDir(), "copy")
@@ -151,7 +151,7 @@ func TestCopiesOfAStateFolder(t *testing.T) {
 		t.Fatalf("%s %v", out, err)
 	}
 	first.start()
-	all := append(members(t, 1, url, "--state", copied, "--wait", "20s"), first)
+	all := append(members(t, 1, url, "--state", copied), first)
 	if one, other := all[0].events("serving"), all[1].events("serving"); len(one) > 0 && one[0]["validator_id"] != other[0]["validator_id"] {
 		t.Errorf("they have two validator IDs: %v, %v", one, other)
 	}

@@ -188,7 +188,7 @@ func passedOver(event string, fields []any) error {
 	if event != "key passed over" || said["why"] == svid.EntryX509.String() {
 		return nil
 	}
-	return fmt.Errorf("entry %v of %v is passed over: %v", said["entry"], said["source"], said["why"])
+	return fmt.Errorf("entry %v of %v is skipped: %v", said["entry"], said["source"], said["why"])
 }
 
 // unread is what a Watcher says of a source that it could not read: the source, and why.

@@ -51,6 +51,7 @@ func TestVerifyReadsOneToken(t *testing.T) {
 		{good + "\x00", "refused SignatureSpelling", 1},
 		{good + blanks + good, "refused TooLong", 1},
 		{"  " + good + blanks + "A", "refused TooLong", 1},
+		{"", "standard input has no token", 2},
 		{"\n", "standard input has no token", 2},
 		{"\n" + good, "more than one line", 2},
 		{good + "\n\n", "more than one line", 2},
@@ -65,6 +66,67 @@ func TestVerifyReadsOneToken(t *testing.T) {
 		if status != row.status || !strings.Contains(err, row.want) || (out == "") != (status != 0) {
 			t.Errorf("%.40q and %d bytes: %d %q %q, and %q is due", row.stdin, len(row.stdin), status, out, err, row.want)
 		}
+	}
+}
+
+// Where a token's key is not found, or no key made its signature, verify names each key that was passed over, and which cause makes it none. So does
+// --check-config, which also names a bundle that has a private key.
+func TestKeysThatArePassedOver(t *testing.T) {
+	t.Parallel()
+	var set struct {
+		Keys []map[string]any `json:"keys"`
+	}
+	must(t, json.Unmarshal(example.JWKSet(), &set))
+	good := len(set.Keys)
+	for _, key := range []map[string]any{
+		{"kid": "a", "kty": "RSA", "n": "AQAB", "e": "AQAB"}, {"kid": "b", "use": "sig", "kty": "EC"}, {"kid": "c", "use": "jwt-svid", "kty": "OKP"},
+		{"kid": "d", "use": "jwt-svid", "kty": "RSA", "n": "AQAB", "e": "AQAB"}, {"use": "x509-svid", "kty": "EC"},
+	} {
+		set.Keys = append(set.Keys, key)
+	}
+	write := func() string {
+		text, err := json.Marshal(set)
+		must(t, err)
+		name := filepath.Join(t.TempDir(), "bundle.json")
+		must(t, os.WriteFile(name, text, 0o600))
+		return name
+	}
+	warned := func(file string) (all string) {
+		for i, why := range []string{`it has no use, which must be "jwt-svid"`, `its use is not "jwt-svid"`, "its kty is neither RSA nor EC", "unusable key: the key's n has fewer than 2048 bits"} {
+			all += fmt.Sprintf("svidd: warning: entry %d of %s is passed over: %s\n", good+i, file, why)
+		}
+		return all
+	}
+	file := write()
+	other, err := issuer.New("example.org")
+	must(t, err)
+	claims := map[string]any{"sub": "spiffe://example.org/web", "aud": "ledger", "exp": time.Now().Add(lasting).Unix()}
+	noKey := example.Sign("ES256", `{"alg":"ES256","kid":"e"}`, fmt.Sprintf(`{"sub":"spiffe://example.org/web","aud":"ledger","exp":%d}`, claims["exp"]))
+	for _, row := range []struct{ token, refused, warned string }{
+		{example.Token("ES256", claims), "", ""},
+		{other.Token("ES256", claims), "BadSignature", warned(file)},
+		{noKey, "NoKey", warned(file)},
+		{longestToken(t) + "A", "TooLong", ""},
+	} {
+		due, want := "", 0
+		if row.refused != "" {
+			due, want = "refused "+row.refused+"\n", 1
+		}
+		status, _, said := here(row.token, "verify", "--audience", "ledger", bundleOption(file))
+		_, rest, _ := strings.Cut(strings.TrimPrefix(said, due), "\n") // (the refusal in words)
+		if status != want || !strings.HasPrefix(said, due) || rest != row.warned {
+			t.Errorf("%q: %d %q", row.refused, status, said)
+		}
+	}
+	check := []string{"serve", "--check-config", "--audience", "a", "--longest", "60", "--replay", "reuse"}
+	if status, out, said := here("", append(check, bundleOption(file))...); status != 0 || out != "svidd: the options are good\n" || said != warned(file) {
+		t.Errorf("--check-config: %d %q %q", status, out, said)
+	}
+	set.Keys[0]["d"] = "AQAB"
+	file = write()
+	due := warned(file) + "svidd: warning: " + file + ": it has the private part of a key, and whoever reads it can sign tokens of this trust domain: take that part out, and replace the key\n"
+	if status, _, said := here("", append(check, bundleOption(file))...); status != 0 || said != due {
+		t.Errorf("a private key: %d %q", status, said)
 	}
 }
 
@@ -224,6 +286,9 @@ func TestDeviations(t *testing.T) {
 	rows := regexp.MustCompile("(?m)^\\| (payload|header|key) \\| `(\".*)` \\| (?:`([A-Za-z]+)`|accepted) \\|$").FindAllStringSubmatch(section, -1)
 	if len(rows) < 36 || len(rows) != strings.Count(section, "\n| ")-1 {
 		t.Fatalf("%d rows of %d are read", len(rows), strings.Count(section, "\n| ")-1)
+	}
+	if !strings.Contains(section, "`refused Exp`, and in the next line `"+svid.Exp.Sentence()+"`") {
+		t.Error("what an issuer that writes fractions gets is another line")
 	}
 	now := time.Now().Unix()
 	for _, row := range []struct{ member, answer string }{

@@ -12,6 +12,8 @@ import (
 	"time"
 
 	"github.com/nats-io/nats.go"
+
+	"svid.example/go/v3/internal/patience"
 )
 
 // A Server is one nats-server. It keeps its port and its folder when it is killed and started again. It is for one
@@ -102,12 +104,12 @@ func (s *Server) Pid() int {
 
 // Answers says whether JetStream answers: of a cluster, whether it has a leader.
 func (s *Server) Answers() bool {
-	nc, err := nats.Connect(s.URL)
+	nc, err := nats.Connect(s.URL, nats.Timeout(patience.Long))
 	if err != nil {
 		return false
 	}
 	defer nc.Close()
-	js, err := nc.JetStream(nats.MaxWait(time.Second))
+	js, err := nc.JetStream(nats.MaxWait(10 * time.Second))
 	if err != nil {
 		return false
 	}

@@ -9,6 +9,8 @@ import (
 	"strings"
 	"syscall"
 	"time"
+
+	"svid.example/go/v3/internal/patience"
 )
 
 // A Redis is one redis-server, which keeps what it has answered. It keeps its port and its folder when it is killed and started
@@ -53,7 +55,7 @@ func (s *Redis) Stop() { s.end(syscall.SIGTERM) }
 // Answers says whether the server answers, or, with TLS, whether it takes connections.
 func (s *Redis) Answers() bool {
 	if s.secure {
-		c, err := net.DialTimeout("tcp", s.Address, time.Second)
+		c, err := net.DialTimeout("tcp", s.Address, patience.Long)
 		if err == nil {
 			c.Close()
 		}
@@ -65,12 +67,12 @@ func (s *Redis) Answers() bool {
 
 // Do sends one command, and returns the first line of the answer.
 func (s *Redis) Do(words ...string) (string, error) {
-	c, err := net.DialTimeout("tcp", s.Address, time.Second)
+	c, err := net.DialTimeout("tcp", s.Address, patience.Long)
 	if err != nil {
 		return "", err
 	}
 	defer c.Close()
-	c.SetDeadline(time.Now().Add(10 * time.Second))
+	c.SetDeadline(time.Now().Add(patience.Long))
 	var text strings.Builder
 	fmt.Fprintf(&text, "*%d\r\n", len(words))
 	for _, w := range words {

@@ -20,7 +20,7 @@ func NewSentinel(dir, name, primary string, quorum int) (*Redis, error) {
 		return nil, err
 	}
 	file := filepath.Join(dir, "sentinel.conf")
-	text := fmt.Sprintf("bind 127.0.0.1\nport %d\ndir %s\nlogfile %s\nsentinel monitor %s %s %s %d\nsentinel down-after-milliseconds %s 500\n"+
+	text := fmt.Sprintf("bind 127.0.0.1\nport %d\ndir %s\nlogfile %s\nsentinel monitor %s %s %s %d\nsentinel down-after-milliseconds %s 2000\n"+
 		"sentinel failover-timeout %s 2000\n", ports[0], dir, filepath.Join(dir, "log"), name, host, port, quorum, name, name)
 	if err := os.WriteFile(file, []byte(text), 0o600); err != nil {
 		return nil, err
@@ -37,7 +37,7 @@ func NewRedisCluster(dirs []string, more ...string) (all []*Redis, err error) {
 			return nil, err
 		}
 		s, err := NewRedis(dir, append([]string{"--cluster-enabled", "yes", "--cluster-port", fmt.Sprint(ports[0]), "--cluster-config-file", filepath.Join(dir, "nodes.conf"),
-			"--cluster-node-timeout", "1000", "--cluster-require-full-coverage", "no"}, more...)...)
+			"--cluster-node-timeout", "3000", "--cluster-require-full-coverage", "no"}, more...)...)
 		if err != nil {
 			return nil, err
 		}

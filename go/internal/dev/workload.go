@@ -1,35 +1,22 @@
 package dev
 
 import (
-	"encoding/binary"
-	"io"
 	"net/http"
 	"strconv"
 	"strings"
 	"time"
 
+	"svid.example/go/v3/internal/grpc"
 	"svid.example/go/v3/internal/protowire"
 )
 
-// The calls of the SPIFFE Workload API that are answered, the codes of gRPC, and the most bytes that a message of a client may have.
+// The calls of the SPIFFE Workload API that are answered, and the most bytes that a message of a client may have.
 const (
 	fetchTokens  = "/SpiffeWorkloadAPI/FetchJWTSVID"
 	fetchBundles = "/SpiffeWorkloadAPI/FetchJWTBundles"
 
-	codeInvalidArgument  = 3
-	codePermissionDenied = 7
-	codeUnimplemented    = 12
-	codeUnavailable      = 14
-
 	mostMessage = 1 << 16
-	frameHead   = 5 // whether the message is compressed, and its length
 )
-
-// A callFault ends a call.
-type callFault struct {
-	code int
-	why  string
-}
 
 // Workload answers the SPIFFE Workload API over gRPC, for a server of HTTP/2: FetchJWTSVID and FetchJWTBundles, as SPIRE's agent does. It attests
 // nobody: whoever asks is the workload that he names, or Options.Subject. ended ends its streams.
@@ -44,18 +31,18 @@ func (d *Desk) Workload(ended <-chan struct{}) http.Handler {
 		w.Header().Set("Trailer", "Grpc-Status, Grpc-Message")
 		fault := d.answer(w, r, ended)
 		if fault == nil {
-			fault = &callFault{}
+			fault = &grpc.Fault{}
 		}
-		w.Header().Set("Grpc-Status", strconv.Itoa(fault.code))
-		w.Header().Set("Grpc-Message", fault.why)
+		w.Header().Set("Grpc-Status", strconv.Itoa(fault.Code))
+		w.Header().Set("Grpc-Message", fault.Why)
 	})
 }
 
-func (d *Desk) answer(w http.ResponseWriter, r *http.Request, ended <-chan struct{}) *callFault {
+func (d *Desk) answer(w http.ResponseWriter, r *http.Request, ended <-chan struct{}) *grpc.Fault {
 	if r.Header.Get("Workload.spiffe.io") != "true" { // (SPIFFE Workload Endpoint, section 3)
-		return &callFault{codeInvalidArgument, "security header missing from request"}
+		return &grpc.Fault{Code: grpc.InvalidArgument, Why: "security header missing from request"}
 	}
-	message, fault := readMessage(r.Body)
+	message, fault := grpc.ReadOne(r.Body, mostMessage)
 	switch {
 	case fault != nil:
 		return fault
@@ -64,31 +51,12 @@ func (d *Desk) answer(w http.ResponseWriter, r *http.Request, ended <-chan struc
 	case r.URL.Path == fetchBundles:
 		return d.streamBundles(w, r, ended)
 	}
-	return &callFault{codeUnimplemented, "svidd dev answers FetchJWTSVID and FetchJWTBundles alone"}
-}
-
-// readMessage reads the one message of a request.
-func readMessage(r io.Reader) ([]byte, *callFault) {
-	var head [frameHead]byte
-	if _, err := io.ReadFull(r, head[:]); err != nil {
-		return nil, &callFault{codeInvalidArgument, "the call has no whole message"}
-	}
-	length := binary.BigEndian.Uint32(head[1:])
-	if head[0] != 0 || length > mostMessage {
-		return nil, &callFault{codeInvalidArgument, "the message is compressed, or too long"}
-	}
-	message := make([]byte, length)
-	if _, err := io.ReadFull(r, message); err != nil {
-		return nil, &callFault{codeInvalidArgument, "the call has no whole message"}
-	}
-	return message, nil
+	return &grpc.Fault{Code: grpc.Unimplemented, Why: "svidd dev answers FetchJWTSVID and FetchJWTBundles alone"}
 }
 
 // send sends a message.
 func send(w http.ResponseWriter, message []byte) error {
-	frame := make([]byte, frameHead, frameHead+len(message))
-	binary.BigEndian.PutUint32(frame[1:], uint32(len(message)))
-	if _, err := w.Write(append(frame, message...)); err != nil {
+	if _, err := w.Write(grpc.Frame(message)); err != nil {
 		return err
 	}
 	if f, ok := w.(http.Flusher); ok {
@@ -98,42 +66,32 @@ func send(w http.ResponseWriter, message []byte) error {
 }
 
 // answerTokens answers FetchJWTSVID with one token.
-func (d *Desk) answerTokens(w http.ResponseWriter, message []byte) *callFault {
+func (d *Desk) answerTokens(w http.ResponseWriter, message []byte) *grpc.Fault {
 	audience, subject, ok := readTokenRequest(message)
 	switch {
 	case !ok:
-		return &callFault{codeInvalidArgument, "it is no JWTSVIDRequest"}
+		return &grpc.Fault{Code: grpc.InvalidArgument, Why: "it is no JWTSVIDRequest"}
 	case len(audience) == 0:
-		return &callFault{codeInvalidArgument, "audience must be specified"}
+		return &grpc.Fault{Code: grpc.InvalidArgument, Why: "audience must be specified"}
 	case subject == "":
 		subject = d.Subject
 	}
 	if err := CheckSubject(subject, d.Domain.Name()); err != nil {
-		return &callFault{codePermissionDenied, "no identity issued"}
+		return &grpc.Fault{Code: grpc.PermissionDenied, Why: "no identity issued"}
 	}
 	token, err := d.fetch(subject, audience)
 	if err != nil {
-		return &callFault{codeUnavailable, "no token could be signed"}
+		return &grpc.Fault{Code: grpc.Unavailable, Why: "no token could be signed"}
 	}
-	one := appendField(appendField(nil, 1, token.Subject), 2, token.Token)
-	if send(w, appendField(nil, 1, string(one))) != nil {
-		return &callFault{codeUnavailable, "the answer was not taken"}
+	if send(w, protowire.AppendField(nil, 1, fields(token.Subject, token.Token))) != nil {
+		return &grpc.Fault{Code: grpc.Unavailable, Why: "the answer was not taken"}
 	}
 	return nil
 }
 
 // readTokenRequest reads a JWTSVIDRequest: the fields audience (1, repeated) and spiffe_id (2).
 func readTokenRequest(message []byte) (audience []string, subject string, ok bool) {
-	for len(message) > 0 {
-		number, kind, n := protowire.ConsumeTag(message)
-		if n < 0 {
-			return nil, "", false
-		}
-		message = message[n:]
-		if n = protowire.ConsumeFieldValue(number, kind, message); n < 0 {
-			return nil, "", false
-		}
-		value, _ := protowire.ConsumeBytes(message)
+	err := protowire.Each(message, func(number protowire.Number, kind protowire.Type, value []byte) error {
 		switch {
 		case kind != protowire.BytesType:
 		case number == 1:
@@ -141,29 +99,32 @@ func readTokenRequest(message []byte) (audience []string, subject string, ok boo
 		case number == 2:
 			subject = string(value)
 		}
-		message = message[n:]
-	}
-	return audience, subject, true
+		return nil
+	})
+	return audience, subject, err == nil
 }
 
-func appendField(message []byte, number protowire.Number, value string) []byte {
-	return protowire.AppendBytes(protowire.AppendTag(message, number, protowire.BytesType), []byte(value))
+// fields are fields of text, by number from 1.
+func fields(texts ...string) (message []byte) {
+	for i, text := range texts {
+		message = protowire.AppendField(message, protowire.Number(i+1), []byte(text))
+	}
+	return message
 }
 
 // streamBundles answers FetchJWTBundles: the bundle now, and after each change of keys.
-func (d *Desk) streamBundles(w http.ResponseWriter, r *http.Request, ended <-chan struct{}) *callFault {
+func (d *Desk) streamBundles(w http.ResponseWriter, r *http.Request, ended <-chan struct{}) *grpc.Fault {
 	for {
 		changed := d.Domain.Changed()
-		entry := appendField(appendField(nil, 1, "spiffe://"+d.Domain.Name()), 2, string(d.Domain.JWTKeys()))
-		if send(w, appendField(nil, 1, string(entry))) != nil {
-			return &callFault{codeUnavailable, "the answer was not taken"}
+		if send(w, protowire.AppendField(nil, 1, fields("spiffe://"+d.Domain.Name(), string(d.Domain.JWTKeys())))) != nil {
+			return &grpc.Fault{Code: grpc.Unavailable, Why: "the answer was not taken"}
 		}
 		select {
 		case <-changed:
 		case <-r.Context().Done():
 			return nil
 		case <-ended:
-			return &callFault{codeUnavailable, "svidd dev ends"}
+			return &grpc.Fault{Code: grpc.Unavailable, Why: "svidd dev ends"}
 		}
 	}
 }

@@ -16,17 +16,6 @@ import (
 // Path is where a client of gRPC makes the call.
 const Path = "/envoy.service.auth.v3.Authorization/Check"
 
-// The codes of gRPC that the answers have.
-const (
-	OK                = 0
-	InvalidArgument   = 3
-	PermissionDenied  = 7
-	ResourceExhausted = 8
-	Unimplemented     = 12
-	Unavailable       = 14
-	Unauthenticated   = 16
-)
-
 // The numbers of fields.
 const (
 	checkAttributes   = 1 // CheckRequest: AttributeContext
@@ -141,32 +130,15 @@ func (h Headers) add(entry []byte, wanted []string) error {
 
 // each calls do with the value of each field of this number, which must be bytes. It passes over all others.
 func each(message []byte, wanted protowire.Number, do func(value []byte) error) error {
-	for len(message) > 0 {
-		number, kind, n := protowire.ConsumeTag(message)
-		if n < 0 {
-			return protowire.ParseError(n)
-		}
-		message = message[n:]
-		if number != wanted {
-			if n = protowire.ConsumeFieldValue(number, kind, message); n < 0 {
-				return protowire.ParseError(n)
-			}
-			message = message[n:]
-			continue
-		}
-		if kind != protowire.BytesType {
+	return protowire.Each(message, func(number protowire.Number, kind protowire.Type, value []byte) error {
+		switch {
+		case number != wanted:
+			return nil
+		case kind != protowire.BytesType:
 			return fmt.Errorf("field %d is of another type", number)
 		}
-		value, n := protowire.ConsumeBytes(message)
-		if n < 0 {
-			return protowire.ParseError(n)
-		}
-		if err := do(value); err != nil {
-			return err
-		}
-		message = message[n:]
-	}
-	return nil
+		return do(value)
+	})
 }
 
 // A Field is a header field: a name and its value.
@@ -177,35 +149,31 @@ type Field struct{ Name, Value string }
 func Accepted(fields []Field, remove ...string) []byte {
 	var ok []byte
 	for _, f := range fields {
-		ok = appendBytes(ok, okHeaders, option(f))
+		ok = protowire.AppendField(ok, okHeaders, option(f))
 	}
 	for _, name := range remove {
-		ok = appendBytes(ok, okRemove, []byte(name))
+		ok = protowire.AppendField(ok, okRemove, []byte(name))
 	}
-	message := appendBytes(nil, responseStatus, nil) // (code 0 is not written)
-	return appendBytes(message, responseOK, ok)
+	message := protowire.AppendField(nil, responseStatus, nil) // (code 0 is not written)
+	return protowire.AppendField(message, responseOK, ok)
 }
 
 // Denied is the CheckResponse that answers a request with this HTTP status, these header fields and this body. The code is one of
 // gRPC other than OK.
 func Denied(code int, why string, status int, fields []Field, body string) []byte {
-	denied := appendBytes(nil, deniedStatus, appendNumber(nil, httpStatusCode, status))
+	denied := protowire.AppendField(nil, deniedStatus, appendNumber(nil, httpStatusCode, status))
 	for _, f := range fields {
-		denied = appendBytes(denied, deniedHeaders, option(f))
+		denied = protowire.AppendField(denied, deniedHeaders, option(f))
 	}
-	denied = appendBytes(denied, deniedBody, []byte(body))
-	said := appendBytes(appendNumber(nil, statusCode, code), statusMessage, []byte(why))
-	return appendBytes(appendBytes(nil, responseStatus, said), responseDenied, denied)
+	denied = protowire.AppendField(denied, deniedBody, []byte(body))
+	said := protowire.AppendField(appendNumber(nil, statusCode, code), statusMessage, []byte(why))
+	return protowire.AppendField(protowire.AppendField(nil, responseStatus, said), responseDenied, denied)
 }
 
 // option is a HeaderValueOption.
 func option(f Field) []byte {
-	header := appendBytes(appendBytes(nil, headerKey, []byte(f.Name)), headerValue, []byte(f.Value))
-	return appendNumber(appendBytes(nil, optionHeader, header), optionAppend, overwrite)
-}
-
-func appendBytes(to []byte, number protowire.Number, value []byte) []byte {
-	return protowire.AppendBytes(protowire.AppendTag(to, number, protowire.BytesType), value)
+	header := protowire.AppendField(protowire.AppendField(nil, headerKey, []byte(f.Name)), headerValue, []byte(f.Value))
+	return appendNumber(protowire.AppendField(nil, optionHeader, header), optionAppend, overwrite)
 }
 
 func appendNumber(to []byte, number protowire.Number, value int) []byte {

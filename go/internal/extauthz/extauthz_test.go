@@ -3,19 +3,21 @@ package extauthz
 import (
 	"fmt"
 	"testing"
+
+	"svid.example/go/v3/internal/protowire"
 )
 
 // request is a CheckRequest whose map of headers has these entries.
 func request(entries ...[]byte) []byte {
 	var http []byte
 	for _, e := range entries {
-		http = appendBytes(http, httpHeaders, e)
+		http = protowire.AppendField(http, httpHeaders, e)
 	}
-	return appendBytes(nil, checkAttributes, appendBytes(nil, attributesRequest, appendBytes(nil, requestHTTP, http)))
+	return protowire.AppendField(nil, checkAttributes, protowire.AppendField(nil, attributesRequest, protowire.AppendField(nil, requestHTTP, http)))
 }
 
 func entry(key, value string) []byte {
-	return appendBytes(appendBytes(nil, entryKey, []byte(key)), entryValue, []byte(value))
+	return protowire.AppendField(protowire.AppendField(nil, entryKey, []byte(key)), entryValue, []byte(value))
 }
 
 // The header fields that are wanted are read, each as often as it is there, and no others.
@@ -30,10 +32,10 @@ func TestReadHeaders(t *testing.T) {
 		"two":                      {request(entry("authorization", "a"), entry("Authorization", "b")), "map[authorization:[a b]]"},
 		"in two parts":             {append(append([]byte(nil), one...), one...), "map[authorization:[a a]]"},
 		"a field twice":            {request(append(entry("cookie", "a"), entry("authorization", "b")...)), "map[authorization:[b]]"},
-		"a key without a value":    {request(appendBytes(nil, entryKey, []byte("authorization"))), "map[authorization:[]]"},
-		"a value without a key":    {request(appendBytes(nil, entryValue, []byte("a"))), "map[]"},
+		"a key without a value":    {request(protowire.AppendField(nil, entryKey, []byte("authorization"))), "map[authorization:[]]"},
+		"a value without a key":    {request(protowire.AppendField(nil, entryValue, []byte("a"))), "map[]"},
 		"a name that begins so":    {request(entry("authorization2", "a"), entry("authorizatio", "a")), "map[]"},
-		"a header elsewhere":       {appendBytes(nil, 2, one[2:]), "map[]"},
+		"a header elsewhere":       {protowire.AppendField(nil, 2, one[2:]), "map[]"},
 		"fields that are unknown":  {append(appendNumber(nil, 9, 7), one...), "map[authorization:[a]]"},
 		"a group that is unknown":  {append([]byte{9<<3 | 3, 9<<3 | 4}, one...), "map[authorization:[a]]"},
 		"a number where a text is": {request(appendNumber(nil, entryKey, 1)), "field 1 is of another type"},
@@ -59,13 +61,13 @@ func TestReadHeaders(t *testing.T) {
 // The client of a request is read from its own fields, and from no others: of two, the last one counts.
 func TestReadSource(t *testing.T) {
 	socket := func(address string) []byte {
-		return appendBytes(nil, addressSocket, appendBytes(nil, socketAddress, []byte(address)))
+		return protowire.AppendField(nil, addressSocket, protowire.AppendField(nil, socketAddress, []byte(address)))
 	}
 	peer := func(address []byte, principal string) []byte {
-		return appendBytes(appendBytes(nil, peerAddress, address), peerPrincipal, []byte(principal))
+		return protowire.AppendField(protowire.AppendField(nil, peerAddress, address), peerPrincipal, []byte(principal))
 	}
 	source := func(peer []byte) []byte {
-		return appendBytes(nil, checkAttributes, appendBytes(nil, attributesSource, peer))
+		return protowire.AppendField(nil, checkAttributes, protowire.AppendField(nil, attributesSource, peer))
 	}
 	for what, row := range map[string]struct {
 		message []byte
@@ -74,9 +76,9 @@ func TestReadSource(t *testing.T) {
 		"nothing":            {nil, "{ }"},
 		"both":               {source(peer(socket("192.0.2.1"), "spiffe://example.org/web")), "{192.0.2.1 spiffe://example.org/web}"},
 		"beside headers":     {append(request(entry("a", "b")), source(peer(socket("::1"), "p"))...), "{::1 p}"},
-		"a pipe":             {source(peer(appendBytes(nil, 2, []byte("path")), "p")), "{ p}"},
+		"a pipe":             {source(peer(protowire.AppendField(nil, 2, []byte("path")), "p")), "{ p}"},
 		"two addresses":      {append(source(peer(socket("192.0.2.1"), "p")), source(peer(socket("192.0.2.2"), ""))...), "{192.0.2.2 }"},
-		"the destination":    {appendBytes(nil, checkAttributes, appendBytes(nil, 2, peer(socket("192.0.2.1"), "p"))), "{ }"},
+		"the destination":    {protowire.AppendField(nil, checkAttributes, protowire.AppendField(nil, 2, peer(socket("192.0.2.1"), "p"))), "{ }"},
 		"of the headers":     {request(entry("source", "192.0.2.1")), "{ }"},
 		"not UTF-8":          {source(peer(socket("\xff"), "p")), "a field is not UTF-8"},
 		"a principal is not": {source(peer(socket("a"), "\xff")), "a field is not UTF-8"},

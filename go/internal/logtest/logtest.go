@@ -7,6 +7,7 @@ import (
 	"errors"
 	"fmt"
 	"os"
+	"os/exec"
 	"path/filepath"
 	"strings"
 	"sync"
@@ -468,6 +469,8 @@ func load(t testing.TB, members ...*member) (end func() []string) {
 			putting.Add(1)
 			go func(m *member, who string) {
 				defer putting.Done()
+				const least, most = 2 * time.Second, 20 * time.Second
+				wait := least // (it is short again once the server answers, so that one that hangs holds nobody up)
 				for n := 0; ; n++ {
 					select {
 					case <-stop:
@@ -475,7 +478,12 @@ func load(t testing.TB, members ...*member) (end func() []string) {
 					case <-time.After(5 * time.Millisecond):
 					}
 					message := fmt.Sprint("good ", who, ".", n)
-					if m.tryPut(2*time.Second, message) == nil {
+					if m.tryPut(wait, message) != nil {
+						if wait *= 2; wait > most {
+							wait = most
+						}
+					} else {
+						wait = least
 						mu.Lock()
 						answered = append(answered, message)
 						mu.Unlock()
@@ -625,7 +633,7 @@ func (s *suite) expires(t *testing.T) {
 	const keep = 3 * time.Second
 	o := Options{Name: s.name(), Keep: keep}
 	m := s.join(t, o)
-	put := make(map[string]time.Time)
+	put := make(map[string]time.Time) // when each value was put that is stored
 	var mu sync.Mutex
 	stop, stopped := make(chan struct{}), make(chan struct{})
 	go func() {
@@ -636,42 +644,48 @@ func (s *suite) expires(t *testing.T) {
 				return
 			case <-time.After(20 * time.Millisecond):
 			}
-			message := fmt.Sprint("good ", n)
-			mu.Lock()
-			put[message] = time.Now()
-			mu.Unlock()
+			message, at := fmt.Sprint("good ", n), time.Now()
 			if err := m.tryPut(patience.Long, message); err != nil {
 				t.Error(err)
+				continue
 			}
+			mu.Lock()
+			put[message] = at
+			mu.Unlock()
 		}
 	}()
+	begun := time.Now()
 	for removals, first := 0, uint64(0); removals < 3; {
-		asked := time.Now()
+		mu.Lock()
+		due := make(map[string]time.Time, len(put))
+		for message, at := range put {
+			due[message] = at
+		}
+		mu.Unlock()
 		late := s.join(t, o)
 		done, read, start := time.Now(), late.values(), late.starts()[0]
 		if start.Missed {
 			t.Fatalf("values are missing: %+v %q", start, late.lines)
 		}
 		if len(read) > 0 {
-			mu.Lock()
-			for message, at := range put {
-				if age := done.Sub(at); age < keep && asked.After(at.Add(time.Second)) && late.has(message) == 0 {
+			for message, at := range due {
+				if age := done.Sub(at); age < keep && late.has(message) == 0 {
 					t.Errorf("%q is gone at the age of %v", message, age)
 				}
 			}
-			mu.Unlock()
 			if read[0].Position > first && read[0].Position > 1 {
 				removals, first = removals+1, read[0].Position
 			}
-			for i := range read {
-				if read[i].Position != read[0].Position+uint64(i) {
-					t.Fatalf("position %d stands behind %d", read[i].Position, read[i-1].Position)
+			for i := 1; i < len(read); i++ { // (what is removed while it reads is old enough, and so is what stands before that)
+				before := done.Sub(due[string(read[i-1].Message)])
+				if at := read[i].Position; at <= read[i-1].Position || at > read[i-1].Position+1 && before < keep {
+					t.Fatalf("position %d stands behind %d, which is %v old", at, read[i-1].Position, before)
 				}
 			}
 		}
 		late.Close()
-		if time.Since(asked) > patience.Long {
-			t.Fatal("nothing is removed")
+		if time.Since(begun) > patience.Long {
+			t.Fatalf("values were removed %d times", removals)
 		}
 	}
 	close(stop)
@@ -715,39 +729,6 @@ func (s *suite) serverComesLater(t *testing.T) {
 	same(t, holds([]string{"good 2"}), m, late)
 }
 
-// Full lets a server have no room for a while. What it can't store is an error, and nothing that was answered is lost; nor does
-// anybody say so.
-func Full(t *testing.T, server Server, fill, free func()) {
-	s := &suite{server: server}
-	o := Options{Name: s.name()}
-	members := []*member{s.join(t, o), s.join(t, o)}
-	end := load(t, members[0])
-	Await(t, "some values", func() bool { return members[1].Taken() > 20 })
-	fill()
-	padding := strings.Repeat("x", 50<<10)
-	var answered []string
-	for n := 0; ; n++ {
-		message := fmt.Sprint("good large ", n, padding)
-		if members[1].tryPut(time.Second, message) != nil {
-			break
-		}
-		if answered = append(answered, message); n == 10_000 {
-			t.Fatal("the server has room")
-		}
-	}
-	free()
-	before := members[1].Taken()
-	Await(t, "some values", func() bool { return members[1].Taken() > before+20 })
-	answered = append(answered, end()...)
-	late := s.join(t, o)
-	same(t, holds(answered), append(members, late)...)
-	for _, m := range append(members, late) {
-		if got := m.starts(); len(got) != 1 || m.said("gone") || m.said("anew") {
-			t.Errorf("began %v, and said %q", got, m.lines)
-		}
-	}
-}
-
 // Small is a small disk, and ends with the test. fill leaves no room on it, and free gives that back. Only root can have one: ok says
 // whether that went.
 func Small(t testing.TB, megabytes int) (dir string, fill, free func(), ok bool) {
@@ -781,4 +762,29 @@ func Small(t testing.TB, megabytes int) (dir string, fill, free func(), ok bool)
 		}
 	}
 	return dir, fill, free, true
+}
+
+// Copied copies what a server keeps in a folder, once stop has ended it, and starts it again. restore kills it, puts the copy back, and starts
+// it again.
+func Copied(t testing.TB, dir string, stop, kill func(), start func(testing.TB)) (restore func()) {
+	t.Helper()
+	kept := t.TempDir()
+	stop()
+	CopyAll(t, dir, kept)
+	start(t)
+	return func() {
+		kill()
+		CopyAll(t, kept, dir)
+		start(t)
+	}
+}
+
+// CopyAll puts what a folder has into another one, instead of what that has.
+func CopyAll(t testing.TB, from, to string) {
+	t.Helper()
+	for _, words := range [][]string{{"mkdir", "-p", to}, {"find", to, "-mindepth", "1", "-delete"}, {"cp", "-a", from + "/.", to}} {
+		if out, err := exec.Command(words[0], words[1:]...).CombinedOutput(); err != nil {
+			t.Fatalf("%v: %v %s", words, err, out)
+		}
+	}
 }

@@ -5,6 +5,8 @@ import (
 	"testing"
 	"time"
 
+	"github.com/nats-io/nats.go"
+
 	"svid.example/go/v3/internal/broker"
 	"svid.example/go/v3/internal/patience"
 )
@@ -46,6 +48,30 @@ func start(t testing.TB, servers ...*broker.Server) {
 	for _, s := range servers {
 		Await(t, "JetStream", s.Answers)
 	}
+}
+
+// Connect connects as soon as a server lets it in, which a busy one may do late. The connection ends with the test.
+func Connect(t testing.TB, servers string, options ...nats.Option) (c *nats.Conn) {
+	t.Helper()
+	Await(t, "a connection", func() (is bool) {
+		var err error
+		if c, err = nats.Connect(servers, append(options, nats.Timeout(patience.Long))...); err != nil {
+			t.Log(err)
+		}
+		return err == nil
+	})
+	t.Cleanup(c.Close)
+	return c
+}
+
+// JetStream asks a connection's server for what only an administrator may do.
+func JetStream(t testing.TB, c *nats.Conn) nats.JetStreamContext {
+	t.Helper()
+	js, err := c.JetStream(nats.MaxWait(patience.Long / 4))
+	if err != nil {
+		t.Fatal(err)
+	}
+	return js
 }
 
 // Await asks every few milliseconds whether something is so, and ends the test where it is not in time.

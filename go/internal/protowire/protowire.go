@@ -1,5 +1,5 @@
 // Package protowire reads and writes the fields of protobuf messages, as Google's package of this name does, whose names it has: so a
-// service that takes a guard needs no other module. Its test holds it to that package.
+// service that takes a guard needs no other module. Its test holds it to that package. (Each and AppendField are its own.)
 package protowire
 
 import (
@@ -149,4 +149,32 @@ func AppendVarint(b []byte, v uint64) []byte { return binary.AppendUvarint(b, v)
 // AppendBytes writes bytes behind their length.
 func AppendBytes(b, value []byte) []byte {
 	return append(AppendVarint(b, uint64(len(value))), value...)
+}
+
+// Each calls do with each field of a message. The value is nil where it is not bytes, text or a message.
+func Each(message []byte, do func(number Number, kind Type, value []byte) error) error {
+	for len(message) > 0 {
+		number, kind, n := ConsumeTag(message)
+		if n < 0 {
+			return ParseError(n)
+		}
+		message = message[n:]
+		if n = ConsumeFieldValue(number, kind, message); n < 0 {
+			return ParseError(n)
+		}
+		var value []byte
+		if kind == BytesType {
+			value, _ = ConsumeBytes(message)
+		}
+		if err := do(number, kind, value); err != nil {
+			return err
+		}
+		message = message[n:]
+	}
+	return nil
+}
+
+// AppendField writes a field that is bytes, text or a message.
+func AppendField(b []byte, number Number, value []byte) []byte {
+	return AppendBytes(AppendTag(b, number, BytesType), value)
 }

@@ -61,7 +61,10 @@ func TestAWithdrawalOfAFullDisk(t *testing.T) {
 func TestAWithdrawalReachesTheGroupWithoutADisk(t *testing.T) {
 	for _, mode := range []Mode{Once, Strict, Reuse} {
 		for what, kept := range map[string]*disk{"full": {fault: errors.New("no space left on device")}, "hangs": {hangs: make(chan struct{})}} {
-			o := inStrict(Options{Journal: kept, Wait: 100 * time.Millisecond})
+			o := inStrict(Options{Journal: kept})
+			if kept.hangs != nil {
+				o.Wait = time.Second // (and the store has that time, too)
+			}
 			o.Mode = mode
 			store := newShop()
 			e := store.use(t, ready(t, engine(t, o)))

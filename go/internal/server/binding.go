@@ -214,13 +214,22 @@ func (c *CallerRule) within(text string) Caller {
 		bits = c.four
 	}
 	if bits == address.BitLen() {
-		return callerBy("address", address.String())
+		return callerBy("address", spelled(address, text))
 	}
 	network, err := address.Prefix(bits)
 	if err != nil {
 		return noCaller("%s has no network of %d bits: %v", c.where(), bits, err)
 	}
 	return callerBy("address", network.String())
+}
+
+// spelled is the one spelling of an address. Where the text has it already, no memory is asked for.
+func spelled(address netip.Addr, text string) string {
+	var room [64]byte
+	if one := address.AppendTo(room[:0]); string(one) != text {
+		return string(one)
+	}
+	return text
 }
 
 // callerIn is the caller of a request to /check, where that counts.

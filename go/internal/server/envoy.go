@@ -2,37 +2,23 @@ package server
 
 import (
 	"bytes"
-	"encoding/binary"
-	"errors"
-	"io"
 	"net/http"
 	"net/textproto"
 	"strconv"
 	"strings"
 
 	"svid.example/go/v3/internal/extauthz"
+	"svid.example/go/v3/internal/grpc"
 	"svid.example/go/v3/svidhttp"
 )
 
 // MaxEnvoy is how many bytes a CheckRequest of Envoy may have: the headers of a request, and what Envoy says beside them.
 const MaxEnvoy = 2 * svidhttp.MaxHeader
 
-// frameHead is what stands before each message of gRPC: whether it is compressed, and its length.
-const frameHead = 5
-
 // A call that can't be read ends with such a status of gRPC. (Envoy then lets nothing through, unless it is told to.)
-type grpcFault struct {
-	code int
-	why  string
-}
-
-func (f *grpcFault) Error() string { return f.why }
-
 var (
-	errNoCheck    = &grpcFault{extauthz.Unimplemented, "only envoy.service.auth.v3.Authorization/Check is answered"}
-	errCompressed = &grpcFault{extauthz.Unimplemented, "the message is compressed"}
-	errTooLarge   = &grpcFault{extauthz.ResourceExhausted, "the message has more than " + strconv.Itoa(MaxEnvoy) + " bytes: let Envoy send no body (with_request_body)"}
-	errNotWhole   = &grpcFault{extauthz.InvalidArgument, "the call has not one whole message"}
+	errNoCheck  = &grpc.Fault{Code: grpc.Unimplemented, Why: "only envoy.service.auth.v3.Authorization/Check is answered"}
+	errTooLarge = &grpc.Fault{Code: grpc.ResourceExhausted, Why: "the message has more than " + strconv.Itoa(MaxEnvoy) + " bytes: let Envoy send no body (with_request_body)"}
 )
 
 // Envoy answers envoy.service.auth.v3.Authorization/Check, for a server of HTTP/2. It answers a request as Handler does at /check:
@@ -48,12 +34,12 @@ func (e *Engine) Envoy() http.Handler {
 		w.Header().Set("Content-Type", "application/grpc")
 		answer, fault := e.checkEnvoy(r)
 		if fault != nil {
-			w.Header().Set("Grpc-Status", strconv.Itoa(fault.code))
-			w.Header().Set("Grpc-Message", fault.why)
+			w.Header().Set("Grpc-Status", strconv.Itoa(fault.Code))
+			w.Header().Set("Grpc-Message", fault.Why)
 			return
 		}
 		w.Header().Set("Trailer", "Grpc-Status")
-		_, _ = w.Write(framed(answer))
+		_, _ = w.Write(grpc.Frame(answer))
 		w.Header().Set("Grpc-Status", "0")
 	})
 }
@@ -64,12 +50,15 @@ func isGRPC(kind string) bool {
 }
 
 // checkEnvoy answers one call.
-func (e *Engine) checkEnvoy(r *http.Request) (answer []byte, fault *grpcFault) {
+func (e *Engine) checkEnvoy(r *http.Request) (answer []byte, fault *grpc.Fault) {
 	if r.URL.Path != extauthz.Path {
 		return nil, errNoCheck
 	}
-	message, fault := readFrame(r.Body)
-	if fault != nil {
+	message, fault := grpc.ReadOne(r.Body, MaxEnvoy)
+	switch {
+	case fault == grpc.ErrTooLarge:
+		return nil, errTooLarge
+	case fault != nil:
 		return nil, fault
 	}
 	asked, err := extauthz.ReadHeaders(message, "authorization", "x-request-id", "x-forwarded-for")
@@ -80,7 +69,7 @@ func (e *Engine) checkEnvoy(r *http.Request) (answer []byte, fault *grpcFault) {
 		from = e.Caller.ByEnvoy(Source(source))
 	}
 	if err != nil {
-		return nil, &grpcFault{extauthz.InvalidArgument, "it is no CheckRequest"}
+		return nil, &grpc.Fault{Code: grpc.InvalidArgument, Why: "it is no CheckRequest"}
 	}
 	header := http.Header{}
 	for name, values := range asked {
@@ -126,39 +115,9 @@ func (h *heard) Write(text []byte) (n int, err error) { return h.body.Write(text
 func codeOf(status int) int {
 	switch status {
 	case http.StatusUnauthorized:
-		return extauthz.Unauthenticated
+		return grpc.Unauthenticated
 	case http.StatusForbidden:
-		return extauthz.PermissionDenied
+		return grpc.PermissionDenied
 	}
-	return extauthz.Unavailable
-}
-
-// framed is a message as gRPC sends it.
-func framed(message []byte) []byte {
-	frame := make([]byte, frameHead, frameHead+len(message))
-	binary.BigEndian.PutUint32(frame[1:], uint32(len(message)))
-	return append(frame, message...)
-}
-
-// readFrame reads the one message of a call.
-func readFrame(r io.Reader) ([]byte, *grpcFault) {
-	var head [frameHead]byte
-	if _, err := io.ReadFull(r, head[:]); err != nil {
-		return nil, errNotWhole
-	}
-	length := binary.BigEndian.Uint32(head[1:])
-	switch {
-	case head[0] != 0:
-		return nil, errCompressed
-	case length > MaxEnvoy:
-		return nil, errTooLarge
-	}
-	message, err := io.ReadAll(io.LimitReader(r, int64(length))) // Memory comes as the bytes do.
-	if err != nil || len(message) < int(length) {
-		return nil, errNotWhole
-	}
-	if n, err := io.ReadFull(r, head[:1]); n > 0 || !errors.Is(err, io.EOF) {
-		return nil, errNotWhole // Something stands behind it, or the call was ended.
-	}
-	return message, nil
+	return grpc.Unavailable
 }

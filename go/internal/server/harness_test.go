@@ -8,6 +8,7 @@ import (
 	"net/http"
 	"net/http/httptest"
 	"sync"
+	"syscall"
 	"testing"
 	"time"
 
@@ -210,7 +211,7 @@ func engine(t testing.TB, o Options) *Engine {
 		o.Now = func() uint64 { return moment }
 	}
 	if o.Wait == 0 {
-		o.Wait = 5 * time.Second
+		o.Wait = patience.Long
 	}
 	if o.ValidatorID == (svid.ValidatorID{}) {
 		o.ValidatorID = svid.ValidatorID{1}
@@ -224,10 +225,45 @@ func engine(t testing.TB, o Options) *Engine {
 	return e
 }
 
-// soon ends all tests where this one hangs: earlier than the test tool's own limit would, and later than a test waits for something.
+// soon ends all tests where this one hangs: earlier than the test tool's own limit would, and later than a test waits for something. One that
+// works has more time, some times over: a busy machine gives it little of a processor.
 func soon(t testing.TB) (ended func()) {
-	late := time.AfterFunc(patience.Long+50*time.Second, func() { panic(t.Name() + " hangs") })
-	return func() { late.Stop() }
+	const mostLooks, works = 5, 2 * time.Second
+	var mu sync.Mutex
+	var next *time.Timer
+	looks, before, isOver := 0, worked(t), false
+	var look func()
+	look = func() {
+		mu.Lock()
+		defer mu.Unlock()
+		if isOver {
+			return
+		}
+		now := worked(t)
+		if looks++; looks == mostLooks || now-before < works {
+			panic(t.Name() + " hangs")
+		}
+		before = now
+		next.Reset(patience.Long + 50*time.Second)
+	}
+	mu.Lock()
+	defer mu.Unlock()
+	next = time.AfterFunc(patience.Long+50*time.Second, look)
+	return func() {
+		mu.Lock()
+		defer mu.Unlock()
+		isOver = true
+		next.Stop()
+	}
+}
+
+// worked is for how long this process has had a processor.
+func worked(t testing.TB) time.Duration {
+	var usage syscall.Rusage
+	if err := syscall.Getrusage(syscall.RUSAGE_SELF, &usage); err != nil {
+		t.Error(err)
+	}
+	return time.Duration(usage.Utime.Nano() + usage.Stime.Nano())
 }
 
 // ready gives an engine its bundles and an empty record.

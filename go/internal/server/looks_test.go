@@ -103,7 +103,7 @@ func TestALookEndsBeforeOthersStopWaiting(t *testing.T) {
 
 // A store that has more withdrawals than one look can read is not away. The next look goes on where this one ended.
 func TestAStoreWithManyWithdrawalsIsNotAway(t *testing.T) {
-	o := inStrict(Options{Wait: 50 * time.Millisecond})
+	o := inStrict(Options{Wait: 500 * time.Millisecond})
 	o.Mode = Reuse
 	e := engine(t, o)
 	store := &watchedShop{shop: newShop(), endless: true}

@@ -3,6 +3,7 @@ package server
 import (
 	"context"
 	"errors"
+	"fmt"
 	"sync/atomic"
 	"testing"
 	"time"
@@ -20,7 +21,7 @@ func (f *fullDisk) Room(context.Context) error { return f.full }
 func TestReadyzTellsOfADiskWithoutRoom(t *testing.T) {
 	for mode, want := range map[Mode]bool{Once: false, Strict: true, Reuse: true} {
 		d := &fullDisk{full: errors.New("no space left on device")}
-		o := Options{Mode: mode, Journal: d, Wait: time.Second}
+		o := Options{Mode: mode, Journal: d}
 		if mode == Strict {
 			o = inStrict(o)
 		}
@@ -54,9 +55,7 @@ func TestReadyzTellsOfAStoreThatIsAway(t *testing.T) {
 			return nil
 		}
 		e := s.use(t, ready(t, engine(t, o)))
-		if err := e.Ready(); err != nil {
-			t.Fatal(err)
-		}
+		await(t, "the store to be there", func() bool { e.lookAhead(); return e.Ready() == nil }) // (a look may take no longer than a request)
 		away.Store(true)
 		e.lookAhead()
 		if mode == Strict {
@@ -66,9 +65,6 @@ func TestReadyzTellsOfAStoreThatIsAway(t *testing.T) {
 			t.Errorf("%s: ready is %v", mode, err)
 		}
 		away.Store(false)
-		e.lookAhead()
-		if err := e.Ready(); err != nil {
-			t.Errorf("%s, with its store: %v", mode, err)
-		}
+		await(t, fmt.Sprintf("the store to be there again in mode %s", mode), func() bool { e.lookAhead(); return e.Ready() == nil })
 	}
 }

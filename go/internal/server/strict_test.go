@@ -111,7 +111,7 @@ func TestAClaimWithoutAnswerIsPutAgain(t *testing.T) {
 
 // A claim whose outcome is unknown is answered 503. The same life may claim the token again, and nobody else.
 func TestAClaimOfUnknownOutcome(t *testing.T) {
-	all, store := strictWithin(t, 2, 300*time.Millisecond)
+	all, store := strictWithin(t, 2, 2*time.Second)
 	lost := errors.New("connection lost")
 	store.fail(lost)
 	err := <-claimed(t, store, all[0], token("a"))

@@ -253,6 +253,8 @@ func checkedBy(now uint64, text []byte, token string) string {
 func faultOf(err error) string {
 	var fault *svid.BundleError
 	switch {
+	case errors.As(err, &fault) && fault.Reason == "Unnamed":
+		return fault.Reason
 	case errors.As(err, &fault):
 		return fmt.Sprintf("%s %d", fault.Reason, fault.Index)
 	case errors.Is(err, svid.ErrBundles):

@@ -5,6 +5,7 @@ use std::fmt;
 use crate::error::Error;
 use crate::ffi::{self, Bearer};
 use crate::refusal::Refusal;
+use crate::unavailable;
 
 /// Finds the one bearer token of a request by the values of all its header fields `Authorization` (docs/FORMATS.md, "Bearer token of a
 /// request"). It does not read the token.
@@ -76,13 +77,36 @@ impl Denied {
         matches!(self, Denied::Failed(_)).then_some(1)
     }
 
-    /// The whole answer, without a body. Nobody may keep it (`Cache-Control: no-store`).
+    /// The word by which the client hears why: the `reason` of the [body](Denied::body).
+    pub fn reason(&self) -> &'static str {
+        match self {
+            Denied::NoToken(BearerFault::Absent) => "NoToken",
+            Denied::NoToken(_) => "NotBearer",
+            Denied::Refused(why) => why.name(),
+            Denied::NotAllowed => "NotAllowed",
+            Denied::Failed(why) => unavailable::reason_of(why.told_as()),
+        }
+    }
+
+    /// The body of the answer, as JSON: `Content-Type: application/json`.
+    ///
+    /// ```
+    /// let denied = svid::bearer_token::<&[u8]>([]).unwrap_err();
+    /// assert_eq!(denied.body(), "{\"reason\":\"NoToken\",\"result\":\"refused\"}\n");
+    /// ```
+    pub fn body(&self) -> String {
+        let result = if matches!(self, Denied::Failed(_)) { "unavailable" } else { "refused" };
+        format!("{{\"reason\":\"{}\",\"result\":\"{result}\"}}\n", self.reason())
+    }
+
+    /// The whole answer. Nobody may keep it (`Cache-Control: no-store`).
     #[cfg(feature = "http")]
-    pub fn response<B: Default>(&self) -> http::Response<B> {
-        let mut response = http::Response::new(B::default());
+    pub fn response<B: From<String>>(&self) -> http::Response<B> {
+        let mut response = http::Response::new(B::from(self.body()));
         *response.status_mut() = http::StatusCode::from_u16(self.status()).unwrap_or(http::StatusCode::SERVICE_UNAVAILABLE);
         let headers = response.headers_mut();
         headers.insert(http::header::CACHE_CONTROL, http::HeaderValue::from_static("no-store"));
+        headers.insert(http::header::CONTENT_TYPE, http::HeaderValue::from_static("application/json"));
         if let Some(text) = self.challenge() {
             headers.insert(http::header::WWW_AUTHENTICATE, http::HeaderValue::from_static(text));
         }

@@ -90,11 +90,22 @@ impl Error {
             ffi::BUNDLES_NOT_OBJECT => DocumentFault::NotObject,
             ffi::BUNDLES_DOMAIN => DocumentFault::Domain,
             ffi::BUNDLES_KEYS => DocumentFault::Keys,
+            ffi::BUNDLES_UNNAMED => DocumentFault::Unnamed,
             ffi::BUNDLES_TWICE => DocumentFault::Twice,
             status => return Error::of(status, told),
         };
         // (the library counts them from 1)
         Error::Bundles(BundlesFault::Document { number: told.input.saturating_sub(1), fault })
+    }
+
+    /// The status by whose word a client hears of an error that says nothing of its token.
+    pub(crate) fn told_as(self) -> u32 {
+        match self {
+            Error::NoMemory => ffi::NO_MEMORY,
+            Error::Jump => ffi::JUMP,
+            Error::Unavailable(why) => why.told_as(),
+            _ => ffi::LATE,
+        }
     }
 
     pub(crate) fn unexpected(status: u32) -> Error {
@@ -182,7 +193,7 @@ pub enum OptionsFault {
 impl fmt::Display for OptionsFault {
     fn fmt(&self, f: &mut fmt::Formatter<'_>) -> fmt::Result {
         f.write_str(match self {
-            OptionsFault::Store => "there is no store: give one in the modes strict and bound",
+            OptionsFault::Store => "there is no store: give one in the modes strict and bound, or in bound a state folder",
             OptionsFault::Wait => "a check has less than a millisecond: let wait be longer",
             OptionsFault::Callers => "callers is empty: name who may call, or leave it out to let all call",
             OptionsFault::Caller { number, fault } => return write!(f, "number {number} of the callers, counted from 0: {}", fault.says()),
@@ -271,6 +282,8 @@ pub enum BundlesFault {
         /// The number of its name.
         number: usize,
     },
+    /// They are the bundle of one trust domain, without its name.
+    Unnamed,
     /// One of the bundles of [`Sources`](crate::Sources) that never change can't be joined to the others.
     Document {
         /// Which one: the first is number 0.
@@ -284,6 +297,7 @@ impl fmt::Display for BundlesFault {
     fn fmt(&self, f: &mut fmt::Formatter<'_>) -> fmt::Result {
         let (status, number) = match self {
             BundlesFault::NotObject => return words::write_plain(f, ffi::BUNDLES_NOT_OBJECT),
+            BundlesFault::Unnamed => return words::write_plain(f, ffi::BUNDLES_UNNAMED),
             BundlesFault::Document { number, fault } => {
                 return words::write(f, fault.status(), format_args!(" (number {number} of the joined bundles, counted from 0)"));
             }
@@ -306,6 +320,8 @@ pub enum DocumentFault {
     Domain,
     /// It has no list `keys`.
     Keys,
+    /// It is the bundle of one trust domain, without its name.
+    Unnamed,
     /// An earlier bundle has the same trust domain.
     Twice,
 }
@@ -322,6 +338,7 @@ impl DocumentFault {
             DocumentFault::NotObject => ffi::BUNDLES_NOT_OBJECT,
             DocumentFault::Domain => ffi::BUNDLES_DOMAIN,
             DocumentFault::Keys => ffi::BUNDLES_KEYS,
+            DocumentFault::Unnamed => ffi::BUNDLES_UNNAMED,
             DocumentFault::Twice => ffi::BUNDLES_TWICE,
         }
     }

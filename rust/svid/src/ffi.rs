@@ -501,6 +501,7 @@ extern "C" {
     ) -> u32;
     pub fn svid_entries_read(messages: *const u8, messages_len: usize, out: *mut Entry, out_len: usize, told: *mut Told) -> u32;
     pub fn svid_entries_write(entries: *const Entry, entries_len: usize, out: *mut u8, out_len: usize, told: *mut Told) -> u32;
+    pub fn svid_report(messages: *const u8, messages_len: usize, now: u64, out: *mut u8, out_len: usize, told: *mut Told) -> u32;
 
     pub fn svid_bundles_join(
         bytes: *const u8,
@@ -534,6 +535,7 @@ extern "C" {
     pub fn svid_validator_parts(v: *mut Handle, part: *mut Part, out: *mut u8, out_len: usize, told: *mut Told) -> u32;
     pub fn svid_validator_size(v: *mut Handle, out: *mut Size, told: *mut Told) -> u32;
     pub fn svid_validator_summary(v: *mut Handle, out: *mut u8, out_len: usize, told: *mut Told) -> u32;
+    pub fn svid_validator_bucket(v: *mut Handle, bucket: u8, moment: u64, out: *mut u8, out_len: usize, told: *mut Told) -> u32;
     pub fn svid_validator_answer(
         v: *mut Handle,
         now: u64,

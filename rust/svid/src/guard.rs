@@ -10,7 +10,8 @@ use crate::ffi;
 use crate::follower::Follower;
 use crate::id::SpiffeId;
 use crate::journal::{Journal, JournalError};
-use crate::options::Options;
+use crate::local::{Local, LocalStore};
+use crate::options::{Mode, Options};
 use crate::pattern::{Pattern, PatternError};
 use crate::record::{Accepted, Size, TokenKey, Use, ValidatorId};
 use crate::requests::Requests;
@@ -48,6 +49,7 @@ pub struct Guard<V> {
     pub(crate) requests: Arc<Requests>,
     verifier: V,
     pub(crate) journal: Option<Arc<Journal>>,
+    local: Option<Arc<LocalStore>>,
     snapshot: Mutex<Option<JoinHandle<()>>>, // the last thread that took one
     follower: Mutex<Option<Follower>>,
 }
@@ -62,7 +64,8 @@ impl<V> Guard<V> {
     /// where the options have no validator ID.
     pub fn open(options: &Options, bundles: impl Into<Sources>, verifier: V) -> Result<Guard<V>, Error> {
         let requests = Requests::open(options, false)?;
-        Guard { requests, verifier, journal: None, snapshot: Mutex::new(None), follower: Mutex::new(None) }.begun(bundles.into())
+        Guard { requests, verifier, journal: None, local: None, snapshot: Mutex::new(None), follower: Mutex::new(None) }
+            .begun(bundles.into())
     }
 
     fn begun(self, bundles: Sources) -> Result<Guard<V>, Error> {
@@ -72,7 +75,8 @@ impl<V> Guard<V> {
 
     /// Opens a guard whose record is that of a state folder, and has its ID. No token that [`Guard::check`] accepted in mode
     /// [`Once`](crate::Mode::Once) is accepted again after a crash, a restart or a loss of power: the answer comes once the disk has the use. So
-    /// does that of [`Guard::withdraw`] in each mode. What [`Guard::take`] got is kept from the next snapshot on. The guard takes snapshots by
+    /// does that of [`Guard::withdraw`] in each mode. In mode [`Bound`](crate::Mode::Bound) without a store, its folder `claims` has which caller used a
+    /// token first, for this guard alone. What [`Guard::take`] got is kept from the next snapshot on. The guard takes snapshots by
     /// itself.
     ///
     /// To drop the guard waits for what is on its way to the disk.
@@ -103,14 +107,21 @@ impl<V> Guard<V> {
         verifier: V,
         mut journal: Journal,
     ) -> Result<Guard<V>, JournalError> {
-        let options = options.clone().validator_id(journal.validator_id());
+        let mut options = options.clone().validator_id(journal.validator_id());
+        let local = match (options.mode, &options.store) {
+            (Mode::Bound, None) => Some(LocalStore::open(&journal.path("claims"), &options)?),
+            _ => None,
+        };
+        if let Some(store) = &local {
+            options = options.store(Arc::new(Local(Arc::clone(store))));
+        }
         let requests = Requests::open(&options, true).map_err(JournalError::Guard)?;
         journal.load(|messages| requests.core().take(requests.now()?, messages)).map_err(JournalError::Guard)?;
         if journal.wants_snapshot() {
             journal.snapshot(|part, room| requests.core().piece(part, room))?;
         }
         let journal = Some(Arc::new(journal));
-        let guard = Guard { requests, verifier, journal, snapshot: Mutex::new(None), follower: Mutex::new(None) };
+        let guard = Guard { requests, verifier, journal, local, snapshot: Mutex::new(None), follower: Mutex::new(None) };
         guard.begun(bundles.into()).map_err(JournalError::Guard)
     }
 
@@ -133,15 +144,14 @@ impl<V> Guard<V> {
     }
 
     /// Takes messages of other guards, or a record that was saved: no token that they tell of is accepted here, if it was not accepted before.
-    /// Taking a message twice, or in another order, makes no difference.
+    /// Taking a message twice, or in another order, makes no difference. [`Options::twice`] hears of a token that they show to be accepted twice.
     ///
     /// # Errors
     ///
     /// [`Error::TooFar`], [`Error::Messages`], [`Error::TooMuch`]: nothing was taken. [`Error::NoMemory`]: a part may be taken, and you can take
     /// the same messages again. [`Error::Jump`], [`Error::NoClock`].
     pub fn take(&self, messages: impl AsRef<[u8]>) -> Result<(), Error> {
-        let now = self.requests.now()?;
-        self.requests.core().take(now, messages.as_ref())
+        self.requests.take(messages.as_ref())
     }
 
     /// The whole record as messages, for other guards or to save it.
@@ -375,6 +385,9 @@ impl<V: Verify> Guard<V> {
 impl<V> Drop for Guard<V> {
     fn drop(&mut self) {
         self.requests.close();
+        if let Some(local) = &self.local {
+            local.close();
+        }
         drop(self.follower.get_mut().unwrap_or_else(PoisonError::into_inner).take());
         let last = self.snapshot.get_mut().unwrap_or_else(PoisonError::into_inner).take();
         if let Some(last) = last {

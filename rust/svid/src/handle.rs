@@ -123,6 +123,17 @@ impl Core {
         cut(text, written, &told)
     }
 
+    /// The uses whose keys begin with this byte, as messages.
+    pub fn bucket(&mut self, number: u8) -> Result<Vec<u8>, Error> {
+        let mut text = Vec::new();
+        let (raw, mut told) = (&mut self.raw, Told::default());
+        let written = ffi::written(&mut text, &mut told, |out, out_len, told| {
+            // SAFETY: the handle is open, and `out` is the text's room with its length.
+            unsafe { ffi::svid_validator_bucket(raw, number, 0, out, out_len, told) }
+        });
+        cut(text, written, &told)
+    }
+
     pub fn answer(&mut self, now: u64, summary: &[u8]) -> Result<Vec<u8>, Error> {
         let mut text = Vec::new();
         let (raw, mut told) = (&mut self.raw, Told::default());

@@ -59,6 +59,7 @@ mod handle;
 mod id;
 mod journal;
 mod key;
+mod local;
 mod log_member;
 mod open_token;
 mod options;
@@ -72,6 +73,7 @@ mod store;
 #[cfg(any(test, feature = "testing"))]
 pub mod testing;
 mod token;
+mod twice;
 mod unavailable;
 mod verify;
 mod words;

@@ -8,7 +8,7 @@ use crate::error::{Error, OptionsFault};
 use crate::ffi;
 use crate::paths::Paths;
 use crate::pattern::{Pattern, PatternError};
-use crate::record::ValidatorId;
+use crate::record::{TokenKey, ValidatorId};
 use crate::store::Store;
 
 /// How many seconds a token may still live, where no option says so.
@@ -49,6 +49,8 @@ impl Mode {
 pub(crate) type Warns = dyn Fn(&dyn fmt::Display) + Send + Sync;
 /// What is told of each token that is not accepted.
 pub(crate) type Refuses = dyn Fn(&Error) + Send + Sync;
+/// What is told of a token that several guards accepted.
+pub(crate) type HearsTwice = dyn Fn(TokenKey) + Send + Sync;
 /// Gives the time in seconds since 1970.
 pub(crate) type Now = dyn Fn() -> Result<u64, Error> + Send + Sync;
 
@@ -70,6 +72,7 @@ pub struct Options {
     pub(crate) wait: Duration,
     pub(crate) warns: Arc<Warns>,
     pub(crate) refuses: Arc<Refuses>,
+    pub(crate) twice: Arc<HearsTwice>,
     pub(crate) now: Arc<Now>,
     open_paths: Vec<String>,
 }
@@ -81,7 +84,7 @@ impl Options {
         Options {
             audiences: audiences.into_iter().map(Into::into).collect(),
             longest: USUAL_LONGEST,
-            ahead: 10,
+            ahead: 30,
             step: u64::MAX,
             validator_id: None,
             mode: Mode::Once,
@@ -90,6 +93,7 @@ impl Options {
             wait: Duration::from_secs(2),
             warns: Arc::new(|what| log::warn!("{what}")),
             refuses: Arc::new(|why| log::info!("a token is not accepted: {why}")),
+            twice: Arc::new(|key| log::warn!("several guards accepted the token {key}: it may be stolen, or its client sent it twice")),
             now: Arc::new(crate::now),
             open_paths: Vec::new(),
         }
@@ -109,7 +113,7 @@ impl Options {
         self.longest(u64::MAX)
     }
 
-    /// How many seconds the clocks of the group may differ: so far past `now` a message's moment may lie, and the time of a store. Without it, 10.
+    /// How many seconds the clocks of the group may differ: so far past `now` a message's moment may lie, and the time of a store. Without it, 30.
     #[must_use]
     pub fn ahead(mut self, seconds: u64) -> Options {
         self.ahead = seconds;
@@ -174,6 +178,14 @@ impl Options {
     #[must_use]
     pub fn refuses(mut self, hears: impl Fn(&Error) + Send + Sync + 'static) -> Options {
         self.refuses = Arc::new(hears);
+        self
+    }
+
+    /// Hears the key of a token that several guards accepted, once, when [`Guard::take`](crate::Guard::take) learns that. Of messages of more than
+    /// 4 MiB it hears nothing. Without it, warnings of the crate `log`.
+    #[must_use]
+    pub fn twice(mut self, hears: impl Fn(TokenKey) + Send + Sync + 'static) -> Options {
+        self.twice = Arc::new(hears);
         self
     }
 

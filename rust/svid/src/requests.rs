@@ -19,10 +19,11 @@ use crate::ffi;
 use crate::handle::{Core, Step};
 use crate::journal::{Journal, JournalError};
 use crate::open_token::OpenToken;
-use crate::options::{Mode, Now, Options, Refuses, Warns};
+use crate::options::{HearsTwice, Mode, Now, Options, Refuses, Warns};
 use crate::paths::Paths;
 use crate::record::{Accepted, TokenKey, Use, ValidatorId};
 use crate::store::{Claim, Found, StoreError};
+use crate::twice::Twice;
 use crate::unavailable::Unavailable;
 use crate::verify::Verify;
 
@@ -37,9 +38,12 @@ pub(crate) struct Requests {
     longest: u64,
     life: [u8; 16],
     is_bound: bool,
+    /// The status whose word a client hears where its time is over.
+    late: u32,
     pub(crate) claims: Option<Arc<Claims>>,
     warns: Arc<Warns>,
     refuses: Arc<Refuses>,
+    twice: Arc<HearsTwice>,
     /// Trust bundles were read.
     is_bundled: AtomicBool,
     /// What the disk did not take last: the number of the request, and its use as a message.
@@ -53,6 +57,11 @@ impl Requests {
         let paths = options.paths()?;
         let mut core = Core::open(options)?;
         let (mode, store, clock) = (options.mode, &options.store, Clock::new());
+        let late = match (mode.has_claims(), has_disk) {
+            (true, _) => ffi::CLAIM_FAR,
+            (false, true) => ffi::NOT_KEPT,
+            (false, false) => ffi::LATE,
+        };
         let life = match store {
             Some(_) => ValidatorId::random().map_err(|_| Error::NoRandom)?.0,
             None => [0; 16],
@@ -80,9 +89,11 @@ impl Requests {
             longest: options.longest,
             life,
             is_bound: mode == Mode::Bound,
+            late,
             claims: store.as_ref().map(|store| Claims::new(Arc::clone(store), clock, mode != Mode::Strict)),
             warns: Arc::clone(&options.warns),
             refuses: Arc::clone(&options.refuses),
+            twice: Arc::clone(&options.twice),
             is_bundled: AtomicBool::new(false),
             unkept: Mutex::new(None),
         }))
@@ -187,6 +198,22 @@ impl Requests {
                 return core.judge_read(now, &mut token);
             }
         }
+    }
+
+    /// Takes messages, and tells of the tokens that they show to be accepted twice.
+    pub fn take(&self, messages: &[u8]) -> Result<(), Error> {
+        let now = self.now()?;
+        let twice = {
+            let mut core = self.core();
+            let twice = Twice::look(&mut core, messages)?;
+            core.take(now, messages)?;
+            twice
+        };
+        for key in twice.news()? {
+            // (who hears of it must not let the call panic)
+            let _ = std::panic::catch_unwind(std::panic::AssertUnwindSafe(|| (self.twice)(key)));
+        }
+        Ok(())
     }
 
     /// Withdraws a token, everywhere.
@@ -411,6 +438,7 @@ impl Request<'_, '_> {
     fn answered(&mut self, deed: &ffi::Deed) -> Result<Accepted, Error> {
         let why = match (deed.status(), self.subject.take()) {
             (ffi::OK, Some(subject)) => return Ok(Accepted::new(subject, Use::of(&deed.used, false), self.token.says.take())),
+            (ffi::LATE, _) => Error::Unavailable(Unavailable::late(self.requests.late)),
             (status, _) => Error::of(status, &ffi::Told::default()),
         };
         Err(self.token.why(why))

@@ -9,6 +9,8 @@ use crate::words;
 #[derive(Clone, Copy, PartialEq, Eq)]
 pub struct Unavailable {
     why: Why,
+    /// The status by whose word a client hears it.
+    told_as: u32,
 }
 
 #[derive(Clone, Copy, PartialEq, Eq)]
@@ -19,15 +21,39 @@ enum Why {
 
 impl Unavailable {
     /// A keeper may lack a withdrawal.
-    pub(crate) const MAY_LACK: Unavailable = Unavailable { why: Why::MayLack };
+    pub(crate) const MAY_LACK: Unavailable = Unavailable { why: Why::MayLack, told_as: ffi::LATE };
+
+    /// The time is over, because of what this status is about.
+    pub(crate) fn late(told_as: u32) -> Unavailable {
+        Unavailable { why: Why::Status(ffi::LATE), told_as }
+    }
+
+    pub(crate) fn told_as(self) -> u32 {
+        self.told_as
+    }
 
     pub(crate) fn of_status(status: u32) -> Option<Unavailable> {
         match status {
             ffi::CLAIM_FAR | ffi::CLAIM_DEAF | ffi::LATE | ffi::NOT_KEPT | ffi::LEFT | ffi::ENDED..=ffi::DEAF => {
-                Some(Unavailable { why: Why::Status(status) })
+                Some(Unavailable { why: Why::Status(status), told_as: status })
             }
             _ => None,
         }
+    }
+}
+
+/// The word by which a client hears why a token was not judged, by the status.
+pub(crate) fn reason_of(status: u32) -> &'static str {
+    match status {
+        // lists:begin reasons (written by tools/lists from lists/statuses.toml)
+        ffi::NO_MEMORY => "NoMemory",
+        ffi::JUMP => "ClockJump",
+        ffi::CLAIM_FAR => "NotClaimed",
+        ffi::CLAIM_DEAF => "EntriesLost",
+        ffi::NOT_KEPT => "NotKept",
+        ffi::ENDED..=ffi::DEAF => "NotReady",
+        // lists:end
+        _ => "NotJudged",
     }
 }
 

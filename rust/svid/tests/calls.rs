@@ -278,7 +278,7 @@ fn a_log_whose_values_are_missing() {
     assert_eq!(member.read(0, 3, b"", &mut Vec::new()), Err(Error::Jump), "a gap wants a clock");
     assert!(member.read(NOW, 3, b"", &mut Vec::new()).unwrap().is_whole);
     // (the longest life, and twice what the clocks may differ)
-    assert_eq!(member.mark().map(|(position, accepts)| (position.passed, position.deaf, accepts)), Ok((3, NOW + 120, false)));
+    assert_eq!(member.mark().map(|(position, accepts)| (position.passed, position.deaf, accepts)), Ok((3, NOW + 160, false)));
     member.go_on().unwrap();
     assert_eq!(member.mark().map(|(position, accepts)| (position.deaf, accepts)), Ok((0, true)));
 }

@@ -35,7 +35,7 @@ fn a_guard_that_is_dropped_leaves_nothing() {
         assert!(counts().0 > before.0);
         let begun = Instant::now();
         drop(guard);
-        assert!(begun.elapsed() < Duration::from_secs(10), "the end waits for no answer: {:?}", begun.elapsed());
+        assert!(begun.elapsed() < Duration::from_secs(14), "the end waits for no answer: {:?}", begun.elapsed());
         drop(asked);
         // (threads that put claims wait for nothing, and nobody waits for them)
         while counts() != before {

@@ -65,6 +65,10 @@ fn invalid(name: &str) -> Option<String> {
     Some(format!("Bearer error=\"invalid_token\", error_description=\"{name}\""))
 }
 
+fn refused(reason: &str) -> String {
+    format!("{{\"reason\":\"{reason}\",\"result\":\"refused\"}}\n")
+}
+
 #[test]
 fn a_token_is_accepted_once() {
     let issuer = Issuer::new("example.org");
@@ -73,7 +77,7 @@ fn a_token_is_accepted_once() {
     for _ in 0..3 {
         let header = header(issuer.token("/billing/api", "ledger"));
         assert_eq!(service.ask(&header), (200, None, "hello spiffe://example.org/billing/api\n".to_owned()));
-        assert_eq!(service.ask(&header), (401, invalid("Replayed"), String::new()));
+        assert_eq!(service.ask(&header), (401, invalid("Replayed"), refused("Replayed")));
     }
     let kinds = [
         (Wrong::Expired, "Expired"),
@@ -85,7 +89,7 @@ fn a_token_is_accepted_once() {
     ];
     for (wrong, name) in kinds {
         let header = header(issuer.wrong(wrong, "/billing/api", "ledger"));
-        assert_eq!(service.ask(&header), (401, invalid(name), String::new()));
+        assert_eq!(service.ask(&header), (401, invalid(name), refused(name)));
     }
 }
 
@@ -113,17 +117,17 @@ fn a_request_without_one_token() {
     let service = Service::start(&Issuer::new("example.org"));
     let (bearer, malformed) =
         (Some("Bearer realm=\"svid\"".to_owned()), "Bearer error=\"invalid_request\", error_description=\"NotBearer\"");
-    for (headers, challenge) in [
-        ("", bearer.clone()),
-        ("Authorization: Basic YTpi\r\n", bearer),
-        ("Authorization: Bearer a\r\nAuthorization: Bearer a\r\n", Some(malformed.to_owned())),
-        ("Authorization: Bearer a b\r\n", Some(malformed.to_owned())),
-        ("Authorization: Bearer a.b.c\r\n", invalid("HeaderSpelling")),
+    for (headers, challenge, reason) in [
+        ("", bearer.clone(), "NoToken"),
+        ("Authorization: Basic YTpi\r\n", bearer, "NotBearer"),
+        ("Authorization: Bearer a\r\nAuthorization: Bearer a\r\n", Some(malformed.to_owned()), "NotBearer"),
+        ("Authorization: Bearer a b\r\n", Some(malformed.to_owned()), "NotBearer"),
+        ("Authorization: Bearer a.b.c\r\n", invalid("HeaderSpelling"), "HeaderSpelling"),
     ] {
-        assert_eq!(service.ask(headers), (401, challenge, String::new()), "{headers}");
+        assert_eq!(service.ask(headers), (401, challenge, refused(reason)), "{headers}");
     }
     let long = format!("Authorization: Bearer {}\r\n", "a".repeat(65_537));
-    assert_eq!(service.ask(&long), (401, invalid("TooLong"), String::new()));
+    assert_eq!(service.ask(&long), (401, invalid("TooLong"), refused("TooLong")));
 }
 
 fn readme() -> String {

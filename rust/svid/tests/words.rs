@@ -69,7 +69,7 @@ fn calls() {
     let (listed, time) = (Listed::read(), Time::at(NOW));
     let guard = Guard::open(&time.of(ledger()).step(100), b"{}", ()).expect("it opens");
     tick(&guard).expect("the clock");
-    let beyond = empty(&Time::at(NOW + 11));
+    let beyond = empty(&Time::at(NOW + 31));
     tick(&beyond).expect("the clock");
     let empty_batch = [b"JSR\x02\x01".as_slice(), &[0; 12]].concat();
     let said = [
@@ -101,6 +101,13 @@ fn bundles() {
         assert_eq!(unread(text).to_string(), due);
     }
     let none = r#"{"keys":[]}"#;
+    for text in [none, r#"{"A":1,"keys":null}"#] {
+        assert_eq!(unread(text).to_string(), listed.whole("BUNDLES_UNNAMED"));
+        let due = listed.says("BUNDLES_UNNAMED")
+            + " (number 0 of the joined bundles, counted from 0): "
+            + listed.field("BUNDLES_UNNAMED", "advice");
+        assert_eq!(unread(Sources::from(text).bundle("b", none)).to_string(), due);
+    }
     let rows = [("a", "[]", "NOT_OBJECT"), ("B", none, "DOMAIN"), ("a", "{}", "KEYS"), ("spiffe://b", none, "TWICE")];
     for (name, text, status) in rows {
         let status = format!("BUNDLES_{status}");

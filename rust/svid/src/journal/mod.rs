@@ -216,9 +216,13 @@ impl Journal {
         Ok(())
     }
 
+    /// A file or a folder of this name in the folder.
+    pub(crate) fn path(&self, name: &str) -> PathBuf {
+        self.keeper.folder.path(name)
+    }
+
     /// Returns once the messages are on the disk, or after `wait`. Threads that come meanwhile share a write.
-    #[cfg(test)]
-    fn append(&self, messages: &[u8], wait: Duration) -> Result<(), JournalError> {
+    pub(crate) fn append(&self, messages: &[u8], wait: Duration) -> Result<(), JournalError> {
         let commit = self.keeper.join(messages, None)?;
         let waits = commit.ended.wait_timeout_while(lock(&commit.result), wait, |it| it.is_none());
         let (result, _) = waits.unwrap_or_else(PoisonError::into_inner);

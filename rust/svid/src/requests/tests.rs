@@ -392,7 +392,7 @@ fn a_store_that_fails_now_and_then() {
     };
     let fault = Arc::new(fault);
     let (before, after) = (Arc::clone(&fault), fault);
-    let guards = [(); 2].map(|()| opened(&strict(&store).wait(Duration::from_millis(50))));
+    let guards = [(); 2].map(|()| opened(&strict(&store).wait(SHORT)));
     store.before(move || before());
     store.after(move || after());
     let works: Vec<_> = (0..8)
@@ -485,11 +485,12 @@ fn a_store_that_never_answers() {
     let guard = opened(&options);
     until(|| unready(&guard).is_empty());
     store.before(away);
-    for _ in 0..2 {
+    let why = "the group's store does not answer: the store is away".to_owned();
+    until(|| {
+        // (a check that is late before it was put shows nothing)
         assert_eq!(check(&guard, &fresh(1)), "Unavailable");
-    }
-    assert!(heard.lock().unwrap().contains(&"the group's store does not answer: the store is away".to_owned()));
-    assert!(store.counts().len() > 2, "the claim is put again and again");
+        heard.lock().unwrap().contains(&why) && store.counts().len() > 2
+    });
     store.is_well();
     assert_eq!(in_time(&guard, &fresh(1)), "accepted");
     assert!(nothing_waits(&guard));
@@ -839,7 +840,7 @@ fn a_slow_verifier_holds_up_nobody() {
 /// It is asked about right before it goes out.
 #[test]
 fn a_claim_of_who_does_not_know_yet_that_it_is_late() {
-    let (guard, token) = (opened(&strict(&Arc::new(memory())).wait(Duration::from_secs(2))), fresh(1));
+    let (guard, token) = (opened(&strict(&Arc::new(memory())).wait(Duration::from_secs(5))), fresh(1));
     until(|| unready(&guard).is_empty());
     let requests = &guard.requests;
     let mut read = OpenToken::read(token.as_bytes(), &[]).expect("it is a token");
@@ -966,7 +967,8 @@ fn a_store_that_is_not_there_yet() {
     assert_eq!(unready(&guard), due);
     assert_eq!(words_of(&guard, &fresh(1)), due);
     assert!(store.counts().is_empty());
-    assert_eq!(heard.lock().unwrap().first().map(String::as_str), Some("the group's store does not answer: the store is away"));
+    until(|| !heard.lock().unwrap().is_empty());
+    assert_eq!(heard.lock().unwrap()[0], "the group's store does not answer: the store is away");
     store.is_well();
     until(|| unready(&guard).is_empty());
     assert_eq!(in_time(&guard, &fresh(1)), "accepted");
@@ -1038,6 +1040,27 @@ fn keys_are_looked_for_again_in_renewed_bundles() {
     assert_eq!(answer(call), "accepted");
 }
 
+/// In mode bound without a store, over starts.
+#[test]
+fn a_token_belongs_to_its_first_caller() {
+    let room = Room::new("first-caller");
+    let options = ledger().mode(Mode::Bound).wait(LONG);
+    for start in 0..2 {
+        let guard = kept(&options, at(&room));
+        for (caller, is_accepted) in [(1, true), (2, false), (1, true)] {
+            let said = guard.check_from(Caller([caller; 32]), fresh(1));
+            assert_eq!(said.as_ref().err(), (!is_accepted).then_some(&Error::Refused(Refusal::Replayed)), "{caller}");
+        }
+        if start == 1 {
+            let said = guard.judge(fresh(1)).expect("it is good");
+            guard.withdraw(said.used().key, said.expires()).expect("it is kept");
+        }
+    }
+    let why = kept(&options, at(&room)).check_from(Caller([1; 32]), fresh(1));
+    assert_eq!(why.err(), Some(Error::Refused(Refusal::Withdrawn)));
+    assert_eq!(Guard::open(&options, bundles(), plain()).err(), Some(Error::Options(OptionsFault::Store)));
+}
+
 // -- What a service hears, answers to requests, and snapshots
 
 #[test]
@@ -1056,6 +1079,42 @@ fn who_hears_of_tokens_that_are_not_accepted() {
     }
     let said: Vec<String> = heard.lock().unwrap().iter().map(|it| it.split(':').next().unwrap_or_default().to_owned()).collect();
     assert_eq!(said, ["Replayed", "BadSignature", "NotThreeParts"]);
+}
+
+/// A guard says once of each token that several accepted, as soon as it hears of that.
+#[test]
+fn who_hears_of_tokens_that_several_accepted() {
+    let heard = Arc::new(Mutex::new(Vec::new()));
+    let hearing = || {
+        let hears = Arc::clone(&heard);
+        opened(&ledger().twice(move |key| {
+            hears.lock().unwrap().push(key);
+            std::panic::panic_any("a test");
+        }))
+    };
+    let (one, two, three) = (hearing(), opened(&ledger()), opened(&ledger()));
+    let accepted = |guard: &Arc<Plain>, number| *guard.check(fresh(number)).expect("it is good").used();
+    let message = |it: &Use| it.message().expect("it is live");
+    let uses: Vec<Use> = (0..40).map(|it| accepted(&two, it)).collect();
+    one.take(uses[..20].iter().flat_map(message).collect::<Vec<u8>>()).expect("it takes them");
+    assert_eq!(*heard.lock().unwrap(), []);
+    let mine = accepted(&one, 30);
+    for _ in 0..2 {
+        one.take(message(&uses[30])).expect("it takes it");
+        assert_eq!(*heard.lock().unwrap(), [mine.key]);
+    }
+    // (a withdrawal is no acceptance)
+    let withdrawn = three.withdraw(uses[1].key, uses[1].expires).expect("it is live");
+    one.take(message(&withdrawn)).expect("it takes it");
+    assert_eq!(heard.lock().unwrap().len(), 1);
+    // Of two that neither of them made, in one piece.
+    let again = accepted(&three, 5);
+    hearing().take([message(&uses[5]), message(&again)].concat()).expect("it takes both");
+    assert_eq!(heard.lock().unwrap()[1..], [again.key]);
+    // What is bad is told as that, and what is long is taken.
+    assert!(matches!(one.take(b"no message"), Err(Error::Messages(_))));
+    let long = message(&accepted(&two, 41)).repeat((1 << 22) / 82 + 1);
+    assert_eq!(one.take(&long), Ok(()));
 }
 
 #[test]
@@ -1078,16 +1137,23 @@ fn answers_of_a_service() {
     let answer = |denied: Denied| {
         let response: http::Response<String> = denied.response();
         let field = |name: &str| response.headers().get(name).map(|it| it.to_str().expect("a text").to_owned());
-        assert_eq!((field("cache-control").as_deref(), response.body().as_str()), (Some("no-store"), ""));
-        (response.status().as_u16(), field("www-authenticate"), field("retry-after"))
+        assert_eq!((field("cache-control").as_deref(), field("content-type").as_deref()), (Some("no-store"), Some("application/json")));
+        (response.status().as_u16(), field("www-authenticate"), field("retry-after"), response.into_body())
     };
     let said = |text: &str| Some(text.to_owned());
-    assert_eq!(answer(ask("/healthz/", None).unwrap_err()), (401, said("Bearer realm=\"svid\""), None));
-    assert_eq!(answer(ask("/", said(&format!("Bearer {}", fresh(1)))).unwrap_err()), (503, None, said("1")));
+    let refused = |reason: &str| format!("{{\"reason\":\"{reason}\",\"result\":\"refused\"}}\n");
+    let unavailable = |reason: &str| format!("{{\"reason\":\"{reason}\",\"result\":\"unavailable\"}}\n");
+    assert_eq!(answer(ask("/healthz/", None).unwrap_err()), (401, said("Bearer realm=\"svid\""), None, refused("NoToken")));
+    let basic = ask("/", said("Basic YTpi")).unwrap_err();
+    assert_eq!(answer(basic), (401, said("Bearer realm=\"svid\""), None, refused("NotBearer")));
+    assert_eq!(answer(ask("/", said(&format!("Bearer {}", fresh(1)))).unwrap_err()), (503, None, said("1"), unavailable("NotReady")));
+    for (why, reason) in [(Error::NoMemory, "NoMemory"), (Error::Jump, "ClockJump"), (Error::Unsupported, "NotJudged")] {
+        assert_eq!(answer(Denied::from(why)), (503, None, said("1"), unavailable(reason)));
+    }
     let malformed = "Bearer error=\"invalid_token\", error_description=\"HeaderSpelling\"";
-    assert_eq!(answer(ask("/", said("Bearer a.b.c")).unwrap_err()), (401, said(malformed), None));
+    assert_eq!(answer(ask("/", said("Bearer a.b.c")).unwrap_err()), (401, said(malformed), None, refused("HeaderSpelling")));
     let scope = "Bearer error=\"insufficient_scope\", error_description=\"NotAllowed\"";
-    assert_eq!(answer(Denied::NotAllowed), (403, said(scope), None));
+    assert_eq!(answer(Denied::NotAllowed), (403, said(scope), None, refused("NotAllowed")));
 }
 
 #[test]
@@ -1099,7 +1165,7 @@ fn answers_to_requests() {
     assert_eq!(guard.admit(&header(fresh(1))).unwrap_err(), Denied::Refused(Refusal::Replayed));
     store.before(away);
     let denied = opened(&strict(&store).wait(SHORT)).admit(&header(fresh(2))).unwrap_err();
-    assert_eq!((denied.status(), denied.challenge()), (503, None));
+    assert_eq!((denied.status(), denied.challenge(), denied.reason()), (503, None, "NotReady"));
     let denied = guard.admit_from(|| Caller([0; 32]), &header(fresh(2))).unwrap_err();
     assert_eq!(denied, Denied::Failed(Error::Options(OptionsFault::Presenter)));
     let closed = opened(&ledger().callers(["spiffe://example.com"]));

@@ -106,18 +106,7 @@ public final class Admission {
         }
 
         byte[] message(boolean isWithdrawn) {
-            try (Room room = new Room()) {
-                Told told = new Told(room);
-                Pointer entry = room.take(Library.Entry.SIZE);
-                entry.setLong(Library.Entry.WITHDRAWN, isWithdrawn ? 1 : 0);
-                entry.setLong(Library.Entry.EXP, exp);
-                entry.setLong(Library.Entry.AT, at);
-                entry.write(Library.Entry.KEY, key, 0, key.length);
-                entry.write(Library.Entry.VALIDATOR_ID, validatorId, 0, validatorId.length);
-                Written written = Written.by(room, told, 128, (out, outLen) -> Library.svid_entries_write(entry, 1, out, outLen, told.at));
-                told.must(written.status());
-                return written.bytes();
-            }
+            return Twice.written(List.of(new Twice.Entry(isWithdrawn, exp, at, key, validatorId)));
         }
     }
 }

@@ -42,7 +42,7 @@ final class Library {
     static final long FIRST_PAUSE = 10;
 
     /** The statuses of requests that have no answer about their token. */
-    static final int CLAIM_FAR = 58, CLAIM_DEAF = 59, LATE = 201, LEFT = 203, ENDED = 211, DEAF = 222;
+    static final int CLAIM_FAR = 58, CLAIM_DEAF = 59, LATE = 201, NOT_KEPT = 202, LEFT = 203, ENDED = 211, DEAF = 222;
 
     static final int USUAL_RSA_BITS = 4096;
     static final long ID_ROOM = 2048;
@@ -161,6 +161,8 @@ final class Library {
     static native int svid_validator_parts(Pointer v, Pointer part, Pointer out, long outLen, Pointer told);
 
     static native int svid_validator_size(Pointer v, Pointer out, Pointer told);
+
+    static native int svid_validator_bucket(Pointer v, byte bucket, long moment, Pointer out, long outLen, Pointer told);
 
     static native int svid_validator_summary(Pointer v, Pointer out, long outLen, Pointer told);
 

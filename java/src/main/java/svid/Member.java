@@ -49,12 +49,14 @@ final class Member extends State {
     final Map<Long, BlockingQueue<End>> withdrawals = new HashMap<>();
 
     private final Journal journal; // null for no state folder
+    private final LocalStore local; // null where another store has the claims
     private final Follower follower; // null for bundles that stay
     private volatile boolean isBundled;
     private final LongSupplier clock;
     private final long wait;
     private final long longest;
     private final boolean isBound;
+    private final int late; // the status whose word a client hears where its time is over
     private Unkept unkept; // what the disk did not take last
     private final Pointer deed = room.take(Library.Deed.SIZE);
     private final Pointer usedOfDeed = deed.share(Library.Deed.USED);
@@ -74,11 +76,13 @@ final class Member extends State {
     Member(Options options, byte[] bundles, Sources sources, Journal journal) {
         super(options, bundles, journal == null ? options.idOrRandom() : journal.validatorId());
         this.journal = journal;
+        local = options.store() instanceof LocalStore it ? it : null;
         follower = sources == null ? null : new Follower(sources, this::adopt);
         isBundled = sources == null;
         wait = options.waitMillis();
         longest = options.longest();
         isBound = options.mode() == Mode.BOUND;
+        late = options.mode().hasStore() ? Library.CLAIM_FAR : journal != null ? Library.NOT_KEPT : Library.LATE;
         claims = options.store() == null ? null : new Claims(options.store(), this);
         // (in mode STRICT the claim of a token tells that it was withdrawn)
         hearing = options.store() == null || options.mode() == Mode.STRICT ? null : new Hearing(options.store(), this);
@@ -190,6 +194,9 @@ final class Member extends State {
             journal.close();
         }
         run();
+        if (local != null) {
+            local.close();
+        }
     }
 
     @Override
@@ -199,6 +206,9 @@ final class Member extends State {
         }
         if (journal != null) {
             journal.drop();
+        }
+        if (local != null) {
+            local.drop();
         }
         if (hearing != null) {
             hearing.close();
@@ -507,7 +517,8 @@ final class Member extends State {
             why = request.why;
         }
         if (why != null) {
-            throw new SvidException.Unavailable(SvidException.Unavailable.saidOf(read.status) + " (" + why.getMessage() + ")", why);
+            String said = SvidException.Unavailable.saidOf(read.status) + " (" + why.getMessage() + ")";
+            throw new SvidException.Unavailable(toldAs(read.status), said, why);
         }
         request.token.found.mustBeKnown(read.status);
         Refusal.Reason reason = Refusal.Reason.of(read.status);
@@ -681,8 +692,16 @@ final class Member extends State {
     }
 
     private SvidException fault(int status) {
-        return SvidException.Unavailable.is(status) ? new SvidException.Unavailable(status, claims == null ? null : claims.why())
-                                                    : SvidException.of(status, told);
+        if (!SvidException.Unavailable.is(status)) {
+            return SvidException.of(status, told);
+        }
+        Throwable cause = claims == null ? null : claims.why();
+        return new SvidException.Unavailable(toldAs(status), SvidException.Unavailable.saidOf(status), cause);
+    }
+
+    /** The status whose word a client hears: where its time is over, that of what it waited for. */
+    private int toldAs(int status) {
+        return status == Library.LATE ? late : status;
     }
 
     /** Tells the library what the validator has. */

@@ -31,7 +31,7 @@ public final class Options {
 
     private List<byte[]> audiences;
     private long longest = 3600;
-    private long ahead = 10;
+    private long ahead = 30;
     private long step = ANY;
     private byte[] validatorId;
     private int rsaBits = Library.USUAL_RSA_BITS;
@@ -41,6 +41,7 @@ public final class Options {
     private List<IdPattern> callers; // null for all
     private Path state; // null for none
     private Consumer<Denied> denied = Options::log;
+    private Consumer<TokenKey> twice = Options::warn;
     private long wait = 2000;
 
     private Options() {}
@@ -58,6 +59,7 @@ public final class Options {
         callers = from.callers;
         state = from.state;
         denied = from.denied;
+        twice = from.twice;
         wait = from.wait;
     }
 
@@ -99,7 +101,7 @@ public final class Options {
         return made;
     }
 
-    /** How far the moment of a message may lie past the clock: a little more than clocks differ. Without it, ten seconds. */
+    /** How far the moment of a message may lie past the clock: a little more than clocks differ. Without it, thirty seconds. */
     public Options ahead(Duration limit) {
         return ahead(secondsOf(limit));
     }
@@ -174,6 +176,30 @@ public final class Options {
         }
     }
 
+    /**
+     * Is given the key of a token that several validators accepted, once, when {@link Validator#take} learns that; nothing of messages of
+     * more than 4 MiB. What it throws is logged. Without it, the system's logger "svid" has a line at the level WARNING.
+     */
+    public Options twice(Consumer<? super TokenKey> hook) {
+        Options made = new Options(this);
+        made.twice = hook::accept;
+        return made;
+    }
+
+    private static void warn(TokenKey key) {
+        LOGGER.log(System.Logger.Level.WARNING,
+                "several validators accepted the token " + key + ": it may be stolen, or its client sent it twice");
+    }
+
+    /** Tells the hook, whatever that does. */
+    void tellTwice(TokenKey key) {
+        try {
+            twice.accept(key);
+        } catch (RuntimeException failed) {
+            LOGGER.log(System.Logger.Level.WARNING, "the hook of double acceptances failed", failed);
+        }
+    }
+
     /** The clock that tokens are judged by. Without it, that of the system. */
     public Options clock(Clock other) {
         Options made = new Options(this);
@@ -189,7 +215,8 @@ public final class Options {
     }
 
     /**
-     * The store of the group. In {@link Mode#STRICT} and {@link Mode#BOUND} it is required, and each token is claimed there. In all modes
+     * The store of the group. In {@link Mode#STRICT} and {@link Mode#BOUND} it is required (in {@code BOUND} a {@link #state} will do), and
+     * each token is claimed there. In all modes
      * but
      * {@code STRICT} its withdrawals are heard of within some two seconds. {@link Validator#withdraw(String)} tells it.
      */
@@ -201,7 +228,8 @@ public final class Options {
 
     /**
      * A folder that keeps the record, so that no token that was accepted is accepted again after a restart, a crash or a loss of power. In
-     * {@link Mode#ONCE} a check returns once the disk has the use, and so does a withdrawal in each mode. The validator has the ID that is
+     * {@link Mode#ONCE} a check returns once the disk has the use, and so does a withdrawal in each mode. In {@link Mode#BOUND} without a
+     * store, its folder {@code claims} has which caller used a token first, for this validator alone. The validator has the ID that is
      * in the folder. The folder above must be there. What {@link Validator#take} got is kept from the next snapshot on. One process holds a
      * folder at a time, and svidd reads and writes the same files.
      */
@@ -251,8 +279,9 @@ public final class Options {
 
     /** Throws where these options don't fit each other. */
     void mustFit() {
-        if (mode.hasStore() && store == null) {
-            throw new IllegalArgumentException("give a store in the modes STRICT and BOUND: tokens are claimed there");
+        if (mode.hasStore() && store == null && !isAlone()) {
+            throw new IllegalArgumentException(
+                    "give a store in the modes STRICT and BOUND, or in BOUND a state folder: tokens are claimed there");
         }
         if (state != null && validatorId != null) {
             throw new IllegalArgumentException("a state folder has the validator's ID: give one of the two");
@@ -260,6 +289,11 @@ public final class Options {
         if (callers != null && audiences.stream().anyMatch(it -> it.length == 0 || new String(it, StandardCharsets.UTF_8).contains("\n"))) {
             throw new IllegalArgumentException("with callers, no audience is empty or has a line feed");
         }
+    }
+
+    /** Whether the state folder has the claims, for this validator alone. */
+    boolean isAlone() {
+        return mode == Mode.BOUND && store == null && state != null;
     }
 
     List<byte[]> audiences() {

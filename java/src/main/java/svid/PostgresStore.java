@@ -55,7 +55,7 @@ public final class PostgresStore implements Store, AutoCloseable {
         private final List<String> servers;
         private String group = "svid";
         private long longest = 3600;
-        private long ahead = 10;
+        private long ahead = 30;
         private int replicas = 1;
         private Duration wait = Duration.ofSeconds(2);
 
@@ -75,7 +75,7 @@ public final class PostgresStore implements Store, AutoCloseable {
             return this;
         }
 
-        /** The {@link Options#ahead} of the validators. Without it, 10 seconds. */
+        /** The {@link Options#ahead} of the validators. Without it, 30 seconds. */
         public Settings ahead(Duration span) {
             ahead = Options.secondsOf(span);
             return this;

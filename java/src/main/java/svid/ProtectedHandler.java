@@ -103,13 +103,9 @@ public final class ProtectedHandler implements HttpHandler {
         } catch (SvidException why) {
             LOGGER.log(System.Logger.Level.WARNING, "no answer about a token", why);
             exchange.getResponseHeaders().set("Retry-After", "1");
-            answer(exchange, UNAVAILABLE, word(why), "unavailable");
+            answer(exchange, UNAVAILABLE, why.word(), "unavailable");
         }
         return null;
-    }
-
-    private static String word(SvidException why) {
-        return why instanceof SvidException.OutOfMemory ? "NoMemory" : why instanceof SvidException.Jump ? "ClockJump" : "NotJudged";
     }
 
     private static void answer(HttpExchange exchange, int status, String reason, String result) throws IOException {

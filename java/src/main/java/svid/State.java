@@ -46,8 +46,9 @@ class State implements Runnable {
             terms.setLong(Library.Terms.AHEAD, options.ahead());
             terms.setLong(Library.Terms.STEP, options.step());
             terms.write(Library.Terms.VALIDATOR_ID, id, 0, id.length);
-            told.must(Library.svid_validator_open_by_lengths(
-                    handle, terms, own, len, lens, audiences.size(), lent.put(bundles), bundles.length, told.at));
+            Pointer text = lent.put(bundles);
+            told.mustRead(text, bundles.length,
+                    Library.svid_validator_open_by_lengths(handle, terms, own, len, lens, audiences.size(), text, bundles.length, told.at));
         }
     }
 
@@ -95,13 +96,35 @@ class State implements Runnable {
         }
     }
 
+    /** Takes messages, and gives the keys of the tokens that they show to be accepted more than once. */
+    final List<TokenKey> takeAndTell(long now, byte[] messages) {
+        Twice twice;
+        synchronized (this) {
+            twice = Twice.of(messages, this::bucket);
+            take(now, messages);
+        }
+        return twice.news();
+    }
+
+    /** The entries whose keys begin with this byte, as messages. */
+    private byte[] bucket(int number) {
+        try (Room lent = new Room()) {
+            Told said = new Told(lent);
+            Written written = Written.by(
+                    lent, said, USUAL, (to, toLen) -> Library.svid_validator_bucket(open(), (byte) number, 0, to, toLen, said.at));
+            said.must(written.status());
+            return written.bytes();
+        }
+    }
+
     /** Replaces the bundles. They are read before the lock is taken, and the old ones are freed after it. */
     final void renew(byte[] bundles) {
         try (Room lent = new Room()) {
             Told said = new Told(lent);
             Pointer fresh = lent.take(Library.Handle.SIZE);
             fresh.clear(Library.Handle.SIZE);
-            said.must(Library.svid_bundles_open(fresh, lent.put(bundles), bundles.length, said.at));
+            Pointer text = lent.put(bundles);
+            said.mustRead(text, bundles.length, Library.svid_bundles_open(fresh, text, bundles.length, said.at));
             try {
                 said.must(locked(v -> {
                     edition++;

@@ -69,7 +69,7 @@ final class Statements {
     static final String IS_STANDBY = "the server is a standby";
     static final String IS_RIGHTS = "this user may not use the store of the group: an administrator gives it the rights that svidd schema --role prints";
     static final String IS_HELD = "somebody else claims the token at the moment, and has not committed that";
-    static final String IS_RUN = "the server was started again, and members look whether it lacks claims";
+    static final String IS_RUN = "the server was restarted, and members check whether it lacks claims";
     static final String IS_BACK = "the store's clock went back";
     static final String IS_UNLOOKED = "nobody has looked at the store for a while, or its clock went ahead";
     static final String IS_GONE = "the entry was just removed";

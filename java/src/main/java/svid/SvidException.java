@@ -14,6 +14,35 @@ public abstract sealed class SvidException extends RuntimeException {
         super(message, cause);
     }
 
+    /** The word by which a client hears why there is no answer about its token: NotReady, NotKept, NotClaimed, say. */
+    String word() {
+        int number = this instanceof Unavailable why ? why.number
+                : this instanceof OutOfMemory        ? Status.NO_MEMORY.number()
+                : this instanceof Jump               ? Status.JUMP.number()
+                                                     : 0;
+        // lists:begin reasons (written by tools/lists from lists/statuses.toml)
+        if (number == 2) {
+            return "NoMemory";
+        }
+        if (number == 9) {
+            return "ClockJump";
+        }
+        if (number == 58) {
+            return "NotClaimed";
+        }
+        if (number == 59) {
+            return "EntriesLost";
+        }
+        if (number == 202) {
+            return "NotKept";
+        }
+        if (number >= 211 && number <= 222) {
+            return "NotReady";
+        }
+        // lists:end
+        return "NotJudged";
+    }
+
     static SvidException of(int number, Told told) {
         Status status = Status.of(number);
         if (Unavailable.is(number)) {
@@ -69,12 +98,19 @@ public abstract sealed class SvidException extends RuntimeException {
     public static final class Unavailable extends SvidException {
         private static final long serialVersionUID = 1;
 
+        private final int number;
+
         Unavailable(int number, Throwable cause) {
-            this(saidOf(number), cause);
+            this(number, saidOf(number), cause);
         }
 
         Unavailable(String message, Throwable cause) {
+            this(0, message, cause);
+        }
+
+        Unavailable(int number, String message, Throwable cause) {
             super(message, cause);
+            this.number = number;
         }
 
         /** Whether a status of the library says this. */
@@ -170,7 +206,7 @@ public abstract sealed class SvidException extends RuntimeException {
         private final String trustDomain;
 
         BadBundles(Status status, long index) {
-            super(status.says(status == Status.BUNDLES_NOT_OBJECT
+            super(status.says(status == Status.BUNDLES_NOT_OBJECT || status == Status.BUNDLES_UNNAMED
                                   ? ""
                                   : " It is number " + index + " of the names in rising order, counted from 0."),
                     null);
@@ -193,8 +229,8 @@ public abstract sealed class SvidException extends RuntimeException {
         }
 
         /**
-         * NotObject, or of a trust domain: Domain for its name, Keys for its list of keys, and where bundles are joined, Twice if an
-         * earlier one is of the same trust domain.
+         * NotObject, or Unnamed if they are the bundle of one trust domain without its name. Or of a trust domain: Domain for its name,
+         * Keys for its list of keys, and where bundles are joined, Twice if an earlier one is of the same trust domain.
          */
         public String reason() {
             return reason;

@@ -95,9 +95,16 @@ public final class Validator implements AutoCloseable {
 
     private static Member member(Options options, byte[] bundles, Sources sources) throws IOException {
         Journal journal = options.state() == null ? null : new Journal(options.state(), new Disk());
+        LocalStore local = null;
         try {
-            return new Member(options, bundles, sources, journal);
+            if (options.isAlone()) {
+                local = new LocalStore(options.state().resolve("claims"), options);
+            }
+            return new Member(local == null ? options : options.store(local), bundles, sources, journal);
         } catch (Throwable why) {
+            if (local != null) {
+                local.close();
+            }
             if (journal != null) {
                 journal.close();
             }
@@ -353,6 +360,7 @@ public final class Validator implements AutoCloseable {
 
     /**
      * Takes messages of other validators, or a record that was saved. Taking a message twice, or in another order, makes no difference.
+     * {@link Options#twice} is told of a token that they show to be accepted twice.
      *
      * @param messages any number of messages, one after the other
      * @throws SvidException.TooFar where they tell of a time that is too far ahead: none was taken
@@ -365,7 +373,7 @@ public final class Validator implements AutoCloseable {
 
     void take(long now, byte[] messages) {
         try {
-            member.take(now, messages);
+            member.takeAndTell(now, messages).forEach(options::tellTwice);
         } finally {
             Reference.reachabilityFence(this);
         }
@@ -404,15 +412,7 @@ public final class Validator implements AutoCloseable {
 
     /** What the record holds, as {@code svid report} prints it: for people, and for tests. */
     public String report() {
-        byte[] messages = messages();
-        try (Room room = new Room()) {
-            Told told = new Told(room);
-            Pointer text = room.put(messages);
-            Written written =
-                    Written.by(room, told, USUAL, (out, outLen) -> Library.svid_report(text, messages.length, 0, out, outLen, told.at));
-            told.must(written.status());
-            return new String(written.bytes(), StandardCharsets.UTF_8);
-        }
+        return Twice.report(messages());
     }
 
     /**

@@ -126,6 +126,7 @@ public class HeaderTest {
         }
         return parameter.startsWith("size_t ") || parameter.startsWith("uint64_t ") ? "long"
                 : parameter.startsWith("uint32_t ")                                 ? "int"
+                : parameter.startsWith("uint8_t ")                                  ? "byte"
                                                                                     : parameter;
     }
 

@@ -197,7 +197,7 @@ public class PackageTest {
 
     private static String asked(String path, int port, String... authorizations) throws IOException {
         HttpURLConnection connection = (HttpURLConnection) new URL("http://127.0.0.1:" + port + path).openConnection();
-        connection.setReadTimeout(30_000);
+        connection.setReadTimeout((int) (1000 * Making.PATIENCE));
         for (String it : authorizations) {
             connection.addRequestProperty("Authorization", it);
         }
@@ -275,7 +275,7 @@ public class PackageTest {
                 Making.until(() -> asked(port, bearer).equals("204 null"));
             }
             who.set(0, new byte[] {2});
-            assertEquals("401 Bearer error=\"invalid_token\", error_description=\"Replayed\"", asked(port, bearer));
+            Making.until(() -> asked(port, bearer).equals("401 Bearer error=\"invalid_token\", error_description=\"Replayed\""));
         } finally {
             server.stop(0);
         }

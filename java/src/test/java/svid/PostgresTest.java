@@ -98,7 +98,7 @@ public class PostgresTest {
     }
 
     private static Store.Claim claim(int n) {
-        return new Store.Claim(TokenKey.of(filled(n)), OWNER, Instant.now().plusSeconds(300));
+        return new Store.Claim(TokenKey.of(filled(n)), OWNER, Instant.now().plusSeconds(3000));
     }
 
     /** What a claim finds, once it is answered. */
@@ -118,7 +118,7 @@ public class PostgresTest {
     /** Runs tests of go/claims/postgres over the client. */
     private static void runs(String tests) throws Exception {
         Path out = room.resolve("out");
-        ProcessBuilder words = new ProcessBuilder(binary(), "-test.v", "-test.timeout", "20m", "-test.run", "^(" + tests + ")$");
+        ProcessBuilder words = new ProcessBuilder(binary(), "-test.v", "-test.timeout", "50m", "-test.run", "^(" + tests + ")$");
         String java = Path.of(System.getProperty("java.home"), "bin/java").toString();
         words.environment().put("SVID_STORE_CLIENT",
                 java + " -Dsvid.library=" + System.getProperty("svid.library") + " -cp " + System.getProperty("java.class.path")
@@ -217,7 +217,7 @@ public class PostgresTest {
 
     @Test
     public void aCallEndsThoughTheServerDoesNotAnswer() throws Exception {
-        try (PostgresStore store = PostgresStore.at(url).group(group()).wait(Duration.ofMillis(500)).open()) {
+        try (PostgresStore store = PostgresStore.at(url).group(group()).wait(Duration.ofMillis(1500)).open()) {
             put(store, 1);
             tell("pause");
             try {
@@ -229,7 +229,7 @@ public class PostgresTest {
                 for (ThrowingRunnable call : calls) {
                     long begun = Times.up();
                     assertThrows(PostgresStore.Fault.class, call);
-                    assertTrue(Times.up() - begun < 5000); // (a busy machine)
+                    assertTrue(Times.up() - begun < 1000 * Making.PATIENCE / 3); // (a busy machine)
                 }
             } finally {
                 tell("resume");

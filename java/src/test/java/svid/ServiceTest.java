@@ -7,6 +7,7 @@ import static org.junit.Assert.assertTrue;
 import static svid.Making.until;
 
 import com.sun.net.httpserver.HttpServer;
+import java.io.ByteArrayOutputStream;
 import java.io.IOException;
 import java.io.InputStream;
 import java.net.HttpURLConnection;
@@ -104,12 +105,50 @@ public class ServiceTest {
         assertEquals(List.of("Replayed", "NotAllowed", "NoToken", "NotBearer", "Replayed", "NotAllowed"), told);
     }
 
+    @Test
+    public void aTokenThatSeveralAcceptedIsToldOnce() throws Exception {
+        List<TokenKey> told = new CopyOnWriteArrayList<>();
+        Options hears = options().twice(key -> {
+            told.add(key);
+            throw new IllegalStateException("a hook may fail");
+        });
+        try (Validator one = open(hears); Validator two = open(options()); Validator three = open(options());
+                Validator four = open(hears)) {
+            List<String> tokens = new ArrayList<>();
+            List<Admission> uses = new ArrayList<>();
+            ByteArrayOutputStream many = new ByteArrayOutputStream();
+            for (int number = 0; number < 40; number++) {
+                tokens.add(issuer.token("/billing/api", "ledger"));
+                uses.add(two.check(tokens.get(number)));
+                many.writeBytes(number < 20 ? uses.get(number).message() : new byte[0]);
+            }
+            one.take(many.toByteArray());
+            assertEquals(List.of(), told);
+            TokenKey mine = one.check(tokens.get(30)).key();
+            for (int again = 0; again < 2; again++) {
+                one.take(uses.get(30).message());
+                assertEquals(List.of(mine), told);
+            }
+            // (a withdrawal is no acceptance)
+            one.take(three.withdraw(tokens.get(1)));
+            assertEquals(1, told.size());
+            // Of two that neither of them made, in one piece.
+            Admission other = three.check(tokens.get(5));
+            ByteArrayOutputStream both = new ByteArrayOutputStream();
+            both.writeBytes(uses.get(5).message());
+            both.writeBytes(other.message());
+            four.take(both.toByteArray());
+            assertEquals(List.of(mine, other.key()), told);
+            assertThrows(SvidException.BadMessages.class, () -> one.take(new byte[5]));
+        }
+    }
+
     // -- Answers
 
     /** The status of an answer and its headers, and the body. */
     private static String asked(String method, int port, String path, String... values) throws IOException {
         HttpURLConnection connection = (HttpURLConnection) new URL("http://127.0.0.1:" + port + path).openConnection();
-        connection.setReadTimeout(30_000);
+        connection.setReadTimeout((int) (1000 * Making.PATIENCE));
         connection.setRequestMethod(method);
         for (String it : values) {
             connection.addRequestProperty("Authorization", it);
@@ -123,6 +162,29 @@ public class ServiceTest {
             String text = body == null ? "" : new String(body.readAllBytes(), StandardCharsets.UTF_8).strip();
             return text.isEmpty() ? said.toString() : said + " | " + text;
         }
+    }
+
+    @Test
+    public void aReasonWhyThereIsNoAnswer() throws Exception {
+        Store away = new Store() {
+            @Override
+            public List<Found> put(List<Claim> claims) {
+                if (!claims.isEmpty()) {
+                    throw new IllegalStateException("the store is away");
+                }
+                return List.of();
+            }
+
+            @Override
+            public void withdraw(TokenKey key, Instant expiry) {}
+        };
+        try (Validator left = open(options().mode(Mode.STRICT).wait(Duration.ofMillis(200)).store(away))) {
+            String token = issuer.token("/a", "ledger");
+            assertEquals("NotClaimed", assertThrows(SvidException.class, () -> left.check(token)).word());
+        }
+        assertEquals("NotReady", new SvidException.Unavailable(Library.ENDED, null).word());
+        assertEquals("EntriesLost", new SvidException.Unavailable(Library.CLAIM_DEAF, null).word());
+        assertEquals("NoMemory", new SvidException.OutOfMemory(null).word());
     }
 
     @Test

@@ -432,8 +432,10 @@ public class StateTest {
             Member member = new Member(Vectors.ledger().wait(Duration.ofMillis(200)), Making.bundles().getBytes(), journal);
             member.begin(BEGUN);
             disk.before = name -> Making.await(open);
-            assertThrows(SvidException.Unavailable.class, () -> member.check(token().getBytes(), () -> BEGUN, null));
-            assertNotEquals(null, member.unready(BEGUN));
+            until(() -> { // (a check that is late before it was judged keeps nothing)
+                assertThrows(SvidException.Unavailable.class, () -> member.check(token().getBytes(), () -> BEGUN, null));
+                return member.unready(BEGUN) != null;
+            });
             Says said = Says.of(token());
             SvidException.Unavailable why =
                     assertThrows(SvidException.Unavailable.class, () -> member.withdraw(BEGUN, said.key(), said.expiry().getEpochSecond()));

@@ -20,16 +20,14 @@ import com.google.gson.JsonParser;
 import java.nio.charset.StandardCharsets;
 import java.security.Provider;
 import java.security.Security;
-import java.time.Clock;
 import java.time.Duration;
 import java.time.Instant;
-import java.time.ZoneId;
-import java.time.ZoneOffset;
 import java.util.ArrayList;
 import java.util.List;
 import java.util.Map;
 import java.util.Optional;
 import org.junit.Test;
+import svid.testing.TestClock;
 
 /** What the vectors don't have: the calls of the API, and what each throws. */
 public class ValidatorTest {
@@ -41,30 +39,6 @@ public class ValidatorTest {
 
     private static Refusal.Reason refused(org.junit.function.ThrowingRunnable call) {
         return assertThrows(Refusal.class, call).reason();
-    }
-
-    /** A clock that is set. */
-    private static final class Hand extends Clock {
-        private Instant now;
-
-        Hand(long seconds) {
-            now = Instant.ofEpochSecond(seconds);
-        }
-
-        @Override
-        public Instant instant() {
-            return now;
-        }
-
-        @Override
-        public ZoneId getZone() {
-            return ZoneOffset.UTC;
-        }
-
-        @Override
-        public Clock withZone(ZoneId zone) {
-            return this;
-        }
     }
 
     @Test
@@ -308,18 +282,18 @@ public class ValidatorTest {
 
     @Test
     public void theClockIsLookedAt() throws Refusal {
-        Hand hand = new Hand(NOW);
+        TestClock hand = new TestClock(Instant.ofEpochSecond(NOW));
         try (Validator validator = Validator.open(ledger().step(Duration.ofSeconds(60)).clock(hand), bundles())) {
             validator.tick();
-            hand.now = hand.now.plusSeconds(61);
+            hand.advance(Duration.ofSeconds(61));
             assertThrows(SvidException.Jump.class, validator::tick);
             assertThrows(SvidException.Jump.class, () -> validator.check(tokens().get(0)));
-            hand.now = hand.now.minusSeconds(1);
+            hand.advance(Duration.ofSeconds(-1));
             validator.check(tokens().get(0));
-            assertEquals(hand.now, validator.size().moment());
-            hand.now = Instant.ofEpochSecond(-1);
+            assertEquals(hand.instant(), validator.size().moment());
+            hand.set(Instant.ofEpochSecond(-1));
             assertThrows(SvidException.NoClock.class, () -> validator.check(tokens().get(1)));
-            hand.now = Instant.ofEpochSecond(NOW);
+            hand.set(Instant.ofEpochSecond(NOW));
             try (Validator late = Validator.open(ledgerAt(NOW + 100), "{}")) {
                 late.tick();
                 assertThrows(SvidException.TooFar.class, () -> validator.take(late.messages()));
@@ -350,7 +324,7 @@ public class ValidatorTest {
         assertEquals('0', named.idOrRandom()[0]);
         assertNotEquals(Vectors.hex(options.idOrRandom()), Vectors.hex(options.idOrRandom()));
         assertNotSameLimits(options, options.longest(Duration.ofSeconds(1)));
-        assertEquals(10, options.ahead());
+        assertEquals(30, options.ahead());
         try (Validator first = Validator.open(named, bundles()); Validator second = Validator.open(named, bundles())) {
             assertArrayEquals(first.check(tokens().get(0)).message(), second.check(tokens().get(0)).message());
         }

@@ -142,7 +142,7 @@ final class Vectors {
         } catch (SvidException.BadMessages why) {
             return why.reason() + " " + why.message() + " " + why.offset();
         } catch (SvidException.BadBundles why) {
-            return why.reason().equals("NotObject") ? "NotObject" : why.reason() + " " + why.index();
+            return List.of("NotObject", "Unnamed").contains(why.reason()) ? why.reason() : why.reason() + " " + why.index();
         } catch (SvidException why) {
             return why.getClass().getSimpleName();
         }

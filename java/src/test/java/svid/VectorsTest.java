@@ -143,8 +143,7 @@ public class VectorsTest {
     /** Those that are an object of trust domains. */
     @Test
     public void bundles() {
-        each("bundles", "c", (file, it) -> {
-            assertEquals("domains", of(it, "form"));
+        each("bundles", "rust", it -> of(it, "form").equals("domains"), (file, it) -> {
             byte[] bundles = it.has("text") ? of(it, "text").getBytes(StandardCharsets.UTF_8) : bytes(it, "hex");
             String opened = answer(() -> {
                 try (Validator validator = Validator.open(ledger(), bundles)) {

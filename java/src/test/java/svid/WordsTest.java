@@ -100,7 +100,7 @@ public class WordsTest {
         }
         try (Validator validator = Validator.open(ledger().step(100), "{}"); Validator late = empty()) {
             validator.tick(NOW);
-            late.tick(NOW + 11);
+            late.tick(NOW + 31);
             says(sentence("JUMP", ""), () -> validator.tick(NOW + 101));
             says(sentence("GONE", ""), () -> validator.withdraw(NOW, TokenKey.of(new byte[32]), NOW));
             says(sentence("TOO_FAR", ""), () -> validator.take(NOW, late.messages()));
@@ -119,6 +119,12 @@ public class WordsTest {
         String where = " It is number %d of the names in rising order, counted from 0.";
         says(sentence("BUNDLES_DOMAIN", where.formatted(0)), () -> Validator.open(ledger(), "{\"a\":{\"keys\":[]},\"B\":{}}"));
         says(sentence("BUNDLES_KEYS", where.formatted(1)), () -> Validator.open(ledger(), "{\"a\":{\"keys\":[]},\"b\":{}}"));
+        try (Validator opened = Validator.open(ledger(), "{}")) {
+            for (String unnamed : List.of("{\"keys\":[],\"spiffe_sequence\":1}", "{\"A\":1,\"keys\":null}")) {
+                says(sentence("BUNDLES_UNNAMED", ""), () -> Validator.open(ledger(), unnamed));
+                says(sentence("BUNDLES_UNNAMED", ""), () -> opened.renew(unnamed));
+            }
+        }
     }
 
     @Test
