@@ -201,7 +201,7 @@ test("a check is answered once the disk has its use, and those that come meanwhi
 
 test("while the disk hangs a check is late, and the validator is not ready", async () => {
   const validator = await opened(state, { wait: 0.05 }), [text, other] = [token(one), token(one)], disk = hanging();
-  assert.equal(await said(validator.check(text)), "Unavailable");
+  await assert.rejects(validator.check(text), { name: "Unavailable", reason: "NotKept" });
   await assert.rejects(validator.withdraw(other), { name: "Unavailable", message: /the state folder or the group's store may not have that: withdraw it again/ });
   assert.match(validator.unready(), /The state folder takes no acceptance/);
   assert.deepEqual([await said(validator.check(text)), await said(validator.check(other))], ["Replayed", "Withdrawn"]);
@@ -226,7 +226,7 @@ test("a full disk is a passing fault: the use is kept once there is room, and th
       await validator.check(text).then(() => accepted.push(text), (it) => (why = it));
     }
     assert.ok(accepted.length > 0 && accepted.length < 5, `${accepted.length} uses have room`);
-    assert.deepEqual([why.name, why.cause.cause.code], ["Unavailable", "EFBIG"]);
+    assert.deepEqual([why.name, why.reason, why.cause.cause.code], ["Unavailable", "NotKept", "EFBIG"]);
     assert.match(why.message, /The state folder did not take the acceptance/);
     assert.equal(await said(validator.check(late)), "Unavailable");
     assert.match(validator.unready(), /The state folder takes no acceptance/);
