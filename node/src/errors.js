@@ -151,7 +151,7 @@ export function learn(asking) {
 
 // Statuses of a token; and those that say nothing of it: of a claim, of a request, and of a validator that is to get no tokens.
 const FIRST_REFUSAL = 101, LAST_REFUSAL = FIRST_REFUSAL + REFUSALS.length - 1;
-export const CLAIM_FAR = 58, LATE = 201;
+export const CLAIM_FAR = 58, LATE = 201, NOT_KEPT = 202;
 const CLAIM_DEAF = 59, LEFT = 203, ENDED = 211, DEAF = 222;
 
 /** Whether a status says that there is no answer now. */

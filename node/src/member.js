@@ -4,7 +4,7 @@
 // and what the library says is to be done.
 
 import { Claims, up } from "./claims.js";
-import { CLAIM_FAR, LATE, Closed, Gone, Jump, NotAllowed, Refusal, SvidError, Unavailable, isUnavailable, wordsOf } from "./errors.js";
+import { CLAIM_FAR, LATE, NOT_KEPT, Closed, Gone, Jump, NotAllowed, Refusal, SvidError, Unavailable, isUnavailable, wordsOf } from "./errors.js";
 import { tell } from "./given.js";
 import { Hearing } from "./hearing.js";
 import { ANSWER, ANY, APPEND, AT_DISK, AT_LOG, AT_STORE, CLAIM, JUDGE, NONE, NOTHING, NO_BUNDLE, OK } from "./library.js";
@@ -57,7 +57,7 @@ export class Member {
     this.#life = life;
     this.#wait = wait;
     this.#isBound = mode === "bound";
-    this.#lateAs = this.#isBound || mode === "strict" ? CLAIM_FAR : LATE;
+    this.#lateAs = this.#isBound || mode === "strict" ? CLAIM_FAR : journal ? NOT_KEPT : LATE;
     this.#own = own;
     if (mode === "once") this.#twice = new Twice(library, validatorId);
     this.#onTwice = onTwice;

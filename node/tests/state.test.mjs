@@ -54,13 +54,16 @@ async function begun(folder, options, kept = []) {
 
 // -- The calls of the system, as a test wants
 
+// Those that were opened. (A process that is killed closes none of them.)
+const files = [];
+
 // Before each call that changes a disk, `call` may throw, or wait, or do it itself: then it says false. It is told the name, the file and what is given.
 function disturbed(call, after = () => {}) {
   const made = (name, real) => async function (...given) {
-    if (name === "open" && (!(given[1] & fs.constants.O_CREAT) || basename(given[0]) === "lock")) return real.apply(this, given);
-    const isOfLock = name === "write" && (await path(this)) === "lock";
-    const isDone = !isOfLock && (await call(name, this, given)) === false, answer = isDone ? undefined : await real.apply(this, given);
-    await after(name, this, given);
+    const isFree = name === "open" ? !(given[1] & fs.constants.O_CREAT) || basename(given[0]) === "lock" : name === "write" && (await path(this)) === "lock";
+    const isDone = !isFree && (await call(name, this, given)) === false, answer = isDone ? undefined : await real.apply(this, given);
+    if (name === "open") files.push(answer);
+    if (!isFree) await after(name, this, given);
     return answer;
   };
   for (const it of ["mkdir", "open", "rename", "rmdir", "unlink"]) fs[it] = made(it, REAL[it]);
@@ -198,7 +201,7 @@ test("a check is answered once the disk has its use, and those that come meanwhi
 
 test("while the disk hangs a check is late, and the validator is not ready", async () => {
   const validator = await opened(state, { wait: 0.05 }), [text, other] = [token(one), token(one)], disk = hanging();
-  assert.equal(await said(validator.check(text)), "Unavailable");
+  await assert.rejects(validator.check(text), { name: "Unavailable", reason: "NotKept" });
   await assert.rejects(validator.withdraw(other), { name: "Unavailable", message: /the state folder or the group's store may not have that: withdraw it again/ });
   assert.match(validator.unready(), /The state folder takes no acceptance/);
   assert.deepEqual([await said(validator.check(text)), await said(validator.check(other))], ["Replayed", "Withdrawn"]);
@@ -223,7 +226,7 @@ test("a full disk is a passing fault: the use is kept once there is room, and th
       await validator.check(text).then(() => accepted.push(text), (it) => (why = it));
     }
     assert.ok(accepted.length > 0 && accepted.length < 5, `${accepted.length} uses have room`);
-    assert.deepEqual([why.name, why.cause.cause.code], ["Unavailable", "EFBIG"]);
+    assert.deepEqual([why.name, why.reason, why.cause.cause.code], ["Unavailable", "NotKept", "EFBIG"]);
     assert.match(why.message, /The state folder did not take the acceptance/);
     assert.equal(await said(validator.check(late)), "Unavailable");
     assert.match(validator.unready(), /The state folder takes no acceptance/);
@@ -383,6 +386,19 @@ test("an ID that is lost or bad, files that are none, and folders of an older ve
   await assert.rejects(Journal.open(state), { name: "BadFolder", message: /is of an older svidd/ });
 });
 
+test("another writer may put a position before the messages", async () => {
+  const id = new Uint8Array(16).fill(7), numbers = library.folder(id, 1n, 0n), position = Buffer.concat([Buffer.from("JSL\x01"), Buffer.alloc(24, 3)]), frames = [];
+  while (numbers.due().call) numbers.answer(true);
+  for (const it of [Buffer.concat([position, use(1)]), position, use(2)]) {
+    frames.push(numbers.put(it));
+    numbers.synced();
+  }
+  await mkdir(state);
+  await writeFile(join(state, "place"), `${hex(id)}\n`);
+  await writeFile(join(state, "journal.1"), Buffer.concat(frames));
+  assert.deepEqual(await found(state), [1, 2]);
+});
+
 // -- Kills, and a disk call by call
 
 test("a kill at any time loses no acceptance", async () => {
@@ -539,33 +555,38 @@ test("no call that fails loses an acceptance", async () => {
 });
 
 test("a new folder whose first starts end anywhere keeps its own name, and that of its ID", async () => {
-  // Whether a start ends by the call of this number.
-  const ends = async (at, code) => {
-    const before = disk.calls;
-    isEnding = (number) => number === before + at && code;
-    const journal = await Journal.open(state).catch(async (why) => {
+  // Whether a start ends by the call of this number: it fails, or the process is killed, and makes no other call.
+  const ends = async (at, isKill) => {
+    const before = disk.calls, killed = gate();
+    ending = (number) => {
+      if (number - before < at) return undefined;
+      if (!isKill && number - before === at) throw failed("EIO");
+      if (isKill) killed.open();
+      return isKill ? new Promise(() => {}) : undefined;
+    };
+    const opening = Journal.open(state).catch(async (why) => {
       if (/remove this folder/.test(why.message)) await REAL.rm(state, { recursive: true, force: true });
     });
-    isEnding = () => false;
+    const journal = await Promise.race([opening, killed.passed]);
+    ending = () => {};
     await journal?.close();
     return !journal;
   };
-  let disk, isEnding = () => false;
+  let disk, ending = () => {};
   unlocked();
-  for (let at = 0, isOver = false; !isOver; at++) {
-    for (let nextAt = 0, isNextOver = false; !isNextOver; nextAt += 1 + (at % 2)) {
-      disk = new Disk(state, (number) => {
-        if (isEnding(number)) throw failed("EIO");
-      });
-      isOver = !(await ends(at, true));
-      isNextOver = !(await ends(nextAt, true));
+  for (const isKill of [true, false]) for (let at = 0, isOver = false; !isOver; at++) {
+    for (let nextAt = isKill ? 99 : 0, isNextOver = false; !isNextOver; nextAt += 1 + (at % 2)) {
+      disk = new Disk(state, (number) => ending(number));
+      isOver = !(await ends(at, isKill));
+      isNextOver = !(await ends(nextAt, false));
       const journal = await Journal.open(state);
       await journal.keep(use(1));
       await journal.close();
       mended();
       const lost = await disk.lost(join(dirname(state), "lost"));
-      assert.deepEqual(await found(lost), [1], `calls ${at} and ${nextAt}`);
+      assert.deepEqual(await found(lost), [1], `calls ${at} and ${nextAt}, ${isKill}`);
       await Promise.all([lost, state].map((it) => rm(it, { recursive: true })));
+      await Promise.all(files.splice(0).map((it) => it.close().catch(() => {})));
     }
   }
 });
@@ -648,6 +669,17 @@ test("a clock that goes back lets no claim be made again", async () => {
     await rm(state, { recursive: true });
     clock = began + 10_000n;
   }
+  // (nothing but this tells the next start)
+  let store = await claims();
+  const latest = clock;
+  await store.put([]);
+  clock -= 61n;
+  for (let start = 0; start < 3; start++) {
+    assert.equal((await store.put([claim(1, 1)]))[0].deaf, latest + 3620n);
+    await store.close();
+    store = await claims();
+  }
+  await store.close();
 });
 
 test("a claim is on the disk before it is answered, and is put again where the disk did not take it", async () => {
