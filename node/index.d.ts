@@ -198,9 +198,19 @@ export interface ValidatorTerms extends Terms {
   mode?: Mode;
   /**
    * The store of the group. The modes "strict" and "bound" claim tokens there, and need one; in the modes "once" and "reuse" it has `withdrawals`,
-   * and only these are shared.
+   * and only these are shared. Mode "bound" needs none where it has a state folder, and then accepts tokens in this process alone.
    */
   store?: Store;
+  /**
+   * The path of a folder that keeps the record, so that no token that `check` answered is accepted again after a crash, a restart or a loss of power.
+   * It is made where its parent is there. In mode "once" `check` returns once the disk has the use, and so does `withdraw` in each mode. In mode
+   * "bound" without a store it keeps who used each token, in its folder `claims`. What `take` got is kept from the next snapshot on. One process
+   * holds a folder at a time, by the command `flock` (Debian: util-linux). `svidd` writes the same files.
+   *
+   * What an operator is to know, as of a snapshot that could not be written, is told by `process.emitWarning`, with the code "SVID_STATE". For Node
+   * alone.
+   */
+  state?: string;
   /** The clock, in seconds since 1970. By default that of the machine. */
   now?: () => Seconds;
   /**
@@ -222,7 +232,10 @@ export interface ValidatorTerms extends Terms {
    * of more than 4 MiB it is told nothing. By default `process.emitWarning`, with the code "SVID_TWICE".
    */
   onTwice?: (key: Uint8Array) => void;
-  /** 16 bytes that name this validator among all that share its record; by default random ones. Two of one ID accept a token twice. */
+  /**
+   * 16 bytes that name this validator among all that share its record; by default random ones. Two of one ID accept a token twice. A state folder
+   * has its own.
+   */
   validatorId?: Uint8Array;
 }
 
@@ -270,6 +283,8 @@ export interface Accepted {
   readonly audience: string;
   /** The name of the key that signed the token, `kid`; "" where it has none. Throws as `audience` does. */
   readonly keyId: string;
+  /** All claims of the token, as `JSON.parse` reads its payload: an object anew each time. Throws `Closed` once the validator is closed. */
+  readonly claims: { readonly [name: string]: unknown };
   /** The same in numbers and texts, for `JSON.stringify`: bytes as hexadecimal digits. Throws as `audience` does. */
   toJSON(): object;
 }
@@ -332,20 +347,21 @@ export class Bundles {
 export class Validator {
   protected constructor(ready: never);
   /**
-   * Opens a validator whose record is empty. With a store, or sources of bundles, it waits until these answer, but no longer than `wait`: `unready`
-   * says whether they have. Throws `BadBundles`, `OutOfMemory`, and TypeError and RangeError for options that can't be.
+   * Opens a validator whose record is empty, or is that of its state folder. With a store, or sources of bundles, it waits until these answer, but
+   * no longer than `wait`: `unready` says whether they have. Throws `BadBundles`, `OutOfMemory`, and TypeError and RangeError for options that can't
+   * be. Of a state folder it throws `Held`, `BadFolder`, what the system says, and `TooFar` where the clock is behind the record that was kept.
    */
   static open(options: ValidatorOptions): Promise<Validator>;
   /** Whether tokens are to be sent to this validator: `unready` says null. */
   readonly ready: boolean;
   /**
    * The first reason why no tokens are to be sent to this validator, as a sentence, or null if it is ready. Ask it where a load balancer asks, as at
-   * the path /readyz: it also asks the store again, and advances the record to `now`.
+   * the path /readyz: it also tries the disk and the store again, and advances the record to `now`.
    */
   unready(now?: Seconds): string | null;
   /**
    * Accepts a token, as `mode` says. Throws `Refusal`, whose `name` says why not; `NotAllowed` for a good token of who may not call; `Unavailable` if
-   * the store fails, or if the check takes longer than `wait`; and `Unverifiable`.
+   * the disk or the store fails, or if the check takes longer than `wait`; and `Unverifiable`.
    *
    * @param about the time, or an object with the time and the caller. In mode "bound" it must have a caller, and in any other mode none.
    */
@@ -356,7 +372,8 @@ export class Validator {
    * Withdraws a token until it expires: from now on it is refused as `Withdrawn`. Send the `message` of what it returns to the other validators.
    *
    * It verifies no signature: the token is withdrawn that has this trust domain and `jti`, or this text where it has no `jti`. Throws `Gone` for
-   * an expired token, and `Refusal` for what is no JWT-SVID. Throws `Unavailable` if the store may lack it: then the token is withdrawn here.
+   * an expired token, and `Refusal` for what is no JWT-SVID. Throws `Unavailable` if the disk or the store may lack it: then the token is
+   * withdrawn here.
    */
   withdraw(token: Token, now?: Seconds): Promise<Use>;
   /** Withdraws the token with this key of 32 bytes (`Use.key`), which expires at `expires`. Throws `Gone` if it has expired, and `Unavailable`. */
@@ -394,8 +411,8 @@ export class Validator {
   report(): string;
   /** Replaces the bundles. The record stays. Throws `BadBundles`, and then the old ones stay, and TypeError if it follows sources. */
   renew(bundles: BundleSet): void;
-  /** Frees the record and the bundles. Closing twice does nothing. */
-  close(): void;
+  /** Frees the record and the bundles, and ends once it has let go of the state folder. Closing twice does nothing. */
+  close(): Promise<void>;
   /** Does what `close` does, where the platform has this symbol. */
   [Symbol.dispose](): void;
 }
@@ -555,13 +572,19 @@ export class BadMessages extends SvidError {
 export class NotAllowed extends SvidError {}
 
 /**
- * Nobody accepts the token: the store failed, or there was no answer in time. `cause` is what the store threw last, if it did. Answer with status
- * 503. The token may be used up all the same, and then its client needs a new one.
+ * Nobody accepts the token: the disk or the store failed, or there was no answer in time. `cause` is what the disk said, or what the store threw
+ * last, if it did. Answer with status 503. The token may be used up all the same, and then its client needs a new one.
  */
 export class Unavailable extends SvidError {
-  /** Why, as the `reason` of an answer with status 503: "NotReady", "NotClaimed", "EntriesLost" or "NotJudged". */
+  /** Why, as the `reason` of an answer with status 503: "NotReady", "NotClaimed", "NotKept", "EntriesLost" or "NotJudged". */
   readonly reason: string;
 }
+
+/** Another process has the state folder. Stop it, or give this one a folder of its own. */
+export class Held extends SvidError {}
+
+/** The state folder can't be read: a file is damaged, missing or of another version. No crash leaves such a file. The message says what to do. */
+export class BadFolder extends SvidError {}
 
 /** WebCrypto here, or your `verify`, could not say whether a key made the signature: see `cause`. Nothing was accepted. */
 export class Unverifiable extends SvidError {}

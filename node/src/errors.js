@@ -67,6 +67,16 @@ export class Unavailable extends SvidError {
   }
 }
 
+/** Another process has the state folder. Stop it, or give this one a folder of its own. */
+export class Held extends SvidError {
+  constructor(folder, holder) {
+    super(`the state folder ${folder} is held by ${holder}: stop it, or give this one a folder of its own`);
+  }
+}
+
+/** The state folder can't be read: a file is damaged, missing or of another version. No crash leaves such a file. */
+export class BadFolder extends SvidError {}
+
 /** The platform's WebCrypto, or a verifier of your own, could not say whether a key made a signature. Nothing was accepted. */
 export class Unverifiable extends SvidError {
   constructor(options) {
@@ -90,7 +100,7 @@ export class Stopped extends SvidError {
 
 // (each by its own text, since tools that make scripts shorter change the names of classes)
 for (const [name, kind] of Object.entries({
-  SvidError, Closed, Jump, Gone, TooFar, BadBundles, BadMessages, NotAllowed, Unavailable, Unverifiable, OutOfMemory, Stopped,
+  SvidError, Closed, Jump, Gone, TooFar, BadBundles, BadMessages, NotAllowed, Unavailable, Held, BadFolder, Unverifiable, OutOfMemory, Stopped,
 })) {
   Object.defineProperty(kind.prototype, "name", { value: name, configurable: true, writable: true });
 }
@@ -141,7 +151,7 @@ export function learn(asking) {
 
 // Statuses of a token; and those that say nothing of it: of a claim, of a request, and of a validator that is to get no tokens.
 const FIRST_REFUSAL = 101, LAST_REFUSAL = FIRST_REFUSAL + REFUSALS.length - 1;
-export const CLAIM_FAR = 58, LATE = 201;
+export const CLAIM_FAR = 58, LATE = 201, NOT_KEPT = 202;
 const CLAIM_DEAF = 59, LEFT = 203, ENDED = 211, DEAF = 222;
 
 /** Whether a status says that there is no answer now. */

@@ -83,18 +83,22 @@ export async function random() {
 /** WebCrypto, which is not global in each Node 18. */
 export const webCrypto = async () => globalThis.crypto ?? (await import("node:crypto")).webcrypto;
 
-/** The mode of a validator, and its store, if it has one. In the modes once and reuse, a store tells withdrawals alone. */
-export function modeOf({ mode = "once", store }) {
+/** The mode of a validator, its state folder and its store, if it has them. In the modes once and reuse, a store tells withdrawals alone. */
+export function modeOf({ mode = "once", store, state, validatorId: id }) {
   if (!Object.hasOwn(MODES, mode)) throw new RangeError(`mode is one of ${Object.keys(MODES).join(", ")}, and not ${String(mode)}`);
   const isOfGroup = mode === "strict" || mode === "bound";
-  if (store === undefined && isOfGroup) throw new TypeError("give a store in the modes strict and bound");
+  if (state !== undefined && !nameOf("state", state)) throw new TypeError("state is the path of a folder");
+  if (state !== undefined && id !== undefined) throw new TypeError("a state folder has the validator's ID: leave out validatorId");
+  if (store === undefined && (mode === "strict" || (isOfGroup && state === undefined))) {
+    throw new TypeError("give a store in the modes strict and bound, or in mode bound a state folder");
+  }
   if (store !== undefined && (typeof store?.put !== "function" || typeof store.withdraw !== "function")) {
     throw new TypeError("a store has the methods put and withdraw");
   }
   if (store !== undefined && !isOfGroup && typeof store.withdrawals !== "function") {
     throw new TypeError("in the modes once and reuse give a store with the method withdrawals, or none");
   }
-  return { mode, store };
+  return { mode, store, state };
 }
 
 /** The 32 bytes and the expiry of each withdrawal that a store tells, and up to where it has told. Throws TypeError for what is no answer. */

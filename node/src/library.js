@@ -8,9 +8,13 @@ import { Accepted, Use } from "./records.js";
 
 /** What a call answers that did what it is for, and a member that has no bundle. */
 export const OK = 0, NO_BUNDLE = 212;
-const TOO_SHORT = 1, NO_MEMORY = 2, CLOSED = 5, JUMP = 9, BEARER_SEVERAL = 82, BEARER_SPELLING = 84, NOT_ALLOWED = 91;
+/** Why reading of a file of a state folder ends. */
+export const FILE_END = 52, FILE_TEAR = 53, FILE_DAMAGE = 54, FILE_OTHER = 55;
+/** The most bytes that are written to it at once. */
+export const MOST_PAYLOAD = 16_777_215;
+const TOO_SHORT = 1, NO_MEMORY = 2, CLOSED = 5, JUMP = 9, MAGIC = 11, BEARER_SEVERAL = 82, BEARER_SPELLING = 84, NOT_ALLOWED = 91;
 const FIRST_REFUSAL = 101, TOO_LONG = 101;
-const SPKI_ROOM = 2100;
+const SPKI_ROOM = 2100, FRAME_MORE = 39;
 const STATUSES = 256, MOST_TEXTS = 8192;
 /** How many bytes the message of a use has: the least that `parts` is given. */
 export const BATCH = 82;
@@ -25,7 +29,7 @@ export const VALIDATOR = "validator", BUNDLES = "bundles";
 /** The modes of a member, by their names. */
 export const MODES = { once: 0n, strict: 1n, bound: 2n, reuse: 3n };
 /** What is to be done for a request. */
-export const NOTHING = 0n, JUDGE = 1n, CLAIM = 3n, ANSWER = 4n;
+export const NOTHING = 0n, JUDGE = 1n, APPEND = 2n, CLAIM = 3n, ANSWER = 4n;
 /** No number of a request, and no moment. */
 export const NONE = 2n ** 64n - 1n;
 /** Who keeps a withdrawal, and that one of them may not have it. */
@@ -35,6 +39,8 @@ export const AT_DISK = 0n, AT_STORE = 1n, AT_LOG = 2n, MAY_LACK = 2n;
 const TOLD = 40, TERMS = 40, SETTING = 32, HANDLE = 16, DIGEST = 32, VALIDATOR_ID = 16, WORD = 8, PART = 88, DOCUMENT = 24, PACING = 24, ENTRY = 72;
 // So many bytes an entry takes in messages, or more.
 const LEAST_ENTRY = 64;
+
+const FOLDER = 64, DUE = 16, READER = 24, FRAME = 24, BEARS = 40;
 
 // Room that each instance has from its beginning, and where it stands: no call on a token needs more, but for long rows. A token that has
 // more bytes than its room is too long for the library however many those are, so the rest is not lent.
@@ -50,10 +56,12 @@ const NEEDS = [
   "svid_validator_take", "svid_validator_parts", "svid_validator_size", "svid_validator_summary", "svid_validator_answer", "svid_bundles_open",
   "svid_bundles_close", "svid_bundles_ask", "svid_bundles_question", "svid_bundles_judge", "svid_bundles_join", "svid_token_open",
   "svid_token_close", "svid_validator_ask_token", "svid_validator_judge_token", "svid_member_open", "svid_member_know", "svid_member_ready",
-  "svid_member_come", "svid_member_judge", "svid_member_send", "svid_member_found", "svid_member_leave", "svid_member_overdue",
+  "svid_member_come", "svid_member_judge", "svid_member_send", "svid_member_wrote", "svid_member_found", "svid_member_leave", "svid_member_overdue",
   "svid_member_due", "svid_member_rules", "svid_withdrawal_come", "svid_withdrawal_told", "svid_withdrawal_overdue", "svid_pacing_may_send",
   "svid_pacing_due", "svid_pacing_sent", "svid_pacing_answered", "svid_pacing_unanswered", "svid_claim_owner", "svid_claim_owner_of_caller",
-  "svid_claim_until", "svid_claim_deaf", "svid_entries_write", "svid_status_name", "svid_status_sentence",
+  "svid_claim_until", "svid_claim_deaf", "svid_entries_write", "svid_status_name", "svid_status_sentence", "svid_token_payload",
+  "svid_journal_open", "svid_journal_begin", "svid_journal_due", "svid_journal_answer", "svid_journal_put", "svid_journal_synced",
+  "svid_journal_unwritten", "svid_journal_failed", "svid_journal_piece", "svid_journal_read", "svid_journal_bears",
 ];
 
 const encoder = new TextEncoder();
@@ -270,7 +278,7 @@ export class Library {
 
   /** What an acceptance is, for callers. */
   acceptedOf(token, own, subject, use) {
-    return new Accepted({ ...subject, expires: use.expires, use }, own, () => this.says(token));
+    return new Accepted({ ...subject, expires: use.expires, use }, own, () => this.says(token), () => JSON.parse(textOf(this.#payload(token))));
   }
 
   // The ID in OUT, and its parts.
@@ -353,10 +361,10 @@ export class Library {
 
   // -- The member of a validator: its requests, each by a number
 
-  /** Lets a validator answer requests. `terms` has `mode`, `hasStore`, `wait` (in milliseconds), `ahead`, `lasts` and `life`. */
-  openMember({ mode, hasStore, wait, ahead, lasts, life }) {
+  /** Lets a validator answer requests. `terms` has `mode`, `hasDisk`, `hasStore`, `wait` (in milliseconds), `ahead`, `lasts` and `life`. */
+  openMember({ mode, hasDisk, hasStore, wait, ahead, lasts, life }) {
     this.#open();
-    this.#setWords(this.#at(SMALL), [MODES[mode], 0n, BigInt(hasStore), 0n, wait, ahead, lasts]);
+    this.#setWords(this.#at(SMALL), [MODES[mode], BigInt(hasDisk), BigInt(hasStore), 0n, wait, ahead, lasts]);
     this.#set(this.#at(SMALL + 56), life);
     this.#make("svid_member_open", this.#at(SMALL));
   }
@@ -411,6 +419,11 @@ export class Library {
     return this.#deedOf("svid_member_send", up, number);
   }
 
+  /** The use of a request is on the disk, or may not be there. */
+  wrote(up, number, isThere) {
+    return this.#deedOf("svid_member_wrote", up, number, BigInt(isThere));
+  }
+
   /** Nobody waits any more for the answer to a request. */
   leave(up, number) {
     return this.#deedOf("svid_member_leave", up, number);
@@ -461,7 +474,7 @@ export class Library {
   // What the last call says is to be done. `use` is that of a claim, and of an acceptance.
   #deed() {
     const at = this.#at(DEED), what = this.#word(at), status = Number(this.#word(at + 16n)), isAccepted = what === ANSWER && status === OK;
-    const use = isAccepted ? this.#used(at + 32n) : what === CLAIM ? this.#use(at + 32n) : null;
+    const use = isAccepted || what === APPEND ? this.#used(at + 32n) : what === CLAIM ? this.#use(at + 32n) : null;
     return { what, number: this.#word(at + 8n), status, next: this.#word(at + 24n), use };
   }
 
@@ -508,7 +521,78 @@ export class Library {
     return BigInt.asUintN(64, this.#run(name, ...given));
   }
 
+  // -- A state folder
+
+  /** What is due in the folder of this ID, with the least and the greatest number of its journals, and the frames of payloads. */
+  folder(id, oldest, newest) {
+    const at = this.#lend(FOLDER), due = this.#lend(DUE), named = this.#lend(VALIDATOR_ID), word = (n) => this.#word(at + BigInt(WORD * n));
+    const judge = (status) => {
+      if (status !== OK) throw new Unavailable(wordsOf(status));
+    };
+    const run = (name, ...given) => judge(this.#run(name, at, ...given));
+    const frame = (name, payload) => this.#within(({ lend, room }) => {
+      const lent = lend(payload), size = payload.length + FRAME_MORE, out = room(size);
+      judge(this.#call(name, at, named, ...lent, out, BigInt(size)));
+      return this.#seen(out, this.#length());
+    });
+    this.#set(named, id);
+    run("svid_journal_open", oldest, newest);
+    return {
+      newest: () => word(2),
+      isEnded: () => word(3) !== 0n,
+      end: () => word(5),
+      begin: () => run("svid_journal_begin"),
+      due: () => {
+        run("svid_journal_due", due);
+        return { call: this.#word(due), journal: this.#word(due + 8n) };
+      },
+      answer: (isDone) => run("svid_journal_answer", Number(isDone)),
+      put: (payload) => frame("svid_journal_put", payload),
+      piece: (payload) => frame("svid_journal_piece", payload),
+      synced: () => run("svid_journal_synced"),
+      unwritten: () => run("svid_journal_unwritten"),
+      failed: () => run("svid_journal_failed"),
+    };
+  }
+
+  /**
+   * Reads the journal of this number, or the snapshot as number 0: its messages, how many bytes its frames have, the status that says what stands
+   * after them, and of another format its number.
+   */
+  framesOf(id, number, bytes) {
+    return this.#within(({ lend, room }) => {
+      const [named] = lend(id), [at, length] = lend(bytes), reader = room(READER), frame = room(FRAME), bears = room(BEARS), messages = [];
+      this.#setWords(reader, [0n, 0n, 0n]);
+      for (;;) {
+        const status = this.#run("svid_journal_read", named, number, at, length, reader, frame), [payload, size, format] = this.#words(frame, 3);
+        if (status !== OK) {
+          if (status < FILE_END || status > FILE_OTHER) throw ofStatus(status);
+          return { status, at: Number(this.#word(reader + 8n)), format, messages };
+        }
+        this.#run("svid_journal_bears", at + payload, size, bears);
+        const begins = this.#word(bears + 32n); // (another writer may put a position before them)
+        if (begins < size) messages.push(this.#seen(at + payload + begins, size - begins));
+      }
+    });
+  }
+
+  /** Whether a file may be messages without frames, as old versions wrote: then the library finds no fault at its beginning. */
+  beginsAsMessages(bytes) {
+    return this.#within(({ lend }) => {
+      // (what is cut off there goes on with zeros)
+      const status = this.#call("svid_entries_read", ...lend(joined([bytes.subarray(0, 64), new Uint8Array(64)])), 0n, 0n);
+      if (status === NO_MEMORY) throw new OutOfMemory();
+      return status !== MAGIC || this.#told().message > 1;
+    });
+  }
+
   // -- Texts
+
+  // The payload of a token.
+  #payload(token) {
+    const length = this.#lendToken(token);
+    return this.#text(() => this.#written("svid_token_payload", this.#at(TOKEN), length));
+  }
 
   /** What a token says: nobody has vouched for it. */
   says(token) {

@@ -4,16 +4,16 @@
 // and what the library says is to be done.
 
 import { Claims, up } from "./claims.js";
-import { CLAIM_FAR, LATE, Closed, Gone, Jump, NotAllowed, Refusal, SvidError, Unavailable, isUnavailable, wordsOf } from "./errors.js";
+import { CLAIM_FAR, LATE, NOT_KEPT, Closed, Gone, Jump, NotAllowed, Refusal, SvidError, Unavailable, isUnavailable, wordsOf } from "./errors.js";
 import { tell } from "./given.js";
 import { Hearing } from "./hearing.js";
-import { ANSWER, ANY, AT_DISK, AT_LOG, AT_STORE, CLAIM, JUDGE, NONE, NOTHING, NO_BUNDLE, OK } from "./library.js";
+import { ANSWER, ANY, APPEND, AT_DISK, AT_LOG, AT_STORE, CLAIM, JUDGE, NONE, NOTHING, NO_BUNDLE, OK } from "./library.js";
 import { Twice } from "./twice.js";
 
 const NO_SIGNATURE = "BadSignature", NO_DOMAIN = "UnknownDomain";
 const NOBODY = new Uint8Array(32);
 const LONGEST_TIMER = 2 ** 31 - 1;
-const MAY_LACK_IT = "the token is withdrawn here, but the group's store may not have that: withdraw it again";
+const MAY_LACK_IT = "the token is withdrawn here, but the state folder or the group's store may not have that: withdraw it again";
 
 // Those in which somebody waits: a timer alone does not keep them.
 const waiting = new Set();
@@ -34,6 +34,8 @@ export class Member {
   #clock;
   #sources;
   #isBundled;
+  #journal;
+  #retry; // keeps the last use once more that the disk did not take
   #claims;
   #hearing;
   #twice; // in mode once
@@ -45,9 +47,9 @@ export class Member {
 
   /**
    * `terms` has `mode`, `wait` (in seconds), `callers`, `store`, `own`, `longest`, `ahead`, `life`, `clock`,
-   * `validatorId`, `onTwice`, and `sources` of bundles, if there are any.
+   * `validatorId`, `onTwice`, and a `journal` and `sources` of bundles, if there are any.
    */
-  constructor(library, verifier, { mode, wait, callers, store, own, longest, ahead, life, clock, sources, validatorId, onTwice }) {
+  constructor(library, verifier, { mode, wait, callers, store, own, longest, ahead, life, clock, sources, validatorId, onTwice, journal }) {
     this.#library = library;
     this.#verifier = verifier;
     this.#callers = callers;
@@ -55,15 +57,16 @@ export class Member {
     this.#life = life;
     this.#wait = wait;
     this.#isBound = mode === "bound";
-    this.#lateAs = this.#isBound || mode === "strict" ? CLAIM_FAR : LATE;
+    this.#lateAs = this.#isBound || mode === "strict" ? CLAIM_FAR : journal ? NOT_KEPT : LATE;
     this.#own = own;
     if (mode === "once") this.#twice = new Twice(library, validatorId);
     this.#onTwice = onTwice;
     this.#clock = clock;
     this.#sources = sources;
     this.#isBundled = sources === undefined;
+    this.#journal = journal;
     const within = least(BigInt(Math.floor(Math.min(wait * 1000, 2 ** 63))), ANY), lasts = least(longest + 2n * ahead, ANY);
-    library.openMember({ mode, hasStore: store !== undefined, wait: within, ahead, lasts, life });
+    library.openMember({ mode, hasDisk: journal !== undefined, hasStore: store !== undefined, wait: within, ahead, lasts, life });
     if (callers) library.rules(own, callers);
     if (store) this.#claims = new Claims(library.pacing(), store, this);
     // (in mode strict the claim of a token tells that it was withdrawn)
@@ -122,7 +125,8 @@ export class Member {
     const ended = new Promise((resolve, reject) => this.#withdrawals.set(number, { resolve, reject }));
     this.#watch();
     this.#told(number, AT_LOG, true);
-    this.#told(number, AT_DISK, true);
+    if (!this.#journal) this.#told(number, AT_DISK, true);
+    this.#journal?.keep(use.message).then(() => this.#told(number, AT_DISK, true), (why) => this.#told(number, AT_DISK, false, why));
     if (!this.#claims) this.#told(number, AT_STORE, true);
     this.#claims?.withdraw(key, expires).then(() => this.#told(number, AT_STORE, true), (why) => this.#told(number, AT_STORE, false, why));
     const { mayLack, cause } = await ended;
@@ -155,6 +159,7 @@ export class Member {
       if (!(why instanceof Jump)) throw why;
       this.#know(now, true);
     }
+    this.#retry?.();
     const status = this.#library.ready();
     if (status !== OK && !isUnavailable(status)) throw this.#library.fault(status);
     return status === OK ? null : wordsOf(status);
@@ -262,6 +267,7 @@ export class Member {
       if (deed.next !== NONE) queueMicrotask(() => this.#again(deed.next));
       if (request) this.#answer(request, deed);
     } else if (deed.what === JUDGE) this.#ask(request);
+    else if (deed.what === APPEND) this.#keep(deed, request);
     else if (deed.what === CLAIM) this.#claims.add(deed);
     return deed;
   }
@@ -271,13 +277,27 @@ export class Member {
     if (request) this.#ask(request);
   }
 
-  #answer(request, { status, use }) {
+  // Brings a use to the disk.
+  #keep(deed, request) {
+    const wrote = (why) => this.#safely(() => {
+      Object.assign(request, { isWriting: false, why });
+      this.#retry = why && (() => this.#keep(deed, request));
+      this.#hand(this.#library.wrote(up(), deed.number, !why));
+    });
+    this.#retry = undefined;
+    request.isWriting = true;
+    this.#journal.keep(deed.use.message).then(() => wrote(), wrote);
+  }
+
+  #answer(request, { number, status, use }) {
+    // (a disk that hangs takes nothing, until it says otherwise)
+    if (request.isWriting) this.#hand(this.#library.wrote(up(), number, false));
     if (status === OK) {
       this.#twice?.add(use);
       return request.resolve(this.#library.acceptedOf(request.token.bytes, this.#own, request.subject, use));
     }
     const toldAs = status === LATE ? this.#lateAs : status;
-    request.reject(this.#refusal(this.#library.fault(status, this.#cause, toldAs), request));
+    request.reject(this.#refusal(this.#library.fault(status, request.why ?? this.#cause, toldAs), request));
   }
 
   // What a refusal is to say: where no key could be asked, or where no bundle has come yet, it is not the token's fault.

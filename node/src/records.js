@@ -24,12 +24,19 @@ export class Accepted {
   #own;
   #says;
   #said;
+  #claims;
 
-  /** @param own the audiences of the service @param says reads the token */
-  constructor(fields, own, says) {
+  /** @param own the audiences of the service @param says reads the token @param claims reads its payload */
+  constructor(fields, own, says, claims) {
     Object.assign(this, fields);
     this.#own = own;
     this.#says = says;
+    this.#claims = claims;
+  }
+
+  /** All claims of the token, as `JSON.parse` reads its payload: an object anew each time. */
+  get claims() {
+    return this.#claims();
   }
 
   /** The first audience of the service that the token names. */

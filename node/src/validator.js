@@ -39,6 +39,22 @@ function warnOfTwice(key) {
   else console.warn(said);
 }
 
+/** What a state folder keeps of a validator, and its store. (Their modules are for Node alone.) */
+async function keptIn(state, { mode, store, ...terms }) {
+  if (state === undefined) return { store, kept: [] };
+  const { Journal } = await import("./journal.js"), journal = await Journal.open(state);
+  if (mode !== "bound" || store) return { store, journal, kept: [journal] };
+  try {
+    const claims = await (await import("./local.js")).LocalStore.open(`${state}/claims`, terms);
+    return { store: claims, journal, kept: [journal, claims] };
+  } catch (why) {
+    await journal.close();
+    throw why;
+  }
+}
+
+const letGo = (kept) => Promise.all(kept.map((it) => it.close()));
+
 /** Calls `open` with a library, and closes that where it throws. */
 async function opened(open) {
   const library = await Library.start();
@@ -57,12 +73,13 @@ export class Validator {
   #isBound;
   #clock;
   #follows;
+  #kept;
 
-  /** Opens a validator whose record is empty. */
+  /** Opens a validator whose record is empty, or is that of its state folder. */
   static async open(options) {
     // (left out in silence, it would let each process accept the token)
     if (options.log !== undefined) throw new TypeError(NO_LOG);
-    const own = audiences(options.audiences), { mode, store } = modeOf(options), wait = waitOf(options.wait), clock = clockOf(options.now);
+    const own = audiences(options.audiences), { mode, state, ...given } = modeOf(options), wait = waitOf(options.wait), clock = clockOf(options.now);
     if (options.follow !== undefined && options.bundles !== undefined) throw new TypeError("give bundles, or follow sources of them");
     const bundles = options.follow === undefined ? bundlesOf(options.bundles) : [];
     const longest = longestOf(options.longest), ahead = limit("ahead", options.ahead ?? 30), step = limit("step", options.step);
@@ -71,15 +88,26 @@ export class Validator {
     const following = options.follow && sourcesOf(options.follow);
     // (all options are read by here: whoever gave them may change them while this waits)
     const terms = { longest, ahead, step, validatorId: await validatorId(options.validatorId) }, life = await random(), sources = await following;
+    const { store, journal, kept } = await keptIn(state, { ...given, mode, longest, ahead, clock });
+    if (journal) terms.validatorId = journal.id;
     const ready = await opened((library) => {
       readPatterns(callers, (...it) => library.allows(...it));
       if (callers && own.some((it) => it.includes("\n"))) throw new RangeError("with callers, no audience has a line feed");
       library.openValidator(terms, own, bundles);
-      const given = { mode, wait, callers, store, own, longest, ahead, life, clock, sources, validatorId: terms.validatorId, onTwice };
-      return { library, mode, clock, follows: sources !== undefined, member: new Member(library, verifier(library), given) };
+      const given = { mode, wait, callers, store, own, longest, ahead, life, clock, sources, validatorId: terms.validatorId, onTwice, journal };
+      return { library, mode, clock, follows: sources !== undefined, kept, member: new Member(library, verifier(library), given) };
+    }).catch(async (why) => {
+      await letGo(kept);
+      throw why;
     });
     const validator = new this(ready);
-    await ready.member.begin();
+    try {
+      await journal?.begin((messages) => ready.library.take(clock(), messages), () => ready.library.parts(PIECE));
+      await ready.member.begin();
+    } catch (why) {
+      await validator.close();
+      throw why;
+    }
     return validator;
   }
 
@@ -91,11 +119,13 @@ export class Validator {
     this.#isBound = ready.mode === "bound";
     this.#clock = ready.clock;
     this.#follows = ready.follows;
+    this.#kept = ready.kept;
   }
 
-  /** Frees the record and the bundles. Closing twice does nothing. */
-  close() {
+  /** Frees the record and the bundles, and lets go of the state folder. Closing twice does nothing. */
+  async close() {
     this.#member.close();
+    await letGo(this.#kept);
   }
 
   /** Whether tokens are to be sent to this validator: `unready` says null. */

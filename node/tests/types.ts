@@ -62,6 +62,11 @@ const strict = await Validator.open({ audiences: "ledger", bundles: "{}", mode: 
 const reason: string | null = strict.ready ? null : strict.unready(5);
 const bound = await Validator.open({ audiences: "ledger", bundles: "{}", mode: "bound", store: new MemoryStore({ margin: 5n, now: () => 5 }) });
 await bound.check("a.b.c", { caller: "10.0.0.7", now: 5n });
+const kept = await Validator.open({ audiences: "ledger", bundles: "{}", mode: "bound", state: "/var/lib/ledger" });
+const claims: unknown = (await kept.check("a.b.c", { caller: "10.0.0.7" })).claims["sub"];
+await kept.close();
+// @ts-expect-error (a folder has a path)
+await Validator.open({ audiences: "ledger", bundles: "{}", state: 7 });
 const isKnown = (why: unknown): boolean => why instanceof NotAllowed || (why instanceof Unavailable && why.cause !== undefined);
 guard(bound, { caller: (req: { rawHeaders: string[]; socket: { remoteAddress?: string } }) => req.socket.remoteAddress ?? "" });
 // @ts-expect-error (no mode has this name)
@@ -82,4 +87,4 @@ const listener = protect(validator, (req: { rawHeaders: string[]; svid: Accepted
 const bearer = validator.bearer(["Bearer a"]);
 if (bearer.token) await validator.check(bearer.token);
 else console.log(bearer.several || bearer.spelling);
-void [followed, ofExpress, unsure, id, expires, message, early, moment, uses, names, middleware, listener, reason, isKnown];
+void [claims, followed, ofExpress, unsure, id, expires, message, early, moment, uses, names, middleware, listener, reason, isKnown];

@@ -41,10 +41,12 @@ test("an acceptance has all that it says", async () => {
 
 test("an acceptance says which audience matched and which key signed, and is written as JSON", async () => {
   const time = now(), own = ["first", "ledger", "last"], validator = await Validator.open({ ...terms, audiences: own }), judge = await Bundles.open({ ...terms, audiences: own });
-  const text = token(one, { aud: ["other", "last", "ledger"], exp: time + 60 });
+  const text = token(one, { aud: ["other", "last", "ledger"], exp: time + 60, "é": { x: [null, 1.5] } });
   const all = [await validator.judge(text, time), await validator.check(text, time), await judge.judge(text, time)];
   for (const it of all) {
     assert.deepEqual([it.audience, it.keyId], ["ledger", "k1"]);
+    assert.deepEqual(it.claims, JSON.parse(Buffer.from(text.split(".")[1], "base64url")));
+    assert.notEqual(it.claims, it.claims);
     const { use, ...rest } = JSON.parse(JSON.stringify(it));
     assert.deepEqual(rest, {
       spiffeId: "spiffe://example.org/billing/api", trustDomain: "example.org", path: "/billing/api", expires: time + 60, audience: "ledger", keyId: "k1",
@@ -59,6 +61,7 @@ test("an acceptance says which audience matched and which key signed, and is wri
   assert.equal(early.keyId, "k1");
   validator.close();
   assert.throws(() => late.audience, { name: "Closed" });
+  assert.throws(() => early.claims, { name: "Closed" });
   assert.equal(early.audience, "ledger");
 });
 

@@ -1,10 +1,14 @@
 // The vectors of vectors/, which say where their answers come from: those that the Python package reads too.
 
 import assert from "node:assert/strict";
+import { mkdtemp, rm, writeFile } from "node:fs/promises";
+import { tmpdir } from "node:os";
+import { join } from "node:path";
 import { test } from "node:test";
 import { bytesOf, hex, imported, listed, read } from "./making.mjs";
 
 const { BadBundles, BadMessages, Bundles, Refusal, SvidError, Validator, guard } = await imported();
+const { Library } = await imported("src/library.js");
 const { LISTED } = await listed();
 
 const ANY = 2n ** 64n - 1n;
@@ -38,7 +42,7 @@ async function using(opened, body) {
   try {
     return await body(it);
   } finally {
-    it.close();
+    await it.close();
   }
 }
 
@@ -200,5 +204,33 @@ test("summaries", async () => {
       else if (vector.fault) assert.throws(() => validator.answer(summary, 0), { name: "BadMessages", reason: vector.fault }, vector.name);
       else assert.equal(hex(validator.answer(summary, 0)), vector.answer, vector.name);
     });
+  }
+});
+
+test("files of a state folder", async () => {
+  const library = await Library.start(), ends = ["end", "tear", "damage", "format"], position = "4a534c01";
+  for (const vector of vectorsOf("files").vectors) {
+    const { messages, status, at, format } = library.framesOf(bytesOf(vector.folder_id), BigInt(vector.journal), bytesOf(vector.content));
+    // (before its messages, a payload may say how far a log was read: 28 bytes)
+    const due = vector.payloads.map((it) => (it.startsWith(position) ? it.slice(56) : it)).filter((it) => it);
+    assert.deepEqual([messages.map(hex), ends[status - 52], at], [due, vector.end, vector.at], vector.name);
+    if (vector.end === "format") assert.equal(format, BigInt(vector.format), vector.name);
+  }
+});
+
+test("state folders", async () => {
+  for (const { name, files, record, at, format, ...bad } of vectorsOf("folders").vectors) {
+    const state = await mkdtemp(join(tmpdir(), "svid-folder-")), terms = { audiences: "ledger", bundles: "{}", ahead: ANY, now: () => 0 };
+    for (const [it, content] of Object.entries(files)) await writeFile(join(state, it), bytesOf(content));
+    if (record) {
+      await using(Validator.open({ ...terms, state }), (validator) => using(Validator.open(terms), async (same) => {
+        same.take(bytesOf(record));
+        assert.equal(validator.report(), same.report(), name);
+      }));
+    } else {
+      const message = bad.damaged ? `${join(state, bad.damaged)} is damaged at byte ${at}:` : `${join(state, bad.of_format)} has format ${format},`;
+      await assert.rejects(Validator.open({ ...terms, state }), (why) => why.name === "BadFolder" && why.message.startsWith(message), name);
+    }
+    await rm(state, { recursive: true });
   }
 });

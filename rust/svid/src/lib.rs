@@ -6,7 +6,8 @@
 //!
 //! - [`Guard`] is what a service has, for any number of threads. [`Options::mode`] says how often it accepts a token.
 //! - [`Sources`] say where the trust bundles come from. The guard follows them.
-//! - [`Store`] is the trait of a store that guards share, which you write over the client of your database.
+//! - [`Store`] is the trait of a store that guards share, which you write over the client of your database. `PostgresStore` (feature `postgres`)
+//!   is one.
 //! - [`Journal`] keeps a record over restarts and crashes.
 //! - [`LogMember`] is for a group that has nothing but a log.
 //! - [`Refusal`] says why a token is refused, and [`Error`] why there is no answer.
@@ -28,7 +29,7 @@
 //!
 //! No call panics, whatever it is given, but for those of the module `testing`. A call that has no memory says so, except where [`Options`],
 //! [`Sources`] and `Debug` make texts, where a guard or a [`LogMember`] is opened, where a guard follows other sources or begins a thread, where bundles
-//! or a state folder are read and a write begins, and within the crates of others.
+//! or a state folder are read and a write begins, in a `PostgresStore`, and within the crates of others.
 #![deny(missing_docs)]
 #![deny(unsafe_op_in_unsafe_fn)]
 #![deny(clippy::undocumented_unsafe_blocks)]
@@ -65,6 +66,8 @@ mod open_token;
 mod options;
 mod paths;
 mod pattern;
+#[cfg(feature = "postgres")]
+mod postgres;
 mod record;
 mod refusal;
 mod requests;
@@ -96,6 +99,8 @@ pub use crate::token::Said;
 pub use crate::unavailable::Unavailable;
 pub use crate::verify::{Unverified, Verify};
 
+#[cfg(feature = "postgres")]
+pub use crate::postgres::PostgresStore;
 #[cfg(feature = "openssl")]
 pub use crate::verify::openssl::OpenSsl;
 #[cfg(feature = "ring")]

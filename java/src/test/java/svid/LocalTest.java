@@ -180,7 +180,7 @@ public class LocalTest {
         }
         until(() -> {
             open.put(List.of());
-            return size() < 2 << 20;
+            return size() < 6 << 20; // (of 10 MB)
         });
         has(7, 3, 3, now + 30);
         again();

@@ -245,7 +245,7 @@ public class MemberTest {
         Store store = new MemoryStore();
         for (Options options : List.of(ledger().mode(Mode.STRICT), ledger().mode(Mode.BOUND))) {
             String said = assertThrows(IllegalArgumentException.class, () -> open(options)).getMessage();
-            assertEquals("give a store in the modes STRICT and BOUND: tokens are claimed there", said);
+            assertEquals("give a store in the modes STRICT and BOUND, or in BOUND a state folder: tokens are claimed there", said);
         }
         assertThrows(IllegalArgumentException.class, () -> ledger().wait(Duration.ZERO));
         assertThrows(IllegalArgumentException.class, () -> ledger().wait(Duration.ofSeconds(-1)));

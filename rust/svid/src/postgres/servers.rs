@@ -1,0 +1,144 @@
+//! The servers of a store.
+
+use std::sync::{Arc, Mutex, MutexGuard, PoisonError};
+use std::time::{Duration, Instant};
+
+use tokio::sync::Notify;
+
+use super::address::Address;
+use super::fault::{within, Fault};
+use super::session::{Role, Session};
+use super::statements::{LOOK_EVERY, LOOK_WAIT, MOST_AGE, STALE, STANDBY};
+
+/// All addresses. Where there are several, each one is looked at all the time: so a member does not go on with a primary whose place another server
+/// has taken.
+pub(crate) struct Servers {
+    addresses: Vec<Address>,
+    schema: String,
+    seen: Mutex<Vec<Seen>>,
+    changed: Notify,
+}
+
+/// What the last look at a server saw.
+struct Seen {
+    role: Result<Role, Fault>,
+    at: Option<Instant>,
+}
+
+impl Servers {
+    pub fn new(addresses: Vec<Address>, schema: String) -> Arc<Servers> {
+        let seen = addresses.iter().map(|_| Seen { role: Err(STANDBY.into()), at: None }).collect();
+        Arc::new(Servers { addresses, schema, seen: Mutex::new(seen), changed: Notify::new() })
+    }
+
+    /// Looks at all servers from now on, where there are several.
+    pub fn begin(self: &Arc<Servers>) {
+        for at in (0..self.addresses.len()).filter(|_| self.addresses.len() > 1) {
+            tokio::spawn(Arc::clone(self).watch(at));
+        }
+    }
+
+    /// Connects to a server, and asks what it is.
+    pub async fn reach(&self, at: usize, end: Instant) -> Result<(Session, Role), Fault> {
+        let mut session = Session::open(at, &self.addresses[at], &self.schema, end).await?;
+        let role = session.role(end).await?;
+        Ok((session, role))
+    }
+
+    /// The number of the primary, once each server was looked at.
+    pub async fn primary(&self, end: Instant) -> Result<usize, Fault> {
+        let first = async {
+            loop {
+                let changed = self.changed.notified();
+                if let Some(first) = self.first() {
+                    return first;
+                }
+                changed.await;
+            }
+        };
+        within(end, first).await?
+    }
+
+    /// An error if what a server answers does not count.
+    pub fn counts(&self, at: usize) -> Result<(), Fault> {
+        let first = self.first().unwrap_or_else(|| Err(Fault::server("not all servers were looked at")))?;
+        let seen = self.seen();
+        match (&seen[first].role, &seen[at].role) {
+            _ if first == at => Ok(()),
+            (Ok(first), Ok(role)) if first == role => Ok(()),
+            _ => Err(STALE.into()),
+        }
+    }
+
+    /// The primary by the last looks; none before each server was looked at.
+    fn first(&self) -> Option<Result<usize, Fault>> {
+        if self.addresses.len() == 1 {
+            return Some(Ok(0));
+        }
+        let seen = self.seen();
+        let oldest = Duration::from_millis(MOST_AGE);
+        seen.iter().all(|it| it.at.map_or(false, |at| at.elapsed() <= oldest)).then(|| first_of(&seen))
+    }
+
+    /// Looks at a server until the end.
+    async fn watch(self: Arc<Servers>, at: usize) {
+        let mut session = None;
+        loop {
+            let begun = Instant::now();
+            let looked = self.look(at, session.take(), begun + Duration::from_millis(LOOK_WAIT)).await;
+            let (role, when) = match looked {
+                Ok((it, role)) => {
+                    session = Some(it);
+                    (Ok(role), begun)
+                }
+                Err(why) => (Err(why), Instant::now()), // (it answered nobody until now)
+            };
+            self.seen()[at] = Seen { role, at: Some(when) };
+            self.changed.notify_waiters();
+            tokio::time::sleep_until((begun + Duration::from_millis(LOOK_EVERY)).into()).await;
+        }
+    }
+
+    async fn look(&self, at: usize, session: Option<Session>, end: Instant) -> Result<(Session, Role), Fault> {
+        match session {
+            None => self.reach(at, end).await,
+            Some(mut it) => {
+                let role = it.role(end).await?;
+                Ok((it, role))
+            }
+        }
+    }
+
+    fn seen(&self) -> MutexGuard<'_, Vec<Seen>> {
+        self.seen.lock().unwrap_or_else(PoisonError::into_inner)
+    }
+}
+
+/// The primary by what was seen.
+fn first_of(seen: &[Seen]) -> Result<usize, Fault> {
+    let (mut first, mut faults): (Option<(usize, &Role)>, _) = (None, Vec::new());
+    for (at, it) in seen.iter().enumerate() {
+        let (role, (before, known)) = match (&it.role, first) {
+            (Ok(role), Some(first)) if role.is_primary => (role, first),
+            (is, _) => {
+                match is {
+                    Ok(role) if role.is_primary => first = Some((at, role)),
+                    Ok(_) => faults.push(format!("address {}: {}", at + 1, STANDBY.1)),
+                    Err(why) => faults.push(format!("address {}: {why}", at + 1)),
+                }
+                continue;
+            }
+        };
+        let both = format!("addresses {} and {} are", before + 1, at + 1);
+        if known.system != role.system {
+            return Err(Fault::server(format_args!("{both} primaries of two database clusters: name the servers of one")));
+        }
+        if known != role && known.line == role.line {
+            return Err(Fault::server(format_args!("{both} both primaries: stop the wrong one")));
+        }
+        if known.line < role.line {
+            first = Some((at, role)); // (it was promoted later; one server may have two addresses)
+        }
+    }
+    first.map(|it| it.0).ok_or_else(|| Fault::server(faults.join("; ")))
+}

@@ -1,0 +1,421 @@
+//! Stores, over real servers. The tests of go/claims/postgres run over them too.
+
+use std::io::{BufRead, BufReader, Write};
+use std::path::PathBuf;
+use std::process::{Child, Command, Stdio};
+
+use super::member::mark;
+use super::*;
+use crate::common::*;
+use crate::testing::Issuer;
+use crate::{Error, Guard, Mode, OpenSsl, Refusal};
+
+const OWNER: [u8; 32] = [111; 32];
+/// The variable that lets a test of this process be the client whose calls the tests of Go make.
+const CLIENT: &str = "SVID_STORE_CLIENT";
+
+/// Tests of go/claims/postgres that a wrong body fails.
+const CALLS: &str = "TestAClaimThatWaitsWhileTheEpochEnds|TestOneOrder|TestAClaimThatIsNotCommitted|TestAnEntryThatIsGoneMeanwhile";
+const LOSSES: &str = "TestRowsThatGoByHandEndTheEpoch|TestALookMissesRows|TestAnOlderCopyThatWentOn";
+const STANDBYS: &str = "TestACancelledWait|TestWhatIsGivenUpEndsAtTheServer|TestStandbysAreNotWaitedForAnyMore";
+const PRIMARIES: &str = "TestTwoPrimaries|TestTwoStandbysArePromoted|TestServersOfTwoClusters";
+const TLS: &str = "TestTLS|TestRights";
+
+/// One test has the machine at a time: its servers want most of it.
+static TURN: Mutex<()> = Mutex::new(());
+
+/// The tests of go/claims/postgres as a program.
+struct Program {
+    room: Room,
+    _turn: MutexGuard<'static, ()>,
+}
+
+impl Program {
+    fn new() -> Program {
+        let made = Program { _turn: TURN.lock().unwrap_or_else(PoisonError::into_inner), room: Room::new("postgres") };
+        let mut build = Command::new("go");
+        build.args(["test", "-c", "-o"]).arg(made.path()).arg("./claims/postgres").current_dir(top().join("go"));
+        assert!(build.status().expect("go is there").success());
+        made
+    }
+
+    fn path(&self) -> PathBuf {
+        self.room.0.join("postgres.test")
+    }
+
+    /// A call of it. (The user of PostgreSQL may not go through a folder of this one.)
+    fn command(&self, words: &[&str]) -> Command {
+        let mut command = Command::new(self.path());
+        command.args(words).current_dir(top().join("go/claims/postgres")).env("TMPDIR", "/tmp");
+        command
+    }
+
+    /// The names of all tests.
+    fn names(&self) -> Vec<String> {
+        let listed = self.command(&["-test.list", "^Test"]).output().expect("it runs").stdout;
+        String::from_utf8_lossy(&listed).split_whitespace().map(str::to_owned).collect()
+    }
+
+    /// Runs some of the tests over this client.
+    fn runs(&self, tests: &str) {
+        let client = std::env::current_exe().expect("a test has a program");
+        let mut run = self.command(&["-test.v", "-test.timeout", "20m", "-test.run", &format!("^({tests})$")]);
+        let ran =
+            run.env(CLIENT, format!("{} --exact postgres::tests::serves_calls --nocapture", client.display())).output().expect("it runs");
+        let said = String::from_utf8_lossy(&ran.stdout).into_owned();
+        let passed = said.lines().filter(|it| it.starts_with("--- PASS: ")).count();
+        let faults = String::from_utf8_lossy(&ran.stderr).into_owned();
+        assert!(ran.status.success() && passed == tests.split('|').count(), "{passed} passed: {said} {faults}");
+    }
+}
+
+#[test]
+fn calls() {
+    Program::new().runs(CALLS);
+}
+
+#[test]
+fn losses() {
+    Program::new().runs(LOSSES);
+}
+
+#[test]
+fn standbys() {
+    Program::new().runs(STANDBYS);
+}
+
+#[test]
+fn primaries() {
+    Program::new().runs(PRIMARIES);
+}
+
+#[test]
+fn tls_and_rights() {
+    Program::new().runs(TLS);
+}
+
+#[test]
+fn all_other_tests_of_go() {
+    let program = Program::new();
+    let some: Vec<&str> = [CALLS, LOSSES, STANDBYS, PRIMARIES, TLS].iter().flat_map(|it| it.split('|')).collect();
+    let all = program.names();
+    assert!(some.iter().all(|it| all.iter().any(|name| name == it)), "{some:?} of {all:?}");
+    program.runs(&all.into_iter().filter(|it| !some.contains(&it.as_str())).collect::<Vec<_>>().join("|"));
+}
+
+/// Makes calls for the tests of go/claims/postgres. A line of standard input is a call: its number, the name, the store, and what it takes. A line of
+/// standard output is the answer: the number, and what it returns, or `fault NAME TEXT`.
+#[test]
+fn serves_calls() {
+    if std::env::var_os(CLIENT).is_none() {
+        return; // (nobody asks)
+    }
+    println!();
+    let stores = Arc::new(Mutex::new(HashMap::new()));
+    for line in std::io::stdin().lines() {
+        let (line, stores) = (line.expect("a line"), Arc::clone(&stores));
+        thread::spawn(move || {
+            let words: Vec<&str> = line.split(' ').collect();
+            let said = answer(&stores, words[1], words[2], &words[3..]);
+            println!("{} {}", words[0], said.unwrap_or_else(|why| format!("fault {}", told(&why, " "))));
+        });
+    }
+}
+
+fn told(why: &Fault, between: &str) -> String {
+    format!("{}{between}{}", why.name, hex(why.text.as_bytes()))
+}
+
+fn claim_of(word: &str) -> Claim {
+    let parts: Vec<&str> = word.split(':').collect();
+    let bytes = |it: &str| from_hex(it).try_into().expect("32 bytes");
+    Claim { key: TokenKey(bytes(parts[0])), owner: bytes(parts[1]), expires: parts[2].parse().expect("a time") }
+}
+
+type Stores = Mutex<HashMap<String, Arc<PostgresStore>>>;
+
+fn answer(stores: &Stores, name: &str, id: &str, words: &[&str]) -> Result<String, Fault> {
+    if name == "new" {
+        let number = |at: usize| words[at].parse::<i64>().expect("a number");
+        let terms = Terms { lasts: number(1), margin: number(2), back: number(3) };
+        let member = Shared::member(&words[5..], words[0], number(4) as u32, terms).map_err(Fault::server)?;
+        let shared = Shared { member, wait: LONG, margin: 0, warns: Arc::new(|_| ()), heard: Mutex::default() };
+        let store = PostgresStore::begin(shared, false).map_err(Fault::server)?;
+        stores.lock().unwrap().insert(id.to_owned(), Arc::new(store));
+        return Ok(String::new());
+    }
+    let store = Arc::clone(&stores.lock().unwrap()[id]);
+    let wait = words.first().map_or(LONG, |it| Duration::from_secs_f64(it.parse::<f64>().expect("a time").max(0.0)));
+    let words: Vec<String> = words.iter().skip(1).map(|&it| it.to_owned()).collect();
+    let sight = |is: Sight| format!("{} {} {}", is.epoch, is.deaf, is.time);
+    match name {
+        "open" => store.ask(wait, |shared, end| async move {
+            loop {
+                let is = shared.member.look(end).await?;
+                if is.pause.is_zero() {
+                    return Ok(sight(is));
+                }
+                if Instant::now() + is.pause > end {
+                    return Err(said::RUN.into());
+                }
+                tokio::time::sleep(is.pause).await;
+            }
+        }),
+        "state" => store.ask(wait, |shared, end| async move { shared.member.look(end).await.map(sight) }),
+        "put" => store.ask(wait, |shared, end| async move {
+            let claims: Vec<Claim> = words.iter().map(|it| claim_of(it)).collect();
+            let one = |it: &Result<Found, Fault>| match it {
+                Ok(it) => format!("{}:{}:{}", hex(&it.owner), it.time, it.deaf),
+                Err(why) => told(why, ":"),
+            };
+            Ok(shared.member.put(&claims, end).await.iter().map(one).collect::<Vec<_>>().join(" "))
+        }),
+        "withdraw" => store.ask(wait, |shared, end| async move {
+            let it = claim_of(&format!("{}:{}:{}", words[0], words[0], words[1]));
+            Ok(hex(&shared.member.withdraw(it.key, it.expires, end).await?))
+        }),
+        "withdrawals" => store.ask(wait, |shared, end| async move {
+            let after = String::from_utf8(from_hex(&words[0][1..])).expect("a text");
+            let (these, last) = shared.member.withdrawals(&after, end).await?;
+            Ok(these.iter().fold(last, |all, (key, expires)| format!("{all} {key}:{expires}")))
+        }),
+        _ => {
+            store.close();
+            Ok(String::new())
+        }
+    }
+}
+
+const LONG: Duration = Duration::from_secs(500);
+
+/// A server of PostgreSQL, which `kill`, `start`, `pause`, `resume` and SQL are told to.
+struct Machine {
+    run: Child,
+    said: BufReader<std::process::ChildStdout>,
+    url: String,
+    _program: Program,
+}
+
+impl Machine {
+    fn new() -> Machine {
+        let program = Program::new();
+        let mut words = program.command(&["-test.run", "^TestAServerOfAnotherLanguage$"]);
+        let piped = words.env("SVID_STORE_SERVER", "1").stdin(Stdio::piped()).stdout(Stdio::piped());
+        let mut run = piped.spawn().expect("it runs");
+        let said = BufReader::new(run.stdout.take().expect("a pipe"));
+        let mut made = Machine { run, said, url: String::new(), _program: program };
+        made.url = made.heard();
+        made
+    }
+
+    fn heard(&mut self) -> String {
+        let mut line = String::new();
+        self.said.read_line(&mut line).expect("it answers");
+        line.trim().to_owned()
+    }
+
+    fn tell(&mut self, what: &str) -> String {
+        writeln!(self.run.stdin.as_mut().expect("a pipe"), "{what}").expect("it hears");
+        self.heard()
+    }
+
+    /// Makes the store of a group.
+    fn group(&mut self, name: &str) {
+        assert_eq!(self.tell(&format!("schema {name}")), "done");
+    }
+
+    fn store(&self, options: &Options, group: &str) -> PostgresStore {
+        PostgresStore::open(options, &[&self.url], group, 1).expect("it begins")
+    }
+}
+
+impl Drop for Machine {
+    fn drop(&mut self) {
+        drop(self.run.stdin.take());
+        let _ = self.run.wait();
+    }
+}
+
+fn options() -> Options {
+    Options::new(["ledger"]).mode(Mode::Strict).wait(patience())
+}
+
+fn until(what: &str, mut holds: impl FnMut() -> bool) {
+    let begun = Instant::now();
+    while !holds() {
+        assert!(begun.elapsed() < patience(), "waited in vain for {what}");
+        thread::sleep(Duration::from_millis(5));
+    }
+}
+
+fn claim(n: u8) -> Claim {
+    Claim { key: TokenKey([n; 32]), owner: OWNER, expires: crate::now().expect("a clock") + 300 }
+}
+
+/// What a claim finds, once it is answered.
+fn put(store: &PostgresStore, n: u8) -> Found {
+    let mut found = None;
+    until("an answer", || {
+        found = store.put(&[claim(n)]).ok().map(|it| it[0]);
+        found.is_some()
+    });
+    found.expect("it was found")
+}
+
+#[test]
+fn one_guard_accepts_a_token() {
+    let mut machine = Machine::new();
+    machine.group("one");
+    let (issuer, [store, other]) = (Issuer::new("example.org"), [(); 2].map(|()| Arc::new(machine.store(&options(), "one"))));
+    let token = issuer.token("/web", "ledger");
+    let open =
+        |it: &Arc<PostgresStore>| Guard::open(&options().store(Arc::clone(it) as _), issuer.bundles(), OpenSsl::new()).expect("it opens");
+    let (first, second) = (open(&store), open(&other));
+    assert!(first.check(&token).is_ok());
+    assert_eq!(second.check(&token), Err(Error::Refused(Refusal::Replayed)));
+}
+
+#[test]
+fn a_withdrawal_wins_over_a_claim() {
+    let mut machine = Machine::new();
+    machine.group("withdrawn");
+    let (one, other) = (machine.store(&options(), "withdrawn"), machine.store(&options(), "withdrawn"));
+    assert_eq!((put(&one, 1).owner, put(&other, 1).owner), (OWNER, OWNER));
+    one.withdraw(claim(1).key, claim(1).expires).expect("it is there");
+    assert_eq!(put(&one, 1).owner, WITHDRAWN);
+    until("the withdrawal", || put(&other, 1).owner == WITHDRAWN);
+    one.withdraw(claim(2).key, claim(2).expires).expect("it is there");
+    assert_eq!(put(&other, 2).owner, WITHDRAWN);
+    let late = machine.store(&options(), "withdrawn"); // (it has read all before it answers)
+    assert_eq!((put(&late, 1).owner, put(&late, 3).owner), (WITHDRAWN, OWNER));
+    let (these, last) = other.withdrawals("").expect("it answers");
+    assert_eq!(these.iter().map(|it| it.0).collect::<Vec<_>>(), [claim(1).key, claim(2).key]);
+    assert_eq!(other.withdrawals(&last).expect("it answers"), (Vec::new(), last));
+    let over = put(&one, 4).time - 119;
+    one.withdraw(claim(5).key, over).expect("it is there");
+    until("the withdrawal to be forgotten", || !one.shared.heard().withdrawn.contains_key(&claim(5).key));
+}
+
+#[test]
+fn calls_end() {
+    let mut machine = Machine::new();
+    machine.group("ends");
+    let (soon, late) = (machine.store(&options().wait(Duration::from_millis(500)), "ends"), machine.store(&options(), "ends"));
+    put(&soon, 1);
+    put(&late, 1);
+    machine.tell("pause");
+    let calls: [&dyn Fn() -> bool; 4] = [
+        &|| soon.put(&[claim(2)]).is_err(),
+        &|| soon.put(&[]).is_err(),
+        &|| soon.withdraw(claim(3).key, claim(3).expires).is_err(),
+        &|| soon.withdrawals("").is_err(),
+    ];
+    for call in calls {
+        let begun = Instant::now();
+        assert!(call());
+        assert!(begun.elapsed() < Duration::from_secs(5)); // (a busy machine)
+    }
+    let why = thread::scope(|scope| {
+        let call = scope.spawn(|| late.put(&[claim(2)]).unwrap_err().to_string());
+        until("the call to be under way", || late.shared.member.is_calling());
+        late.close();
+        call.join().expect("it panics nowhere")
+    });
+    assert_eq!(why, said::CLOSED.1);
+    machine.tell("resume");
+    assert_eq!(late.put(&[claim(1)]).unwrap_err().to_string(), said::CLOSED.1);
+    assert_eq!(put(&soon, 2).owner, OWNER);
+}
+
+#[test]
+fn what_is_warned_of() {
+    let mut machine = Machine::new();
+    let told = Arc::new(Mutex::new(Vec::new()));
+    let hears = Arc::clone(&told);
+    let options = options().warns(move |what| hears.lock().unwrap().push(what.to_string()));
+    let count = |what: &str| told.lock().unwrap().iter().filter(|it: &&String| it.contains(what)).count();
+    let store = machine.store(&options, "later");
+    until("a warning", || count("svidd schema") > 0);
+    assert_eq!(store.put(&[]).unwrap_err().to_string(), said::MISSING.1);
+    machine.group("later");
+    put(&store, 1);
+    machine.tell("TRUNCATE later.claim");
+    until("the end of the epoch", || count("has ended") == 1);
+    let before = count("can't be looked at");
+    machine.tell("kill");
+    until("a warning", || count("can't be looked at") > before);
+    machine.tell("start");
+    assert!(put(&store, 1).deaf >= claim(1).expires);
+    assert_eq!(count("has ended"), 1);
+}
+
+#[test]
+fn terms_are_those_of_svidd() {
+    let mut machine = Machine::new();
+    machine.group("terms");
+    put(&machine.store(&options().longest(8000), "terms"), 1);
+    assert_eq!(machine.tell("DO $$ BEGIN ASSERT (SELECT lasts FROM terms.epoch) = 8020; END $$"), "done");
+    let why = machine.store(&options().ahead(61), "terms").put(&[]).unwrap_err().to_string();
+    assert!(why.contains("give all members the same clock tolerance"), "{why}");
+}
+
+#[test]
+fn nothing_of_a_store_stays() {
+    let mut machine = Machine::new();
+    machine.group("stays");
+    let urls = [machine.url.as_str(), &format!("{}&application_name=x", machine.url)];
+    for closes in [false, true] {
+        let store = PostgresStore::open(&options(), &urls, "stays", 1).expect("it begins");
+        put(&store, 1);
+        let shared = Arc::downgrade(&store.shared);
+        if closes {
+            store.close();
+            until("the thread to end", || Arc::strong_count(&store.shared) == 1);
+        }
+        drop(store);
+        until("the thread to end", || shared.upgrade().is_none());
+    }
+    let gone = "DO $$ BEGIN ASSERT (SELECT count(*) FROM pg_stat_activity WHERE backend_type = 'client backend') = 1; END $$";
+    until("the connections to end", || machine.tell(gone) == "done");
+}
+
+#[test]
+fn what_is_no_store() {
+    let long = "x".repeat(64);
+    let rows: [(&[&str], &str, u32); 9] = [
+        (&[], "svid", 1),
+        (&["redis://u:secret@h"], "svid", 1),
+        (&["postgres://u:secret@h1,h2/d"], "svid", 1),
+        (&["postgres://u:secret@h/d?no=secret"], "svid", 1),
+        (&["postgres://h/d?sslmode=secret"], "svid", 1),
+        (&["postgres://h/d"], "a\"b", 1),
+        (&["postgres://h/d"], "pg_x", 1),
+        (&["postgres://h/d"], &long, 1),
+        (&["postgres://h/d"], "svid", 0),
+    ];
+    for (servers, group, replicas) in rows {
+        let why = PostgresStore::open(&options(), servers, group, replicas).map(drop).unwrap_err().to_string();
+        assert!(!why.contains("secret"), "{why}");
+    }
+    assert!(PostgresStore::open(&options().any_life(), &["postgres://h/d"], "svid", 1).is_err());
+}
+
+#[test]
+fn what_a_server_says_is_one_short_line() {
+    assert_eq!(Fault::server("one\nother\x1b[2J").text, "one other [2J");
+    assert_eq!(Fault::server("x".repeat(5000)).text, "x".repeat(1024));
+}
+
+#[test]
+fn marks_are_the_last_ones_and_those_that_outlive_them() {
+    let mut marks = Vec::new();
+    let expiries = |marks: &[Claim]| marks.iter().map(|it| it.expires).collect::<Vec<_>>();
+    for expires in [500, 100, 400, 300, 300, 200, 250, 1, 2, 3] {
+        mark(&mut marks, Claim { expires, ..claim(1) });
+    }
+    assert_eq!(expiries(&marks), [500, 400, 300, 200, 250, 1, 2, 3]);
+    for n in 0..100 {
+        mark(&mut marks, Claim { expires: 400 - n, ..claim(1) });
+    }
+    assert_eq!((marks.len(), marks[0].expires, &expiries(&marks)[12..]), (16, 500, &[304, 303, 302, 301][..]));
+}
