@@ -2,13 +2,16 @@
 
 import os
 import shutil
+import socket
 import subprocess
 import tempfile
+import time
 from pathlib import Path
 
 import pytest
 
 TOP = Path(__file__).resolve().parent.parent
+PATIENCE = float(os.environ.get("SVID_TEST_PATIENCE") or 180)
 
 
 def pytest_addoption(parser):
@@ -39,6 +42,22 @@ def needs(command):
     """Skips the test where a command is not there."""
     if not shutil.which(command):
         pytest.skip(f"the command {command} is not there")
+
+
+def await_(is_so, what, seen=lambda: ""):
+    """Waits for a condition, and gives up after SVID_TEST_PATIENCE seconds."""
+    until = time.monotonic() + PATIENCE
+    while not is_so():
+        assert time.monotonic() < until, f"waited for {what}\n{seen()}"
+        time.sleep(0.05)
+
+
+def held_port():
+    """A socket with a port of its own. It does not listen, so the system gives the port to nobody else, and a server that names it may listen on it."""
+    held = socket.socket()
+    held.setsockopt(socket.SOL_SOCKET, socket.SO_REUSEADDR, 1)
+    held.bind(("127.0.0.1", 0))
+    return held
 
 
 @pytest.fixture(scope="session")

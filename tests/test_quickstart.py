@@ -12,7 +12,7 @@ import sys
 import time
 
 import pytest
-from conftest import TOP, needs
+from conftest import TOP, await_, needs
 
 README = TOP / "README.md"
 
@@ -86,14 +86,6 @@ def test_a_fresh_clone_accepts_a_token_of_ones_own_and_refuses_it_elsewhere(docs
         if terminal.poll() is None:
             os.killpg(terminal.pid, signal.SIGKILL)
             terminal.wait()
-
-
-def await_(is_so, what, seen):
-    """Waits for a condition, and gives up after SVID_TEST_PATIENCE seconds."""
-    until = time.monotonic() + float(os.environ.get("SVID_TEST_PATIENCE", 180))
-    while not is_so():
-        assert time.monotonic() < until, f"waited for {what}\n{seen()}"
-        time.sleep(0.05)
 
 
 def end(terminal, said):

@@ -58,7 +58,7 @@ def output(*words, **more):
 @pytest.fixture(scope="session")
 def releases(request, session):
     """Two releases: of this checkout, and of a copy elsewhere without .git, under another umask, time zone and language. The first one stays where
-    SVID_RELEASE names a folder for it, from which packaging/test takes the package. The other one is built beside the tests of the first one, and the
+    SVID_RELEASE names a folder for it, which tests/run services and packaging/test take. The other one is built beside the tests of the first one, and the
     last test awaits it."""
     for command in NEEDED.split():
         needs(command)
@@ -97,12 +97,14 @@ class Room:
 
     def __init__(self, folder, release):
         self.folder, self.release = folder, release
+        (folder / "tmp").mkdir(parents=True)
 
     def take(self, name):
         """An artifact, and nothing else of the release."""
         return shutil.copy(self.release / name, self.folder)
 
-    def run(self, *words, given="", **environment):
+    def inside(self, *words, offline=True, **environment):
+        """What subprocess is given for a command in it."""
         clean = {
             "PATH": "/usr/sbin:/usr/bin:/sbin:/bin:/usr/local/bin",
             "HOME": str(self.folder),
@@ -110,8 +112,12 @@ class Room:
             "LC_ALL": "C.UTF-8",
         }
         hidden = 'mount -t tmpfs none "$1" && ! [ -e "$1/VERSION" ] && shift && exec "$@"'
-        inside = ["unshare", "--mount", "--net", "sh", "-c", hidden, "-", TOP, *words]
-        return output(*inside, cwd=self.folder, env=clean | environment, stdin=None, input=given.encode())
+        words = ["unshare", "--mount", *(["--net"] if offline else []), "sh", "-c", hidden, "-", TOP, *words]
+        return words, {"cwd": self.folder, "env": clean | environment}
+
+    def run(self, *words, given="", **environment):
+        words, more = self.inside(*words, **environment)
+        return output(*words, **more, stdin=None, input=given.encode())
 
     def debian(self, arch):
         """A folder in which dpkg has installed the package."""
@@ -128,12 +134,10 @@ class Room:
 
 @pytest.fixture
 def room(release, tmp_path):
-    shutil.copy(TOP / "examples/token.txt", tmp_path)
-    shutil.copy(TOP / "examples/bundles.json", tmp_path)
-    bundles = json.loads((tmp_path / "bundles.json").read_text())
-    (tmp_path / "tmp").mkdir()
-    (tmp_path / "example.org.json").write_text(json.dumps(bundles["example.org"]))
-    return Room(tmp_path, release)
+    made = Room(tmp_path, release)
+    bundles = json.loads((TOP / "examples/bundles.json").read_text())
+    (made.folder / "example.org.json").write_text(json.dumps(bundles["example.org"]))
+    return made
 
 
 @pytest.fixture(scope="session")
@@ -599,34 +603,7 @@ def test_the_image(room, token, arch, kind):
     assert (root / "var/lib/svidd").stat().st_uid == (root / "run/svidd").stat().st_uid == 65532
 
 
-# The packages for languages
-
-PYTHON_SERVICE = """
-import sys, svid
-with svid.Validator(audiences="ledger", bundles=open("bundles.json", "rb").read(), longest=svid.UNLIMITED) as validator:
-    for _ in range(2):
-        try:
-            print("accepted", validator.check(sys.stdin.readline().strip()).spiffe_id)
-        except svid.Refused as why:
-            print(why.name)
-"""
-ACCEPTED = f"accepted {SPIFFE_ID}\nReplayed\n"
-
-
-def test_the_wheel(room, token):
-    wheel = room.take(f"svid-{VERSION}-py3-none-manylinux_2_5_x86_64.whl")
-    # (pip is Debian's: to put one into the environment would take longer than all that it does)
-    room.run("/usr/bin/python3", "-m", "venv", "--without-pip", "venv")
-    pip = ["/usr/bin/python3", "-m", "pip", "--python", "venv/bin/python"]
-    room.run(*pip, "install", "--quiet", "--no-index", "--no-deps", wheel)
-    [packages] = room.folder.glob("venv/lib/python3*/site-packages")
-    for pattern in "cryptography", "cryptography-*", "_cffi_backend*":
-        for it in Path("/usr/lib/python3/dist-packages").glob(pattern):
-            (packages / it.name).symlink_to(it)
-    assert room.run("venv/bin/python", "-I", "-c", PYTHON_SERVICE, given=token.strip() + "\n" + token) == ACCEPTED
-    assert "No broken requirements" in room.run(*pip, "check")
-    assert f"Version: {VERSION}\n" in room.run(*pip, "show", "svid")
-
+# The wheels (tests/test_services.py is about the packages for languages)
 
 LOADER = """
 #include <dlfcn.h>
@@ -700,165 +677,6 @@ def test_the_glibc_of_a_tag(tmp_path, source, flags, due):
     else:
         with pytest.raises(SystemExit, match=due):
             module.glibc(tmp_path / "one.so", "x86_64")
-
-
-RUST_SERVICE = """
-use svid::{Guard, OpenSsl, Options};
-
-fn main() -> Result<(), Box<dyn std::error::Error>> {
-    let options = Options::new(["ledger"]).any_life();
-    let guard = Guard::open(&options, std::fs::read("bundles.json")?, OpenSsl::new())?;
-    let token = std::fs::read_to_string("token.txt")?;
-    for _ in 0..2 {
-        match guard.check(token.trim()) {
-            Ok(accepted) => println!("accepted {}", accepted.spiffe_id()),
-            Err(why) => println!("{why}"),
-        }
-    }
-    Ok(())
-}
-"""
-CARGO_HOME = """
-[source.crates-io]
-replace-with = "debian"
-[source.debian]
-directory = "/usr/share/cargo/registry"
-"""
-
-
-def test_the_crate(room):
-    room.run("tar", "-xf", room.take(f"svid-{VERSION}.crate"))
-    for name, text in {
-        "cargo/config.toml": CARGO_HOME,
-        "src/main.rs": RUST_SERVICE,
-        "Cargo.toml": f'[package]\nname = "of_the_release"\nversion = "1.0.0"\nedition = "2021"\n[dependencies]\n'
-        f'svid = {{ path = "svid-{VERSION}", features = ["openssl"] }}\n',
-    }.items():
-        (room.folder / name).parent.mkdir(exist_ok=True)
-        (room.folder / name).write_text(text)
-    # (of the compiler that is used here, wherever that is)
-    tools = Path(output("rustc", "--print", "sysroot").strip()) / "bin"
-    cargo = {"CARGO_HOME": str(room.folder / "cargo"), "CARGO_PROFILE_DEV_DEBUG": "0", "PATH": f"{tools}:/usr/sbin:/usr/bin:/sbin:/bin"}
-    # (rust/test compiles the same crates of others there, and cargo has a lock)
-    if made := os.environ.get("SVID_RUST_TARGET"):
-        cargo["CARGO_TARGET_DIR"] = made
-    words = ": The token was accepted before, here or by a validator whose messages were taken."
-    assert room.run("cargo", "run", "--quiet", "--offline", **cargo) == ACCEPTED.replace("\nReplayed", f"\nReplayed{words}")
-
-
-NODE_SERVICE = """
-import { readFile } from "node:fs/promises";
-import { Refusal, Validator } from "svid";
-
-const validator = await Validator.open({ audiences: ["ledger"], bundles: await readFile("bundles.json"), longest: "unlimited" });
-const token = (await readFile("token.txt", "utf8")).trim();
-for (let n = 0; n < 2; n++) {
-  try {
-    console.log("accepted", (await validator.check(token)).spiffeId);
-  } catch (why) {
-    if (!(why instanceof Refusal)) throw why;
-    console.log(why.name);
-  }
-}
-"""
-
-
-def test_the_node_package(room):
-    archive = room.take(f"svid-{VERSION}.tgz")
-    (room.folder / "package.json").write_text('{ "name": "service", "private": true }\n')
-    room.run("npm", "install", "--silent", "--offline", "--no-audit", "--no-fund", "--no-update-notifier", "--cache", "cache", archive)
-    assert json.loads((room.folder / "node_modules/svid/package.json").read_text())["version"] == VERSION
-    (room.folder / "service.mjs").write_text(NODE_SERVICE)
-    assert room.run("node", "service.mjs") == ACCEPTED
-
-
-GO_SERVICE = """
-package main
-
-import (
-    "context"
-    "errors"
-    "fmt"
-    "os"
-    "strings"
-
-    "svid.example/go/v3/bundles"
-    "svid.example/go/v3/guard"
-    "svid.example/go/v3/svid"
-)
-
-func must(err error) {
-    if err != nil {
-        fmt.Println(err)
-        os.Exit(1)
-    }
-}
-
-func main() {
-    token, err := os.ReadFile("token.txt")
-    must(err)
-    keys := []bundles.Spec{{Domain: "example.org", Source: "example.org.json"}}
-    g, err := guard.Open(guard.Options{Audiences: []string{"ledger"}, Bundles: keys, State: "state", Longest: 3153600000})
-    must(err)
-    defer g.Close()
-    for n := 0; n < 2; n++ {
-        accepted, err := g.Check(context.Background(), strings.TrimSpace(string(token)))
-        if errors.Is(err, svid.Replayed) {
-            fmt.Println("Replayed")
-            continue
-        }
-        must(err)
-        fmt.Println("accepted", accepted.ID)
-    }
-}
-"""
-JAVA_SERVICE = """
-import java.nio.file.*;
-import svid.*;
-
-public class Service {
-    public static void main(String[] args) throws Exception {
-        String token = Files.readString(Path.of("token.txt")).trim();
-        try (Validator validator = Validator.open(Options.audiences("ledger").anyLife(), Files.readAllBytes(Path.of("bundles.json")))) {
-            for (int n = 0; n < 2; n++) {
-                try {
-                    System.out.println("accepted " + validator.check(token).spiffeId());
-                } catch (Refusal why) {
-                    System.out.println(why.reason());
-                }
-            }
-        }
-    }
-}
-"""
-
-if MODULE:
-
-    def test_the_go_module(room):
-        shutil.copytree(room.release / "go", room.folder / "proxy")
-        (room.folder / "main.go").write_text(GO_SERVICE)
-        # (Go's own library was compiled with these options before)
-        go = {
-            "GOPROXY": f"file://{room.folder}/proxy",
-            "GOPATH": str(room.folder / "gopath"),
-            "GOCACHE": output("go", "env", "GOCACHE").strip(),
-            "GONOSUMDB": "*",
-            "GOFLAGS": "-mod=mod -trimpath -modcacherw -gcflags=all=-dwarf=false -ldflags=-w",
-            "GOTOOLCHAIN": "local",
-        }
-        room.run("go", "mod", "init", "service", **go)
-        room.run("go", "get", f"svid.example/go/v3@v{VERSION}", **go)
-        room.run("go", "build", "-o", "service", **go)
-        assert room.run("./service") == ACCEPTED
-
-
-if JAR:
-
-    def test_the_jar(room):
-        path = f"{room.take(f'svid-{VERSION}.jar')}:/usr/share/java/jna.jar:/usr/share/java/gson.jar"
-        (room.folder / "Service.java").write_text(JAVA_SERVICE)
-        room.run("javac", "-cp", path, "Service.java")
-        assert room.run("java", "-cp", f"{path}:.", f"-Djava.io.tmpdir={room.folder}/tmp", "Service") == ACCEPTED
 
 
 # The whole once more (the last, since the other release is built until then)

@@ -11,7 +11,6 @@ import http.client
 import json
 import os
 import re
-import socket
 import struct
 import subprocess
 import time
@@ -24,7 +23,7 @@ from pathlib import Path
 
 import pytest
 import readers
-from conftest import TOP, needs
+from conftest import PATIENCE, TOP, held_port, needs
 
 six_tokens = pytest.importorskip("six_tokens", reason="the module cryptography is not there")
 from cryptography.exceptions import InvalidSignature, UnsupportedAlgorithm  # noqa: E402
@@ -40,7 +39,6 @@ TOGETHER = 1000
 # So many are at least asked of one process: to start it takes longer than to answer these.
 LEAST = 200
 # So many seconds anything may take that is waited for.
-PATIENCE = float(os.environ.get("SVID_TEST_PATIENCE") or 180)
 with open(TOP / "lists/refusals.toml", "rb") as file:
     NAMES = {it["number"]: it["name"] for it in tomllib.load(file)["refusal"]}
 
@@ -277,10 +275,7 @@ class Served:
     """A sidecar that judges each token for itself."""
 
     def __init__(self, svidd: Path, group: Group) -> None:
-        # (it does not listen, so the system gives the port to nobody else, and svidd may listen on it)
-        self.held = socket.socket()
-        self.held.setsockopt(socket.SOL_SOCKET, socket.SO_REUSEADDR, 1)
-        self.held.bind(("127.0.0.1", 0))
+        self.held = held_port()
         self.port = self.held.getsockname()[1]
         words = [
             svidd,

@@ -1,0 +1,27 @@
+"""A line of standard input is a token, and one of standard output what becomes of it: service.py once FOLDER, or service.py strict URL."""
+
+import sys
+
+import svid
+
+mode, where = sys.argv[1:]
+terms = {"audiences": "ledger", "bundles": "example.org.json", "mode": mode, "wait": 60}
+if mode == "once":
+    terms["state"] = where
+elif where.startswith("postgres"):
+    from svid.postgres import PostgresStore
+
+    terms["store"] = PostgresStore(where, wait=60)
+else:
+    from svid.redis import RedisStore
+
+    terms["store"] = RedisStore(where, wait=60)
+with svid.Validator(**terms) as validator:
+    for line in sys.stdin:
+        try:
+            print("accepted", validator.check(line.strip()).spiffe_id, flush=True)
+        except svid.Refused as why:
+            print(why.name, flush=True)
+        except svid.Unavailable as why:
+            print(why, file=sys.stderr)
+            print("unavailable", flush=True)
