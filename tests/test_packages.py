@@ -270,14 +270,14 @@ DEFAULTS = {
 
 @pytest.mark.parametrize("name", DEFAULTS)
 def test_a_default_is_the_same_in_all_packages(name):
-    due, places = DEFAULTS[name]
+    due, written = DEFAULTS[name]
     if due is None:
         number, unit = re.fullmatch(r"(\d+)([sm]?)", SVIDD[name]).groups()
         due = int(number) * UNITS.get(unit, 1)
     found = {}
-    for path, before in places.items():
+    for path, before in written.items():
         values = re.findall(before + r" *([\d_.]+)( \* time\.(?:Second|Minute))?", (TOP / path).read_text(), re.M)
         found[path] = [float(value.replace("_", "").rstrip(".")) * (60 if "Minute" in unit else 1) for value, unit in values]
-    assert found == {path: [due] for path in places}
+    assert found == {path: [due] for path in written}
     if name == "wait":
         assert f"long wait = {due}000;" in (TOP / "java/src/main/java/svid/Options.java").read_text()
