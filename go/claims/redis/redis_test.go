@@ -3,7 +3,6 @@ package redis
 import (
 	"context"
 	"os/exec"
-	"strings"
 	"testing"
 	"time"
 
@@ -58,9 +57,23 @@ func (s *machine) Store(t testing.TB, o claimstest.Options) claims.Store {
 	return newStore(t, Options{URLs: []string{url}, Name: o.Name, Terms: o.Terms, Replicas: s.replicas})
 }
 
-// newStore is a store that is not open yet.
-func newStore(t testing.TB, o Options) *Store {
+// newStore is a store that is not open yet: one of this package, or of a client of another language.
+func newStore(t testing.TB, o Options) claims.Store {
 	t.Helper()
+	o = usual(o)
+	if !claimstest.OfOthers() {
+		return newOwn(t, o)
+	}
+	store, err := newRemote(o)
+	if err != nil {
+		t.Fatal(err)
+	}
+	t.Cleanup(func() { store.Close() })
+	return store
+}
+
+// usual are the options of a test, where it has none.
+func usual(o Options) Options {
 	if o.Name == "" {
 		o.Name = "svid"
 	}
@@ -70,7 +83,13 @@ func newStore(t testing.TB, o Options) *Store {
 	if o.Wait == 0 {
 		o.Wait = compares
 	}
-	store, err := New(o)
+	return o
+}
+
+// newOwn is a store of this package that is not open yet.
+func newOwn(t testing.TB, o Options) *Store {
+	t.Helper()
+	store, err := New(usual(o))
 	if err != nil {
 		t.Fatal(err)
 	}
@@ -79,12 +98,23 @@ func newStore(t testing.TB, o Options) *Store {
 }
 
 // opened is a store that is open.
-func opened(t testing.TB, o Options) *Store {
+func opened(t testing.TB, o Options) claims.Store {
 	t.Helper()
 	store := newStore(t, o)
 	claimstest.Open(t, store)
 	return store
 }
+
+// openedOwn is one of this package.
+func openedOwn(t testing.TB, o Options) *Store {
+	t.Helper()
+	store := newOwn(t, o)
+	claimstest.Open(t, store)
+	return store
+}
+
+// keyOf is the key of an entry in a group of the usual name.
+func keyOf(c claims.Claim) string { return "svid:{svid}:" + string(c.Key[:]) }
 
 func (s *machine) Address() string   { return s.Redis.Address }
 func (s *machine) Kill(testing.TB)   { s.Redis.Kill() }
@@ -141,5 +171,3 @@ func limited(t testing.TB) context.Context {
 }
 
 func TestStore(t *testing.T) { claimstest.Run(t, start(t)) }
-
-var _ = strings.Contains
