@@ -222,7 +222,7 @@ DEFAULTS = {
         {
             "go/guard/guard.go": r"usualLongest +=",
             "python/svid/_validator.py": r"longest: Seconds =",
-            "python/svid/postgres.py": r"_DEFAULT_LONGEST =",
+            "python/svid/_group.py": r"DEFAULT_LONGEST =",
             "rust/svid/src/options.rs": r"USUAL_LONGEST: u64 =",
             "node/src/given.js": r"const HOUR =",
             "node/src/postgres.js": r"longest =",
@@ -235,7 +235,7 @@ DEFAULTS = {
         {
             "go/guard/guard.go": r"usualAhead +=",
             "python/svid/_validator.py": r"ahead: int =",
-            "python/svid/postgres.py": r"_DEFAULT_AHEAD =",
+            "python/svid/_group.py": r"DEFAULT_AHEAD =",
             "rust/svid/src/options.rs": r"^            ahead:",
             "node/src/validator.js": r"options\.ahead \?\?",
             "node/src/postgres.js": r"ahead =",
@@ -248,7 +248,7 @@ DEFAULTS = {
         {
             "go/guard/guard.go": r"usualWait +=",
             "python/svid/_validator.py": r"wait: float =",
-            "python/svid/postgres.py": r"_DEFAULT_WAIT =",
+            "python/svid/_group.py": r"DEFAULT_WAIT =",
             "rust/svid/src/options.rs": r"wait: Duration::from_secs\(",
             "node/src/given.js": r"waitOf\(given =",
             "node/src/postgres.js": r"wait =",
