@@ -7,7 +7,7 @@ use std::time::Duration;
 
 use svid::{Error, Guard, Journal, Mode, OpenSsl, Options, PostgresStore, Sources};
 
-fn main() -> Result<(), Box<dyn std::error::Error>> {
+fn main() -> Result<(), Box<dyn std::error::Error + Send + Sync>> {
     let (mode, place) = (args().nth(1).unwrap_or_default(), args().nth(2).unwrap_or_default());
     let options = Options::new(["ledger"]).wait(Duration::from_secs(60));
     let sources = Sources::new().file("example.org", "example.org.json");
