@@ -206,7 +206,7 @@ USUAL = [
     ("svid candidates --bundles spire.json --trust-domain Example.org <token_later", faults("bundles: Domain(0)")),
     ("svid candidates --bundles spire.json --trust-domain '' <token_later", faults("bundles: Domain(0)")),
     (r"svid candidates --bundles spire.json --trust-domain $'\xff' <token_later", faults("bundles: Domain(0)")),
-    ("svid candidates --bundles spire.json <token_later", faults("bundles: Keys(0)")),
+    ("svid candidates --bundles spire.json <token_later", faults("bundles: Unnamed")),
     ("svid candidates --bundles bundles.json --trust-domain example.org <token_later", faults("bundles: Keys(0)")),
     ("svid candidates --bundles two-uses.batch --trust-domain example.org <token_later", faults("bundles: NotObject")),
     ("svid candidates --bundles none --trust-domain example.org <token_later", stops("cannot open none")),
@@ -224,7 +224,7 @@ CHECKS = [
     (f"{CHECK} Ledger <token.txt", refuses("refused NotAudience\n")),
     (f"{SPIRE} --trust-domain example.org ledger <token.txt", prints(ACCEPTED)),
     (f"{SPIRE} --trust-domain example.com ledger <token.txt", refuses("refused UnknownDomain\n")),
-    (f"{SPIRE} ledger <token.txt", faults("bundles: Keys(0)")),
+    (f"{SPIRE} ledger <token.txt", faults("bundles: Unnamed")),
     (
         f"{SPIRE} --trust-domain example.org/ --out kept ledger <token.txt; [ ! -e kept ]",
         prints("")[:1] + ("", "svid: bundles: Domain(0)\n"),

@@ -222,7 +222,7 @@ DEFAULTS = {
         {
             "go/guard/guard.go": r"usualLongest +=",
             "python/svid/_validator.py": r"longest: Seconds =",
-            "python/svid/postgres.py": r"_DEFAULT_LONGEST =",
+            "python/svid/_group.py": r"DEFAULT_LONGEST =",
             "rust/svid/src/options.rs": r"USUAL_LONGEST: u64 =",
             "node/src/given.js": r"const HOUR =",
             "node/src/postgres.js": r"longest =",
@@ -235,7 +235,7 @@ DEFAULTS = {
         {
             "go/guard/guard.go": r"usualAhead +=",
             "python/svid/_validator.py": r"ahead: int =",
-            "python/svid/postgres.py": r"_DEFAULT_AHEAD =",
+            "python/svid/_group.py": r"DEFAULT_AHEAD =",
             "rust/svid/src/options.rs": r"^            ahead:",
             "node/src/validator.js": r"options\.ahead \?\?",
             "node/src/postgres.js": r"ahead =",
@@ -248,7 +248,7 @@ DEFAULTS = {
         {
             "go/guard/guard.go": r"usualWait +=",
             "python/svid/_validator.py": r"wait: float =",
-            "python/svid/postgres.py": r"_DEFAULT_WAIT =",
+            "python/svid/_group.py": r"DEFAULT_WAIT =",
             "rust/svid/src/options.rs": r"wait: Duration::from_secs\(",
             "node/src/given.js": r"waitOf\(given =",
             "node/src/postgres.js": r"wait =",
@@ -270,14 +270,14 @@ DEFAULTS = {
 
 @pytest.mark.parametrize("name", DEFAULTS)
 def test_a_default_is_the_same_in_all_packages(name):
-    due, places = DEFAULTS[name]
+    due, written = DEFAULTS[name]
     if due is None:
         number, unit = re.fullmatch(r"(\d+)([sm]?)", SVIDD[name]).groups()
         due = int(number) * UNITS.get(unit, 1)
     found = {}
-    for path, before in places.items():
+    for path, before in written.items():
         values = re.findall(before + r" *([\d_.]+)( \* time\.(?:Second|Minute))?", (TOP / path).read_text(), re.M)
         found[path] = [float(value.replace("_", "").rstrip(".")) * (60 if "Minute" in unit else 1) for value, unit in values]
-    assert found == {path: [due] for path in places}
+    assert found == {path: [due] for path in written}
     if name == "wait":
         assert f"long wait = {due}000;" in (TOP / "java/src/main/java/svid/Options.java").read_text()

@@ -8,66 +8,48 @@ from __future__ import annotations
 
 import contextlib
 import functools
-import logging
-import math
 import os
 import re
 import select
-import socket
 import struct
 import threading
 import time
-import weakref
 from collections.abc import Callable, Iterator, Sequence
 from typing import Any, NamedTuple, Union
 
 import psycopg
 from psycopg import conninfo, pq
 
-from . import _library as lib
 from . import _statements as said
-from .errors import Error, Forked
+from ._group import (
+    CELL,
+    DEFAULT_AHEAD,
+    DEFAULT_LONGEST,
+    DEFAULT_WAIT,
+    Answer,
+    End,
+    GroupStore,
+    State,
+    StoreFault,
+    brief,
+    found_of,
+    terms_of,
+    warn_of_end,
+    withdrawals_of,
+)
 from .stores import WITHDRAWN, Claim, Found
 
-_LOG = logging.getLogger("svid")
+__all__ = ["PostgresStore", "State", "StoreFault"]
+
 _HEAD = struct.Struct(">Bqq16s")
-_CELL = 33
-_WITHDRAWAL = struct.Struct(">32sQ")
 _INTEGERS = (20, 21, 23)
 _BYTES = 17
 _BINARY = pq.Format.BINARY
-_LONGEST_ERROR = 1024
 _NAME = re.compile(r"(?!pg_)[A-Za-z0-9_-]{1,63}")
-_DEFAULT_LONGEST = 3600
-_DEFAULT_AHEAD = 30
-_DEFAULT_WAIT = 2.0
 _Value = Union[bytes, str, int, None]
 
 
-class StoreFault(Error):
-    """The store has no answer. Nobody knows what it has: the same call may be made again.
-
-    `name` says why: "missing" (there is no store), "rights", "unfit" (the server may lose entries,
-    or the members don't agree), "epoch", "late" (the token expires too late), "silent", ..
-    """
-
-    def __init__(self, name: str, more: str = "") -> None:
-        super().__init__(said.FAULTS.get(name, "") + more)
-        self.name = name
-
-
-class State(NamedTuple):
-    """What a store is at the moment."""
-
-    epoch: str
-    """Names one history of the store in which nothing was lost."""
-    deaf: int
-    """As in `Found`."""
-    time: int
-    """The store's time in seconds since 1970."""
-
-
-class PostgresStore:
+class PostgresStore(GroupStore):
     """The store of a group in PostgreSQL. An administrator makes it by what `svidd schema` prints.
 
     It looks at the store once a second, by a thread of its own, until `close`. It is for any number
@@ -78,10 +60,10 @@ class PostgresStore:
         self,
         *servers: str,
         group: str = "svid",
-        longest: int = _DEFAULT_LONGEST,
-        ahead: int = _DEFAULT_AHEAD,
+        longest: int = DEFAULT_LONGEST,
+        ahead: int = DEFAULT_AHEAD,
         replicas: int = 1,
-        wait: float = _DEFAULT_WAIT,
+        wait: float = DEFAULT_WAIT,
     ) -> None:
         """Connects in the background.
 
@@ -99,14 +81,8 @@ class PostgresStore:
             raise ValueError(
                 "group: letters, digits, - and _ alone, at most 63, and not pg_ in front"
             )
-        if not servers or replicas < 1 or not 0 < wait < math.inf:
-            raise ValueError("give a server, at least 1 of replicas, and a wait of some seconds")
-        lasts = lib.quick.svid_claim_until(longest, 2 * ahead)
-        margin = max(ahead, said.LEAST_MARGIN // 1000)
-        self._begin(servers, group, replicas, wait, (lasts, margin, said.STEP_BACK // 1000))
-        threading.Thread(
-            target=_watch, args=(weakref.ref(self), self._end), name="svid-store", daemon=True
-        ).start()
+        self._begin(servers, group, replicas, wait, terms_of(longest, ahead))
+        self._watch()
 
     def _begin(
         self,
@@ -116,33 +92,19 @@ class PostgresStore:
         wait: float,
         terms: tuple[int, int, int],
     ) -> None:
-        """Begins without a thread. terms: lasts, the margin for members' clocks, and back."""
-        self._lasts, margin, self._back = terms
-        self._margin = margin + self._back
+        """Begins without a thread."""
+        self._begin_group(servers, replicas, wait, terms)
         self._statements = {
             name: text.replace("{S}", f'"{group}"') for name, text in said.STATEMENTS.items()
         }
-        self._group, self._replicas, self._wait = group, replicas, wait
-        self._process = os.getpid()
-        self._end = _End()
+        self._group = group
         self._servers = _Servers(servers, self._statements["role"], self._end)
-        self._turn = threading.Lock()  # who looks at the store has it
         self._calls = threading.BoundedSemaphore(said.MOST_CALLS)
-        self._lock = threading.Lock()  # guards what follows
+        # (_lock guards what follows)
         self._idle: list[_Connection] = []
         self._left: list[str] = []  # sessions that may do yet what was given up
-        self._epoch: str | None = None
         self._unfit: StoreFault | None = None  # why nothing is accepted
         self._marks: list[Claim] = []
-        self._position = ""  # up to which withdrawals are read
-        self._heard = False  # they were read to the end once
-        self._withdrawn: dict[bytes, int] = {}
-
-    def __enter__(self) -> PostgresStore:
-        return self
-
-    def __exit__(self, *_: object) -> None:
-        self.close()
 
     def close(self) -> None:
         """Ends all connections, and the calls that are under way."""
@@ -152,48 +114,6 @@ class PostgresStore:
                 idle, self._idle = self._idle, []
             for it in idle:
                 it.close()
-
-    def put(self, claims: Sequence[Claim]) -> list[Found]:
-        """Is that of `Store`. Raises StoreFault, for all claims of a call where one has no answer.
-
-        A token that was withdrawn after it was claimed has the owner WITHDRAWN within a second.
-        """
-        end = self._until()
-        if self._epoch is None or not self._heard or not claims:
-            if self._look(end)[1]:
-                raise StoreFault("run")
-            self._hear(end)
-        all = self._put_each(claims, end)
-        for it in all:
-            if isinstance(it, StoreFault):
-                raise it
-        with self._lock:
-            return [
-                it._replace(owner=WITHDRAWN) if claim.key in self._withdrawn else it
-                for claim, it in zip(claims, all)
-                if isinstance(it, Found)
-            ]
-
-    def withdraw(self, key: bytes, expires: int) -> None:
-        """Is that of `Store`. Raises StoreFault."""
-        self._withdraw(key, expires, self._until())
-        with self._lock:
-            self._withdrawn[key] = max(expires, self._withdrawn.get(key, 0))
-
-    def withdrawals(self, after: str = "") -> tuple[list[tuple[bytes, int]], str]:
-        """The keys that were withdrawn after a position, and when their tokens expire.
-
-        Returns some of them, and the position up to which they are read. Ask again until it stays.
-        The first position is "". Raises StoreFault.
-        """
-        return self._withdrawals(after, self._until())
-
-    def state(self) -> State:
-        """Looks at the store, and says what it is. Raises StoreFault."""
-        return self._look(self._until())[0]
-
-    def _until(self) -> float:
-        return time.monotonic() + self._wait
 
     def _look(self, end: float) -> tuple[State, int]:
         """Looks at the store, one thread at a time, and removes what is over.
@@ -230,11 +150,7 @@ class PostgresStore:
             if self._epoch != is_now:
                 ended, self._epoch, self._marks = self._epoch, is_now, []
                 if ended is not None:
-                    _warn(
-                        "the epoch of the group's store has ended: tokens that expire by %d "
-                        "may have been claimed before",
-                        deaf,
-                    )
+                    warn_of_end(deaf)
             kept = (it for it in self._marks if it.expires + margin >= moment)
             self._marks = list(kept)
         if lasts < self._lasts:
@@ -252,26 +168,6 @@ class PostgresStore:
                 with self._lock:
                     self._left = left + self._left
                 raise
-
-    def _hear(self, end: float) -> None:
-        """Reads the withdrawals that have come."""
-        while True:
-            these, last = self._withdrawals(self._position, end)
-            with self._lock:
-                self._withdrawn.update(these)
-                done, self._position = self._position == last, last
-            if done:
-                self._heard = True
-                return
-
-    def _forget(self, moment: int) -> None:
-        """Forgets withdrawals that are over."""
-        with self._lock:
-            over = [
-                it for it, expires in self._withdrawn.items() if expires + self._margin < moment
-            ]
-            for it in over:
-                del self._withdrawn[it]
 
     def _put_each(self, claims: Sequence[Claim], end: float) -> list[Found | StoreFault]:
         """Puts claims. Each has an answer of its own, or why it has none."""
@@ -291,7 +187,7 @@ class PostgresStore:
                     *self._put_each(claims[half:], end),
                 ]
             return [why] * len(claims)
-        found = [_found(answer, claim, n) for n, claim in enumerate(claims)]
+        found = [found_of(answer, claim, n) for n, claim in enumerate(claims)]
         mine = [it for it, is_ in zip(claims, found) if getattr(is_, "owner", None) == it.owner]
         self._keep(mine, answer.epoch)
         return found
@@ -300,7 +196,7 @@ class PostgresStore:
         """Withdraws a token, and returns whose claim is there: WITHDRAWN if none."""
         one = Claim(key, WITHDRAWN, expires)
         answer = self._decide("withdraw", [key, _expiry(expires)], 1, end)
-        found = _found(answer, one, 0)
+        found = found_of(answer, one, 0)
         if isinstance(found, StoreFault):
             raise found
         if found.owner == WITHDRAWN:
@@ -309,9 +205,7 @@ class PostgresStore:
 
     def _withdrawals(self, after: str, end: float) -> tuple[list[tuple[bytes, int]], str]:
         ((last, these),) = self._call("withdrawals", [after.replace("\0", " ")], end)
-        if len(these) % _WITHDRAWAL.size:
-            raise StoreFault("answer")
-        return [(key, expires) for key, expires in _WITHDRAWAL.iter_unpack(these)], last
+        return withdrawals_of(these), last
 
     def _keep(self, mine: list[Claim], epoch: str) -> None:
         """Keeps the claim in mind that lives longest: each look asks whether it is there."""
@@ -322,7 +216,7 @@ class PostgresStore:
             if self._epoch == epoch:
                 self._marks = _marked(self._marks, one)
 
-    def _decide(self, name: str, values: list[_Value], count: int, end: float) -> _Answer:
+    def _decide(self, name: str, values: list[_Value], count: int, end: float) -> Answer:
         """Calls a function that answers as put does for so many claims.
 
         Where the answer does not count, looks at the store, so that the next one may.
@@ -385,7 +279,7 @@ class PostgresStore:
                     self._left.append(one.session)
             self._give(one, keep=False)
             if isinstance(why, psycopg.Error):
-                raise StoreFault("server", _brief(str(why))) from why
+                raise StoreFault("server", brief(str(why))) from why
             raise
         self._give(one, keep=True)
 
@@ -414,7 +308,7 @@ class PostgresStore:
                 raise
             return one
         except (psycopg.Error, _Answered) as why:
-            raise StoreFault("server", f"address {at.number}: {_brief(str(why))}") from why
+            raise StoreFault("server", f"address {at.number}: {brief(str(why))}") from why
 
     def _give(self, one: _Connection, keep: bool) -> None:
         ended = [] if keep else [one]
@@ -436,69 +330,16 @@ class PostgresStore:
             return f": {found}" if found else ""
         return ""
 
-    def _same_process(self) -> None:
-        if self._process != os.getpid():
-            raise Forked
-        if self._end.is_said:
-            raise StoreFault("closed")
 
-
-def _watch(of: weakref.ref[PostgresStore], end: _End) -> None:
-    """Looks at a store once a second until it is closed or dropped."""
-    why = ""
-    while True:
-        store = of()
-        if store is None or end.is_said:
-            end.say()
-            return
-        begun = time.monotonic()
-        try:
-            state, _ = store._look(begun + said.STATE_WAIT / 1000)
-            store._hear(time.monotonic() + said.HEAR_WAIT / 1000)
-            store._forget(state.time)
-            why = ""
-        except Exception as now:
-            if not why and not end.is_said:
-                _warn("the group's store can't be looked at: %s", now)
-            why = str(now) or "unknown"
-        del store
-        end.wait(max(0.0, begun + said.STATE_EVERY / 1000 - time.monotonic()))
-
-
-def _warn(text: str, *words: object) -> None:
-    with contextlib.suppress(Exception):  # (who is warned must not end a call)
-        _LOG.warning(text, *words)
-
-
-class _Answer(NamedTuple):
-    """What a call like put answers."""
-
-    status: int
-    time: int
-    deaf: int
-    epoch: str
-    cells: bytes
-
-
-def _answered(rows: list[list[Any]], count: int) -> _Answer:
+def _answered(rows: list[list[Any]], count: int) -> Answer:
     """Reads an answer for so many claims."""
     answer = rows[0][0] if len(rows) == 1 and len(rows[0]) == 1 else None
-    if not isinstance(answer, bytes) or len(answer) not in (_HEAD.size, _HEAD.size + count * _CELL):
+    if not isinstance(answer, bytes) or len(answer) not in (_HEAD.size, _HEAD.size + count * CELL):
         raise StoreFault("answer")
     status, moment, deaf, epoch = _HEAD.unpack_from(answer)
     digits = epoch.hex()
     name = "-".join((digits[:8], digits[8:12], digits[12:16], digits[16:20], digits[20:]))
-    return _Answer(status, moment, deaf, name, answer[_HEAD.size :])
-
-
-def _found(answer: _Answer, claim: Claim, n: int) -> Found | StoreFault:
-    """What is answered to one of the claims."""
-    if not answer.cells:  # (each is there by this call)
-        return Found(claim.owner, answer.time, answer.deaf)
-    cell = answer.cells[n * _CELL : (n + 1) * _CELL]
-    if cell[0] == 1:
-        return Found(cell[1:], answer.time, answer.deaf)
-    return StoreFault(said.OF_CELL.get(cell[0], "answer"))
+    return Answer(status, moment, deaf, name, answer[_HEAD.size :])
 
 
 def _marked(marks: list[Claim], one: Claim) -> list[Claim]:
@@ -531,41 +372,12 @@ def _arrays(claims: Sequence[Claim]) -> list[_Value]:
     return [f"{{{keys}}}", f"{{{owners}}}", f"{{{ends}}}"]
 
 
-def _brief(text: str) -> str:
-    """What a server says, cut."""
-    text = text.strip()
-    return (
-        text
-        if len(text) <= _LONGEST_ERROR
-        else f"{text[:_LONGEST_ERROR]}.. ({len(text)} characters)"
-    )
-
-
 class _Answered(Exception):
     """The server answered an error."""
 
     def __init__(self, code: str, message: str) -> None:
-        super().__init__(_brief(message))
+        super().__init__(brief(message))
         self.code = code
-
-
-class _End:
-    """The end of a store, which ends all waiting."""
-
-    def __init__(self) -> None:
-        self._heard, self._said = socket.socketpair()
-        self.is_said = False
-
-    def fileno(self) -> int:
-        return self._heard.fileno()
-
-    def say(self) -> None:
-        self.is_said = True
-        self._said.close()
-
-    def wait(self, seconds: float) -> None:
-        """Waits for so long, or until the end."""
-        select.select([self._heard], [], [], seconds)
 
 
 class _Connection:
@@ -573,7 +385,7 @@ class _Connection:
 
     session = ""
 
-    def __init__(self, at: _Server, ends: _End, end: float) -> None:
+    def __init__(self, at: _Server, ends: End, end: float) -> None:
         """Connects until a moment. Raises psycopg.Error and StoreFault."""
         self.at = at
         self._ends = ends
@@ -607,7 +419,7 @@ class _Connection:
         send = self._pg.send_query_prepared
         result = self._run(lambda: send(name, lent, formats, _BINARY), end)
         if self._warned:  # (a commit that did not wait for standbys is no error for the server)
-            raise StoreFault("server", f"the server warns: {_brief(self._warned[0])}")
+            raise StoreFault("server", f"the server warns: {brief(self._warned[0])}")
         columns = range(result.nfields)
         return [[_read(result, row, it) for it in columns] for row in range(result.ntuples)]
 
@@ -706,7 +518,7 @@ class _Server:
         return conninfo.make_conninfo(**words).encode()
 
 
-def _reach(at: _Server, ask: str, ends: _End, end: float) -> tuple[_Connection, _Role]:
+def _reach(at: _Server, ask: str, ends: End, end: float) -> tuple[_Connection, _Role]:
     """Connects to a server, and asks what it is."""
     one = _Connection(at, ends, end)
     try:
@@ -727,7 +539,7 @@ class _Servers:
     So a member does not go on with a primary whose place another server has taken.
     """
 
-    def __init__(self, urls: Sequence[str], role: str, ends: _End) -> None:
+    def __init__(self, urls: Sequence[str], role: str, ends: End) -> None:
         self.all = [_Server(n, url) for n, url in enumerate(urls, 1)]
         self.role = role
         self._ends = ends
@@ -817,7 +629,7 @@ class _Servers:
             else:
                 role = _role(one, self.role, end)
         except Exception as why:
-            fault, role = _brief(str(why)), None
+            fault, role = brief(str(why)), None
             if one:
                 one.close()
             one, begun = None, time.monotonic()  # (it answered nobody until now)

@@ -1,4 +1,6 @@
-"""Makes calls of PostgresStore for the tests of go/claims/postgres, which run over each client.
+"""Makes calls of a store for the tests of go/claims, which run over each client.
+
+Its argument is the store's server: postgres or redis.
 
 A line of standard input is a call: its number, the store, the name, and what it takes. A line of
 standard output is the answer: the number, and what it returns, or `fault NAME TEXT`.
@@ -8,8 +10,14 @@ import sys
 import threading
 import time
 
-from svid.postgres import PostgresStore, StoreFault
 from svid.stores import Claim
+
+if sys.argv[1] == "redis":
+    from svid.redis import RedisStore as Kept
+    from svid.redis import StoreFault
+else:
+    from svid.postgres import PostgresStore as Kept
+    from svid.postgres import StoreFault
 
 stores = {}
 writing = threading.Lock()
@@ -26,9 +34,12 @@ def words_of(fault):
 
 def new(group, lasts, margin, back, replicas, *servers):
     """A store without a thread of its own: the tests say when it looks."""
-    store = PostgresStore.__new__(PostgresStore)
+    store = Kept.__new__(Kept)
     terms = int(lasts), int(margin) - int(back), int(back)
-    store._begin(servers, group, int(replicas), 2.0, terms)
+    more = []
+    if sys.argv[1] == "redis":  # (for how long members compare stands before the servers)
+        more, servers = [int(servers[0])], servers[1:]
+    store._begin(servers, group, int(replicas), 2.0, terms, *more)
     return store
 
 

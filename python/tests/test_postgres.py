@@ -123,7 +123,7 @@ def test_store(binary, name):
     ran = subprocess.run(
         [binary, "-test.v", "-test.timeout", "50m", "-test.run", f"^({TESTS[name]})$"],
         cwd=TOP / "go/claims/postgres",
-        env={**OPEN, "SVID_STORE_CLIENT": f"{sys.executable} {CLIENT}"},
+        env={**OPEN, "SVID_STORE_CLIENT": f"{sys.executable} {CLIENT} postgres"},
         capture_output=True,
         text=True,
     )

@@ -99,7 +99,7 @@ func newStore(t testing.TB, o Options) claims.Store {
 		o.Terms = claimstest.Usual
 	}
 	make := func(o Options) (claims.Store, error) { return New(o) }
-	if ofOthers() {
+	if claimstest.OfOthers() {
 		make = newRemote
 	}
 	store, err := make(o)

@@ -44,7 +44,7 @@ func TestRights(t *testing.T) {
 	s := start(t)
 	s.do(t, `CREATE ROLE "the member" LOGIN PASSWORD 'secret'`)
 	o := Options{URLs: []string{s.as("the member", "secret")}, Name: "svid"}
-	if !ofOthers() { // (those make no store)
+	if !claimstest.OfOthers() { // (those make no store)
 		if err := refused(t, o); !strings.Contains(err.Error(), "svidd schema") || !strings.Contains(err.Error(), "CREATE ON DATABASE") || strings.Contains(err.Error(), "secret") {
 			t.Errorf("%v", err)
 		}
@@ -180,7 +180,7 @@ func TestAPartOfAStore(t *testing.T) {
 	t.Parallel()
 	s := start(t)
 	s.do(t, "CREATE SCHEMA svid; CREATE TABLE svid.claim (x int)")
-	if !ofOthers() { // (those make no store)
+	if !claimstest.OfOthers() { // (those make no store)
 		if err := refused(t, Options{URLs: []string{s.URL}, Name: "svid"}); !strings.Contains(err.Error(), `DROP SCHEMA "svid" CASCADE`) {
 			t.Errorf("%v", err)
 		}

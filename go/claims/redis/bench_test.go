@@ -34,7 +34,7 @@ func BenchmarkPut(b *testing.B) {
 	ctx := context.Background()
 	for _, each := range []int{1, 16} {
 		for _, goroutines := range []int{1, 8} {
-			store := opened(b, Options{URLs: []string{s.URL}, Name: fmt.Sprint("bench-", each, "-", goroutines)})
+			store := openedOwn(b, Options{URLs: []string{s.URL}, Name: fmt.Sprint("bench-", each, "-", goroutines)})
 			measure := func(name string, call func(these []claims.Claim, found []claims.Found) error) {
 				b.Run(fmt.Sprintf("%s/%d/by%d", name, each, goroutines), func(b *testing.B) {
 					runtime.GC()
@@ -100,7 +100,7 @@ func BenchmarkPut(b *testing.B) {
 // BenchmarkMemory measures what an entry takes of the server's memory.
 func BenchmarkMemory(b *testing.B) {
 	s := start(b, "--appendfsync", "always")
-	store := opened(b, Options{URLs: []string{s.URL}})
+	store := openedOwn(b, Options{URLs: []string{s.URL}})
 	used := func() float64 {
 		c, err := store.servers[0].dial(context.Background())
 		if err != nil {

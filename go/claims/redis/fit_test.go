@@ -61,6 +61,10 @@ func TestASettingThatIsChanged(t *testing.T) {
 	before := claimstest.State(t, a)
 	put(t, a, 1)
 	look := func() {
+		a, is := a.(*Store)
+		if !is { // (others look each time)
+			return
+		}
 		a.mu.Lock()
 		defer a.mu.Unlock()
 		for run, is := range a.checked {
@@ -117,9 +121,11 @@ func TestTheFirstRewrite(t *testing.T) {
 	put(t, a, 1)
 	end()
 	s.do(t, "CONFIG", "SET", "appendonly", "no")
-	a.mu.Lock()
-	a.checked = make(map[string]checked)
-	a.mu.Unlock()
+	if a, is := a.(*Store); is {
+		a.mu.Lock()
+		a.checked = make(map[string]checked)
+		a.mu.Unlock()
+	}
 	var unfit *claims.Unfit
 	if _, err := a.State(limited(t)); !errors.As(err, &unfit) {
 		t.Error(err)
@@ -341,6 +347,9 @@ func TestPasswords(t *testing.T) {
 		"file":        {s.URL + "?password_file=" + file, "", true},
 		"environment": {s.URL, "sesame", true},
 	} {
+		if claimstest.OfOthers() && row.variable != "" {
+			continue // (it has an environment of its own)
+		}
 		t.Run(name, func(t *testing.T) {
 			t.Setenv(passwordVariable, row.variable)
 			wait := patience.Long

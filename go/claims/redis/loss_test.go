@@ -22,7 +22,7 @@ import (
 )
 
 // ended looks that the epoch ended for all members, and for one that starts now: all have the same one, and it is deaf.
-func ended(t *testing.T, before claims.State, late *Store, members ...*Store) {
+func ended(t *testing.T, before claims.State, late claims.Store, members ...claims.Store) {
 	t.Helper()
 	is := claimstest.Open(t, late)
 	if is.Epoch == before.Epoch || is.Deaf < before.Time+claimstest.Usual.Lasts {
@@ -43,7 +43,7 @@ func ended(t *testing.T, before claims.State, late *Store, members ...*Store) {
 }
 
 // stays looks that the epoch is the same, for all members and for one that starts now.
-func stays(t *testing.T, before claims.State, members ...*Store) {
+func stays(t *testing.T, before claims.State, members ...claims.Store) {
 	t.Helper()
 	for _, m := range members {
 		if is := claimstest.State(t, m); is.Epoch != before.Epoch || is.Deaf != before.Deaf {
@@ -53,7 +53,7 @@ func stays(t *testing.T, before claims.State, members ...*Store) {
 }
 
 // refused looks that a claim that another member won before is not accepted.
-func refused(t *testing.T, m *Store, c claims.Claim) {
+func refused(t *testing.T, m claims.Store, c claims.Claim) {
 	t.Helper()
 	c.Owner = claimstest.Own(1000)
 	if f := claimstest.Put(t, m, c)[0]; claimstest.Judge(c, f, 60) == claimstest.Mine {
@@ -61,7 +61,7 @@ func refused(t *testing.T, m *Store, c claims.Claim) {
 	}
 }
 
-func put(t *testing.T, m *Store, n int) claims.Claim {
+func put(t *testing.T, m claims.Store, n int) claims.Claim {
 	t.Helper()
 	c := claim(n)
 	if f := claimstest.Put(t, m, c)[0]; claimstest.Judge(c, f, 60) != claimstest.Mine {
@@ -77,14 +77,14 @@ func TestAnEntryThatIsRemovedByHand(t *testing.T) {
 	a, b := opened(t, Options{URLs: []string{s.URL}}), opened(t, Options{URLs: []string{s.URL}})
 	before := claimstest.State(t, a)
 	first, last := put(t, a, 1), put(t, a, 1)
-	s.do(t, "DEL", a.shards[0].key(&first))
+	s.do(t, "DEL", keyOf(first))
 	again := first
 	again.Owner = claimstest.Own(2)
 	if f := claimstest.Put(t, b, again)[0]; claimstest.Judge(again, f, 60) != claimstest.Mine {
 		t.Errorf("(docs/STORES.md says that it is not seen) %+v", f)
 	}
 	stays(t, before, a, b)
-	s.do(t, "DEL", a.shards[0].key(&last))
+	s.do(t, "DEL", keyOf(last))
 	claimstest.State(t, a)
 	ended(t, before, newStore(t, Options{URLs: []string{s.URL}}), a, b)
 }
@@ -96,9 +96,9 @@ func TestAReplicaUnderTheSameName(t *testing.T) {
 	replica := startReplica(t, primary)
 	o := Options{URLs: []string{primary.URL}}
 	a, b := opened(t, o), comparing(t, o)
-	put(t, a, 1)
+	there := put(t, a, 1)
 	before := claimstest.State(t, a)
-	has(t, replica, a)
+	has(t, replica, there)
 	replica.Redis.Kill()
 	lost := put(t, a, 1)
 	primary.Redis.Kill()
@@ -126,15 +126,12 @@ func follows(t *testing.T, replica *machine) {
 	})
 }
 
-// has waits until a replica's disk has the last entry of a member.
-func has(t *testing.T, replica *machine, m *Store) {
+// has waits until a replica's disk has an entry.
+func has(t *testing.T, replica *machine, c claims.Claim) {
 	t.Helper()
-	m.mu.Lock()
-	key := m.shards[0].claimed.key
-	m.mu.Unlock()
 	logtest.Await(t, "the replica's disk to have it", func() bool {
 		answer, err := replica.Do("EVAL", "local p = redis.call('INFO', 'persistence'); return p:find('aof_rewrite_in_progress:0') and "+
-			"p:find('aof_rewrite_scheduled:0') and redis.call('EXISTS', KEYS[1])", "1", key)
+			"p:find('aof_rewrite_scheduled:0') and redis.call('EXISTS', KEYS[1])", "1", keyOf(c))
 		return err == nil && answer == ":1"
 	})
 }
@@ -148,7 +145,7 @@ func TestATakeover(t *testing.T) {
 	a, b := opened(t, o), opened(t, o)
 	before := claimstest.State(t, a)
 	there := put(t, a, 1)
-	has(t, replica, a)
+	has(t, replica, there)
 	replica.Redis.Pause()
 	lost := put(t, a, 1)
 	primary.Redis.Kill()
@@ -171,7 +168,7 @@ func TestATakeoverWithReplicas(t *testing.T) {
 	claimstest.Watch(t, a)
 	first.Redis.Pause()
 	alone := claim(1)
-	for _, m := range []*Store{b, c} { // (the second time the entry is there, and counts no more than the first time)
+	for _, m := range []claims.Store{b, c} { // (the second time the entry is there, and counts no more than the first time)
 		if f := claimstest.Try(m, time.Second, alone)[0]; f.Err == nil {
 			t.Errorf("one replica has it, and it counts: %+v", f)
 		}
@@ -254,10 +251,8 @@ func TestEachPutLooksAtTheRun(t *testing.T) {
 	o := Options{URLs: []string{s.URL}}
 	a, b := opened(t, o), opened(t, o)
 	before := claimstest.State(t, a)
-	put(t, a, 1)
-	put(t, b, 2)
-	has(t, replica, a)
-	has(t, replica, b)
+	has(t, replica, put(t, a, 1))
+	has(t, replica, put(t, b, 2))
 	replica.do(t, "REPLICAOF", "NO", "ONE")
 	lost := put(t, a, 1) // (the other server has the record, and not this)
 	host, port, _ := strings.Cut(replica.Redis.Address, ":")
@@ -265,7 +260,7 @@ func TestEachPutLooksAtTheRun(t *testing.T) {
 	follows(t, s)
 	s.do(t, "REPLICAOF", "NO", "ONE")
 	lost.Owner = claimstest.Own(2)
-	if f := claimstest.Try(b, 5*time.Second, lost)[0]; f.Err == nil {
+	if f := claimstest.Try(b, 5*time.Second, lost)[0]; claimstest.Judge(lost, f, 60) == claimstest.Mine {
 		t.Errorf("the first put at another run counts: %+v", f)
 	}
 	refused(t, b, lost)
@@ -291,29 +286,21 @@ func TestMembersCompareFirst(t *testing.T) {
 		if _, err := b.Open(ctx); err == nil {
 			t.Fatal("it does not compare")
 		}
-		r, _ := readRecord(recordOf(t, s, a))
+		r, _ := readRecord(recordOf(t, s))
 		return r.next != "" && r.until != 0
 	})
 	if f := claimstest.Try(a, 300*time.Millisecond, there)[0]; f.Err == nil { // (it may compare for as long as the other one said)
 		t.Errorf("%+v", f)
 	}
-	if r, _ := readRecord(recordOf(t, s, a)); r.id != before.Epoch || r.next == "" {
+	r, _ := readRecord(recordOf(t, s))
+	if r.id != before.Epoch || r.next == "" || r.until == 0 {
 		t.Errorf("%+v", r)
 	}
 }
 
-func recordOf(t *testing.T, s *machine, m *Store) string {
+func recordOf(t *testing.T, s *machine) string {
 	t.Helper()
-	c, err := m.servers[0].dial(limited(t))
-	if err != nil {
-		t.Fatal(err)
-	}
-	defer c.Close()
-	answers, err := c.do(limited(t), cmd("GET", "svid:{svid}:epoch"))
-	if err != nil {
-		t.Fatal(err)
-	}
-	return textOf(answers[0])
+	return strings.TrimPrefix(s.do(t, "EVAL", "return {ok = redis.call('GET', KEYS[1]) or ''}", "1", "svid:{svid}:epoch"), "+")
 }
 
 // Sentinel lets a replica that lacks entries take over.
@@ -433,12 +420,17 @@ func TestAClockThatIsADayOff(t *testing.T) {
 		if f := claimstest.Try(b, 5*time.Second, there)[0]; claimstest.Judge(there, f, 60) == claimstest.Mine {
 			t.Errorf("accepted twice: %+v", f)
 		}
+		c := claim(3)
+		c.Expires -= day
+		if f := claimstest.Try(b, 5*time.Second, c)[0]; claimstest.Judge(c, f, 60) == claimstest.Mine {
+			t.Errorf("the epoch goes on: %+v", f)
+		}
 	}
 	is := claimstest.Open(t, newStore(t, o))
 	if is.Epoch == before.Epoch || is.Deaf < before.Time+claimstest.Usual.Lasts {
 		t.Errorf("%+v, and before %+v", is, before)
 	}
-	for _, m := range []*Store{a, b} {
+	for _, m := range []claims.Store{a, b} {
 		if now := claimstest.State(t, m); now.Epoch != is.Epoch || now.Deaf != is.Deaf {
 			t.Errorf("%+v, and not %+v", now, is)
 		}
@@ -524,7 +516,7 @@ func TestWhatIsOverIsNotKept(t *testing.T) {
 			if f.Owner != c.Owner || f.Time < c.Expires+claimstest.Usual.Margin {
 				t.Errorf("%+v", f)
 			}
-			if got := s.do(t, "EXISTS", a.shards[0].key(&c)); got != ":0" {
+			if got := s.do(t, "EXISTS", keyOf(c)); got != ":0" {
 				t.Errorf("%d s ago: it is kept: %s", ago, got)
 			}
 		}
@@ -639,7 +631,7 @@ func TestCluster(t *testing.T) {
 	t.Parallel()
 	all, o := clusterOf(t, 0, 3)
 	claimstest.Run(t, &clusterMachine{o}, "Pages")
-	a, b := opened(t, o), opened(t, o)
+	a, b := openedOwn(t, o), openedOwn(t, o)
 	before := claimstest.State(t, a)
 	claimstest.Watch(t, a)
 	var ledger claimstest.Ledger
@@ -664,7 +656,7 @@ func TestCluster(t *testing.T) {
 			acl(t, func(words ...string) error { _, err := s.Do(words...); return err }, rights(t, "cluster-member"))
 			own.URLs = append(own.URLs, strings.Replace(s.URL, "redis://", "redis://cluster-member:secret@", 1))
 		}
-		m := opened(t, own)
+		m := openedOwn(t, own)
 		logtest.Await(t, "claims of all shards", func() bool { return len(put16(t, m)) == 16 })
 		w := withdrawal()
 		claimstest.Withdraw(t, m, w)
@@ -766,7 +758,7 @@ func port(s *broker.Redis) string { _, port, _ := strings.Cut(s.Address, ":"); r
 func TestClusterWithoutOneServer(t *testing.T) {
 	t.Parallel()
 	all, o := clusterOf(t, 0, 3)
-	a, b := opened(t, o), opened(t, o)
+	a, b := openedOwn(t, o), openedOwn(t, o)
 	lists := owns(t, all, a.shards[0])
 	there := claim(1)
 	for owns(t, all, a.shards[there.Key[0]>>4]) != lists {
@@ -808,7 +800,7 @@ func TestClusterWithoutOneServer(t *testing.T) {
 func TestClusterTakeover(t *testing.T) {
 	t.Parallel()
 	all, o := clusterOf(t, 1, 6)
-	a, b := opened(t, o), opened(t, o)
+	a, b := openedOwn(t, o), openedOwn(t, o)
 	before := claimstest.State(t, a)
 	claimstest.Watch(t, a)
 	claimstest.Watch(t, b)
@@ -854,8 +846,7 @@ func TestAPrimaryThatHung(t *testing.T) {
 	a, b := opened(t, o), opened(t, o)
 	before := claimstest.State(t, a)
 	put(t, b, 1)
-	put(t, a, 1)
-	has(t, replica, a)
+	has(t, replica, put(t, a, 1))
 	primary.Redis.Pause()
 	logtest.Await(t, "the replica to take over", func() bool {
 		answer, err := replica.Do("EVAL", "return redis.call('INFO', 'replication'):find('role:master') and 1 or 0", "0")
@@ -893,9 +884,9 @@ func TestSentinelsThatDisagree(t *testing.T) {
 // A member that put nothing since it looked last sees by its number that the server has an older copy, and one that looked last before
 // its last claim by that claim.
 func TestWhatAMemberKnows(t *testing.T) {
-	for name, what := range map[string]func(t *testing.T, m *Store){
-		"number": func(t *testing.T, m *Store) { claimstest.State(t, m) },
-		"claim":  func(t *testing.T, m *Store) { put(t, m, 1) },
+	for name, what := range map[string]func(t *testing.T, m claims.Store){
+		"number": func(t *testing.T, m claims.Store) { claimstest.State(t, m) },
+		"claim":  func(t *testing.T, m claims.Store) { put(t, m, 1) },
 	} {
 		what := what
 		t.Run(name, func(t *testing.T) {
@@ -925,12 +916,14 @@ func TestATokenThatLivesTooLong(t *testing.T) {
 	if f := claimstest.Try(a, patience.Long, c)[0]; !errors.Is(f.Err, errTooLong) {
 		t.Errorf("%+v", f)
 	}
-	if got := s.do(t, "EXISTS", a.shards[0].key(&c)); got != ":0" {
+	if got := s.do(t, "EXISTS", keyOf(c)); got != ":0" {
 		t.Errorf("it was put: %s", got)
 	}
-	a.mu.Lock()
-	a.shards[0].clock.store += 1000
-	a.mu.Unlock()
+	if a, is := a.(*Store); is {
+		a.mu.Lock()
+		a.shards[0].clock.store += 1000
+		a.mu.Unlock()
+	}
 	if f := claimstest.Try(a, patience.Long, c)[0]; !errors.Is(f.Err, errTooLong) {
 		t.Errorf("by another time: %+v", f)
 	}
@@ -941,7 +934,7 @@ func TestMembersAgree(t *testing.T) {
 	t.Parallel()
 	s := start(t)
 	o := Options{URLs: []string{s.URL}}
-	var all []*Store
+	var all []claims.Store
 	for i := 0; i < 8; i++ {
 		all = append(all, opened(t, o))
 	}
@@ -951,10 +944,10 @@ func TestMembersAgree(t *testing.T) {
 		var asking sync.WaitGroup
 		for _, m := range all {
 			asking.Add(1)
-			go func(m *Store) { defer asking.Done(); m.State(limited(t)) }(m)
+			go func(m claims.Store) { defer asking.Done(); m.State(limited(t)) }(m)
 		}
 		asking.Wait()
-		r, _ := readRecord(recordOf(t, s, all[0]))
+		r, _ := readRecord(recordOf(t, s))
 		if len(r.before) != n+1 || r.before[0] != before.Epoch {
 			t.Errorf("%d ends, and the epochs before are %v", n+1, r.before)
 		}
@@ -970,10 +963,11 @@ func TestAnEndCoversWhatEachMemberKnows(t *testing.T) {
 	s := start(t)
 	o := Options{URLs: []string{s.URL}}
 	a, b := opened(t, o), comparing(t, o)
-	before := claimstest.State(t, a)
-	a.mu.Lock()
-	a.shards[0].record.terms.Lasts += 1000 // (as if another member had just said so)
-	a.mu.Unlock()
+	more := o
+	more.Terms = claimstest.Usual
+	more.Terms.Lasts += 1000
+	opened(t, more)
+	before := claimstest.State(t, a) // (and b does not know yet for how long tokens may live)
 	s.do(t, "FLUSHALL")
 	ctx, cancel := context.WithTimeout(context.Background(), compares/3)
 	defer cancel()
@@ -988,11 +982,29 @@ func TestAnEndCoversWhatEachMemberKnows(t *testing.T) {
 	ended(t, before, newStore(t, o), a, b)
 }
 
+// As before, for who does not look before the next put: each put looks whether the epoch is the one that this member has compared.
+func TestEachPutLooksAtTheEpoch(t *testing.T) {
+	t.Parallel()
+	s := start(t)
+	o := Options{URLs: []string{s.URL}}
+	a, b := opened(t, o), opened(t, o)
+	more := o
+	more.Terms = claimstest.Usual
+	more.Terms.Lasts += 1000
+	opened(t, more)
+	before := claimstest.State(t, a)
+	s.do(t, "FLUSHALL")
+	claimstest.State(t, b)
+	if f := claimstest.Put(t, a, claim(1))[0]; f.Deaf < before.Time+claimstest.Usual.Lasts+1000 {
+		t.Errorf("%+v", f)
+	}
+}
+
 // A record is written in the place of the one that was read, and of no other: also where somebody writes between two steps of that.
 func TestARecordThatChangedMeanwhile(t *testing.T) {
 	t.Parallel()
 	s := start(t)
-	a := opened(t, Options{URLs: []string{s.URL}})
+	a := openedOwn(t, Options{URLs: []string{s.URL}})
 	it := a.shards[0]
 	was := it.record
 	c, err := a.take(limited(t), a.shards)
@@ -1007,10 +1019,10 @@ func TestARecordThatChangedMeanwhile(t *testing.T) {
 			t.Fatal(err)
 		}
 	}
-	if got := recordOf(t, s, a); got != first.text() {
+	if got := recordOf(t, s); got != first.text() {
 		t.Errorf("%q, and not %q", got, first.text())
 	}
-	if err := a.swap(limited(t), c, it, first.text(), second.text()); err != nil || recordOf(t, s, a) != second.text() {
+	if err := a.swap(limited(t), c, it, first.text(), second.text()); err != nil || recordOf(t, s) != second.text() {
 		t.Error("a record is not written", err)
 	}
 }
@@ -1032,7 +1044,7 @@ func TestAStoreThatWasMadeAnew(t *testing.T) {
 		if is, err := late.Open(ctx); err == nil {
 			t.Fatalf("who makes a store does not wait for others: %+v", is)
 		}
-		return recordOf(t, s, a) != ""
+		return recordOf(t, s) != ""
 	})
 	if is := claimstest.State(t, a); is.Epoch == before.Epoch || is.Deaf < before.Time+claimstest.Usual.Lasts {
 		t.Errorf("%+v, and before %+v", is, before)
@@ -1056,7 +1068,7 @@ func TestServersThatHang(t *testing.T) {
 		hang = append(hang, "redis://"+l.Addr().String())
 	}
 	o.URLs = append(hang, o.URLs...)
-	a := opened(t, o)
+	a := openedOwn(t, o)
 	a.lost()
 	a.mu.Lock()
 	a.from = 0

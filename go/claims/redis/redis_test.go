@@ -18,11 +18,10 @@ const compares = 300 * time.Millisecond
 
 // comparing is a store that is open, and whose member lets others compare for as long as can be: a busy machine may be slow. It waits no longer
 // once another one has ended the epoch.
-func comparing(t testing.TB, o Options) *Store {
+func comparing(t testing.TB, o Options) claims.Store {
 	t.Helper()
-	store := opened(t, o)
-	store.options.Wait = mostWait
-	return store
+	o.Wait = mostWait
+	return opened(t, o)
 }
 
 // A machine is a redis-server of a test.
@@ -62,16 +61,30 @@ func (s *machine) Store(t testing.TB, o claimstest.Options) claims.Store {
 	if o.Address != "" {
 		url = "redis://" + o.Address
 	}
-	store := newStore(t, Options{URLs: []string{url}, Name: o.Name, Terms: o.Terms, Replicas: s.replicas})
+	given := Options{URLs: []string{url}, Name: o.Name, Terms: o.Terms, Replicas: s.replicas}
 	if o.Compares {
-		store.options.Wait = mostWait
+		given.Wait = mostWait
 	}
+	return newStore(t, given)
+}
+
+// newStore is a store that is not open yet: one of this package, or of a client of another language.
+func newStore(t testing.TB, o Options) claims.Store {
+	t.Helper()
+	o = usual(o)
+	if !claimstest.OfOthers() {
+		return newOwn(t, o)
+	}
+	store, err := newRemote(o)
+	if err != nil {
+		t.Fatal(err)
+	}
+	t.Cleanup(func() { store.Close() })
 	return store
 }
 
-// newStore is a store that is not open yet.
-func newStore(t testing.TB, o Options) *Store {
-	t.Helper()
+// usual are the options of a test, where it has none.
+func usual(o Options) Options {
 	if o.Name == "" {
 		o.Name = "svid"
 	}
@@ -81,7 +94,13 @@ func newStore(t testing.TB, o Options) *Store {
 	if o.Wait == 0 {
 		o.Wait = compares
 	}
-	store, err := New(o)
+	return o
+}
+
+// newOwn is a store of this package that is not open yet.
+func newOwn(t testing.TB, o Options) *Store {
+	t.Helper()
+	store, err := New(usual(o))
 	if err != nil {
 		t.Fatal(err)
 	}
@@ -90,12 +109,23 @@ func newStore(t testing.TB, o Options) *Store {
 }
 
 // opened is a store that is open.
-func opened(t testing.TB, o Options) *Store {
+func opened(t testing.TB, o Options) claims.Store {
 	t.Helper()
 	store := newStore(t, o)
 	claimstest.Open(t, store)
 	return store
 }
+
+// openedOwn is one of this package.
+func openedOwn(t testing.TB, o Options) *Store {
+	t.Helper()
+	store := newOwn(t, o)
+	claimstest.Open(t, store)
+	return store
+}
+
+// keyOf is the key of an entry in a group of the usual name.
+func keyOf(c claims.Claim) string { return "svid:{svid}:" + string(c.Key[:]) }
 
 func (s *machine) Address() string   { return s.Redis.Address }
 func (s *machine) Kill(testing.TB)   { s.Redis.Kill() }

@@ -46,10 +46,10 @@ func TestListsHaveAnAge(t *testing.T) {
 		more, last := claimstest.Withdrawals(t, b, position)
 		same(t, more, due[len(due)-3:])
 		position = last
-		age(t, s, a)
+		age(t, s)
 		claimstest.State(t, a)
 		claimstest.State(t, a) // (a list that has nothing is not followed by another one)
-		r, _ := readRecord(recordOf(t, s, a))
+		r, _ := readRecord(recordOf(t, s))
 		if r.list != uint64(n+2) || r.since < claimstest.Now()-60 {
 			t.Fatalf("%+v", r)
 		}
@@ -65,11 +65,11 @@ func TestListsHaveAnAge(t *testing.T) {
 	all, _ = claimstest.Withdrawals(t, b, "")
 	same(t, all, due[3:])
 	// Who had read a part of it goes on with the next one.
-	more, _ := claimstest.Withdrawals(t, b, fmt.Sprintf("%s/1/48", a.shards[0].record.id))
+	more, _ := claimstest.Withdrawals(t, b, fmt.Sprintf("%s/1/48", claimstest.State(t, a).Epoch))
 	same(t, more, due[3:])
 	// A member that does not know yet of the next list writes to the one before, and then to that one too.
 	claimstest.Withdraw(t, a, withdrawal())
-	age(t, s, a)
+	age(t, s)
 	claimstest.State(t, a)
 	_, position = claimstest.Withdrawals(t, a, position)
 	w := withdrawal()
@@ -90,9 +90,9 @@ func contains(all []claims.Withdrawal, w claims.Withdrawal) bool {
 }
 
 // age lets the list of now be old enough to be followed by another one.
-func age(t *testing.T, s *machine, m *Store) {
+func age(t *testing.T, s *machine) {
 	t.Helper()
-	r, ok := readRecord(recordOf(t, s, m))
+	r, ok := readRecord(recordOf(t, s))
 	if !ok {
 		t.Fatal("no record")
 	}

@@ -10,15 +10,15 @@ const LASTS: u64 = 3600 + 2 * 30;
 const MARGIN: u64 = 120;
 
 /// A folder whose store is opened again and again, and its clock.
-struct Place {
+struct Reopened {
     room: Room,
     clock: Arc<AtomicU64>,
     open: Option<Local>,
 }
 
-impl Place {
-    fn new(name: &str) -> Place {
-        Place { room: Room::new(name), clock: Arc::new(AtomicU64::new(NOW)), open: None }
+impl Reopened {
+    fn new(name: &str) -> Reopened {
+        Reopened { room: Room::new(name), clock: Arc::new(AtomicU64::new(NOW)), open: None }
     }
 
     fn again(&mut self) {
@@ -48,70 +48,70 @@ impl Place {
 
 #[test]
 fn a_restart_forgets_nothing() {
-    let mut place = Place::new("local-restart");
-    place.again();
+    let mut reopened = Reopened::new("local-restart");
+    reopened.again();
     let owner: [u8; 32] = std::array::from_fn(|it| it as u8);
     let whole = |owner| [Claim { key: TokenKey([8; 32]), owner, expires: NOW + 600 }];
-    assert_eq!(place.put(&whole(owner)).unwrap()[0].owner, owner);
-    assert_eq!(place.owner(7, 1, NOW + 600), (1, 0));
-    place.open.as_ref().unwrap().withdraw(TokenKey([9; 32]), NOW + 600).expect("it is kept");
+    assert_eq!(reopened.put(&whole(owner)).unwrap()[0].owner, owner);
+    assert_eq!(reopened.owner(7, 1, NOW + 600), (1, 0));
+    reopened.open.as_ref().unwrap().withdraw(TokenKey([9; 32]), NOW + 600).expect("it is kept");
     for _ in 0..3 {
-        place.again();
-        assert_eq!(place.owner(7, 2, NOW + 600), (1, 0));
-        assert_eq!(place.owner(9, 2, NOW + 600), (0, 0));
-        assert_eq!(place.put(&whole([3; 32])).unwrap()[0].owner, owner);
+        reopened.again();
+        assert_eq!(reopened.owner(7, 2, NOW + 600), (1, 0));
+        assert_eq!(reopened.owner(9, 2, NOW + 600), (0, 0));
+        assert_eq!(reopened.put(&whole([3; 32])).unwrap()[0].owner, owner);
     }
 }
 
 #[test]
 fn what_is_over_is_claimed_anew() {
-    let mut place = Place::new("local-over");
-    place.again();
-    assert_eq!(place.owner(7, 1, NOW + 100), (1, 0));
-    place.set(NOW + 100 + MARGIN - 1);
-    assert_eq!(place.owner(7, 2, NOW + 300), (1, 0));
-    place.set(NOW + 100 + MARGIN);
-    assert_eq!(place.owner(7, 2, NOW + 300), (2, 0));
-    place.again();
-    assert_eq!(place.owner(7, 1, NOW + 300), (2, 0));
+    let mut reopened = Reopened::new("local-over");
+    reopened.again();
+    assert_eq!(reopened.owner(7, 1, NOW + 100), (1, 0));
+    reopened.set(NOW + 100 + MARGIN - 1);
+    assert_eq!(reopened.owner(7, 2, NOW + 300), (1, 0));
+    reopened.set(NOW + 100 + MARGIN);
+    assert_eq!(reopened.owner(7, 2, NOW + 300), (2, 0));
+    reopened.again();
+    assert_eq!(reopened.owner(7, 1, NOW + 300), (2, 0));
     // (nobody accepts a token that expired so long ago)
     for owner in 1..3 {
-        assert_eq!(place.owner(6, owner, NOW), (owner, 0));
+        assert_eq!(reopened.owner(6, owner, NOW), (owner, 0));
     }
 }
 
 #[test]
 fn a_clock_that_goes_back_ends_the_epoch() {
     for is_restarted in [false, true] {
-        let mut place = Place::new("local-clock");
-        place.again();
-        place.owner(7, 1, NOW + 600);
-        place.set(NOW + 1000);
-        place.put(&[]).expect("it answers");
+        let mut reopened = Reopened::new("local-clock");
+        reopened.again();
+        reopened.owner(7, 1, NOW + 600);
+        reopened.set(NOW + 1000);
+        reopened.put(&[]).expect("it answers");
         if is_restarted {
-            place.again();
+            reopened.again();
         }
         // (by a minute it may)
-        place.set(NOW + 940);
-        assert_eq!(place.owner(6, 1, NOW + 950).1, 0);
-        place.set(NOW + 939);
-        assert_eq!(place.owner(6, 1, NOW + 950).1, NOW + 1000 + LASTS);
-        place.again();
-        assert_eq!(place.owner(7, 2, NOW + 600).1, NOW + 1000 + LASTS);
+        reopened.set(NOW + 940);
+        assert_eq!(reopened.owner(6, 1, NOW + 950).1, 0);
+        reopened.set(NOW + 939);
+        assert_eq!(reopened.owner(6, 1, NOW + 950).1, NOW + 1000 + LASTS);
+        reopened.again();
+        assert_eq!(reopened.owner(7, 2, NOW + 600).1, NOW + 1000 + LASTS);
     }
 }
 
 #[test]
 fn a_claim_is_on_the_disk_before_it_is_answered() {
-    let mut place = Place::new("local-disk");
-    place.again();
-    std::fs::rename(place.room.0.join("claims"), place.room.0.join("moved")).expect("it is there");
+    let mut reopened = Reopened::new("local-disk");
+    reopened.again();
+    std::fs::rename(reopened.room.0.join("claims"), reopened.room.0.join("moved")).expect("it is there");
     let claim = [Claim { key: TokenKey([7; 32]), owner: [1; 32], expires: NOW + 600 }];
     for _ in 0..2 {
-        assert!(place.put(&claim).is_err());
+        assert!(reopened.put(&claim).is_err());
     }
-    place.open.as_ref().unwrap().0.close();
-    assert!(place.put(&[]).is_err());
+    reopened.open.as_ref().unwrap().0.close();
+    assert!(reopened.put(&[]).is_err());
 }
 
 fn key_of(round: u32, number: u32) -> TokenKey {
@@ -123,24 +123,24 @@ fn key_of(round: u32, number: u32) -> TokenKey {
 
 #[test]
 fn a_snapshot_has_what_is_live() {
-    let mut place = Place::new("local-snapshot");
-    place.again();
+    let mut reopened = Reopened::new("local-snapshot");
+    reopened.again();
     let keys = |round: u32| (0..5000u32).map(move |it| key_of(round, it));
     for round in 0..2 {
         let claims: Vec<Claim> = keys(round).map(|key| Claim { key, owner: [1; 32], expires: NOW + 30 }).collect();
-        place.put(&claims).expect("it is kept");
-        place.set(NOW + u64::from(round) * 300);
+        reopened.put(&claims).expect("it is kept");
+        reopened.set(NOW + u64::from(round) * 300);
     }
-    place.set(NOW + 240);
-    place.put(&[]).expect("it is kept");
-    let store = &place.open.as_ref().unwrap().0;
+    reopened.set(NOW + 240);
+    reopened.put(&[]).expect("it is kept");
+    let store = &reopened.open.as_ref().unwrap().0;
     store.snapshot().expect("it is written");
-    let size = std::fs::metadata(place.room.0.join("claims/snapshot")).expect("it is there").len();
+    let size = std::fs::metadata(reopened.room.0.join("claims/snapshot")).expect("it is there").len();
     assert!(size < 1000, "what is over is in the snapshot of {size} bytes");
     let live: Vec<Claim> = keys(2).map(|key| Claim { key, owner: [1; 32], expires: NOW + 900 }).collect();
-    place.put(&live).expect("it is kept");
+    reopened.put(&live).expect("it is kept");
     store.snapshot().expect("it is written");
-    place.again();
-    let found = place.put(&live.iter().map(|it| Claim { owner: [2; 32], ..*it }).collect::<Vec<_>>()).expect("it answers");
+    reopened.again();
+    let found = reopened.put(&live.iter().map(|it| Claim { owner: [2; 32], ..*it }).collect::<Vec<_>>()).expect("it answers");
     assert!(found.iter().all(|it| it.owner == [1; 32]));
 }

@@ -50,11 +50,11 @@ impl Address {
         if !url.starts_with("postgres://") && !url.starts_with("postgresql://") {
             return Err(NO_URL);
         }
-        let (place, parameters) = url.split_once('?').unwrap_or((url, ""));
+        let (location, parameters) = url.split_once('?').unwrap_or((url, ""));
         let named = |it: &str, name: &str| it.strip_prefix(name).and_then(|it| it.strip_prefix('=')).map(str::to_owned);
         let is_ours = |it: &&str| OURS.iter().any(|(name, _)| named(it, name).is_some());
         let (ours, others): (Vec<&str>, Vec<&str>) = parameters.split('&').filter(|it| !it.is_empty()).partition(is_ours);
-        let mut config: Config = format!("{place}?{}", others.join("&")).parse().map_err(|_| NO_URL)?;
+        let mut config: Config = format!("{location}?{}", others.join("&")).parse().map_err(|_| NO_URL)?;
         let [mode, authorities, certificate, key, _] = OURS.map(|(name, variable)| {
             let given = ours.iter().find_map(|it| named(it, name)).map(|it| decoded(&it).ok_or(NO_URL));
             given.or_else(|| env::var(variable).ok().filter(|it| !it.is_empty()).map(Ok)).transpose()

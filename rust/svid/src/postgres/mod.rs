@@ -81,8 +81,9 @@ impl PostgresStore {
     /// Begins, and connects in the background. The options are those of the guard: the store takes [`Options::longest`], [`Options::ahead`],
     /// [`Options::wait`] and [`Options::warns`] of them.
     ///
-    /// - `servers` are the addresses of all servers, as libpq reads them. With several, the one that is the primary is used. Without `sslmode` a
-    ///   server must speak TLS, and nobody checks its certificate.
+    /// - `servers` are the addresses of all servers, as libpq reads them. With several, the one that is the primary is used. `sslmode` is `disable`,
+    ///   `require`, `verify-ca` or `verify-full`. Without it a server must speak TLS, and nobody checks its certificate. `sslrootcert`, `sslcert`
+    ///   and `sslkey` are files, read for each connection. These four and the password may stand in the environment (`PGSSLMODE`, `PGPASSWORD`).
     /// - `group` is the group's name, which is that of the schema.
     /// - `replicas` is how many servers must have a claim before it counts: 1, unless the primary waits for standbys.
     ///
@@ -117,10 +118,12 @@ impl PostgresStore {
             drop(tell.send(Ok(runtime.handle().clone())));
             runtime.block_on(async {
                 its.member.servers.begin();
+                // (without who could say so, the end has come too)
+                let is_open = |it: &watch::Receiver<bool>| !*it.borrow();
+                let end = async { while is_open(&is_closing) && is_closing.changed().await.is_ok() {} };
                 tokio::select! {
                     biased;
-                    // (without who could say so, the end has come too)
-                    () = async { while !*is_closing.borrow() && is_closing.changed().await.is_ok() {} } => {}
+                    () = end => {}
                     () = its.watch(), if watches => {}
                 }
             });

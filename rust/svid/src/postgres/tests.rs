@@ -349,6 +349,21 @@ fn what_is_warned_of() {
     assert_eq!(count("has ended"), 1);
 }
 
+/// As that of a commit whose wait for a standby was cancelled, which is no error for the server.
+#[test]
+fn a_warning_is_no_answer() {
+    let mut machine = Machine::new();
+    machine.group("warned");
+    let store = machine.store(&options(), "warned");
+    put(&store, 1);
+    let function = "CREATE FUNCTION warned.warns() RETURNS trigger LANGUAGE plpgsql AS $$ BEGIN RAISE WARNING 'one'; RETURN NULL; END $$";
+    let trigger = "CREATE TRIGGER warns AFTER INSERT ON warned.claim EXECUTE FUNCTION warned.warns()";
+    assert_eq!((machine.tell(function), machine.tell(trigger)), ("done".to_owned(), "done".to_owned()));
+    until("the warning", || store.put(&[claim(2)]).expect_err("it has no answer").to_string() == "the server warns: one");
+    assert_eq!(machine.tell("DROP TRIGGER warns ON warned.claim"), "done");
+    assert_eq!(put(&store, 2).owner, OWNER);
+}
+
 #[test]
 fn terms_are_those_of_svidd() {
     let mut machine = Machine::new();

@@ -1,0 +1,277 @@
+"""What the stores of a group have alike, whatever server keeps them."""
+
+from __future__ import annotations
+
+import abc
+import contextlib
+import logging
+import math
+import os
+import select
+import socket
+import struct
+import threading
+import time
+import weakref
+from collections.abc import Sequence
+from typing import NamedTuple, TypeVar
+
+from . import _library as lib
+from . import _scripts
+from . import _statements as said
+from .errors import Error, Forked
+from .stores import WITHDRAWN, Claim, Found
+
+DEFAULT_LONGEST = 3600
+DEFAULT_AHEAD = 30
+DEFAULT_WAIT = 2.0
+CELL = 33
+_LONGEST_ERROR = 1024
+_LOG = logging.getLogger("svid")
+_WITHDRAWAL = struct.Struct(">32sQ")
+_FAULTS = {**said.FAULTS, **_scripts.FAULTS}
+_Self = TypeVar("_Self", bound="GroupStore")
+
+
+class StoreFault(Error):
+    """The store has no answer. Nobody knows what it has: the same call may be made again.
+
+    `name` says why: "missing" (there is no store), "rights", "unfit" (the server may lose entries,
+    or the members don't agree), "epoch", "late" (the token expires too late), "silent", ..
+    """
+
+    def __init__(self, name: str, more: str = "") -> None:
+        super().__init__(_FAULTS.get(name, "") + more)
+        self.name = name
+
+
+class State(NamedTuple):
+    """What a store is at the moment."""
+
+    epoch: str
+    """Names one history of the store in which nothing was lost."""
+    deaf: int
+    """As in `Found`."""
+    time: int
+    """The store's time in seconds since 1970."""
+
+
+class GroupStore(abc.ABC):
+    """A member of a group's store. It is for any number of threads."""
+
+    def _begin_group(
+        self, servers: Sequence[str], replicas: int, wait: float, terms: tuple[int, int, int]
+    ) -> None:
+        """Begins without a thread. terms: lasts, the margin for members' clocks, and back."""
+        if not servers or replicas < 1 or not 0 < wait < math.inf:
+            raise ValueError("give a server, at least 1 of replicas, and a wait of some seconds")
+        self._lasts, margin, self._back = terms
+        self._margin = margin + self._back
+        self._replicas, self._wait = replicas, wait
+        self._process = os.getpid()
+        self._end = End()
+        self._turn = threading.Lock()  # who looks at the store has it
+        self._lock = threading.Lock()  # guards what follows
+        self._epoch: str | None = None
+        self._position = ""  # up to which withdrawals are read
+        self._heard = False  # they were read to the end once
+        self._withdrawn: dict[bytes, int] = {}
+
+    def _watch(self) -> None:
+        """Looks at the store once a second from now on."""
+        threading.Thread(
+            target=_watch, args=(weakref.ref(self), self._end), name="svid-store", daemon=True
+        ).start()
+
+    def __enter__(self: _Self) -> _Self:
+        return self
+
+    def __exit__(self, *_: object) -> None:
+        self.close()
+
+    @abc.abstractmethod
+    def close(self) -> None:
+        """Ends all connections, and the calls that are under way."""
+
+    def put(self, claims: Sequence[Claim]) -> list[Found]:
+        """Is that of `Store`. Raises StoreFault, for all claims of a call where one has no answer.
+
+        A token that was withdrawn after it was claimed has the owner WITHDRAWN within a second.
+        """
+        end = self._until()
+        if self._epoch is None or not self._heard or not claims:
+            if self._look(end)[1]:
+                raise StoreFault("run")
+            self._hear(end)
+        all = self._put_each(claims, end)
+        for it in all:
+            if isinstance(it, StoreFault):
+                raise it
+        with self._lock:
+            return [
+                it._replace(owner=WITHDRAWN) if claim.key in self._withdrawn else it
+                for claim, it in zip(claims, all)
+                if isinstance(it, Found)
+            ]
+
+    def withdraw(self, key: bytes, expires: int) -> None:
+        """Is that of `Store`. Raises StoreFault."""
+        self._withdraw(key, expires, self._until())
+        with self._lock:
+            self._withdrawn[key] = max(expires, self._withdrawn.get(key, 0))
+
+    def withdrawals(self, after: str = "") -> tuple[list[tuple[bytes, int]], str]:
+        """The keys that were withdrawn after a position, and when their tokens expire.
+
+        Returns some of them, and the position up to which they are read. Ask again until it stays.
+        The first position is "". Raises StoreFault.
+        """
+        return self._withdrawals(after, self._until())
+
+    def state(self) -> State:
+        """Looks at the store, and says what it is. Raises StoreFault."""
+        return self._look(self._until())[0]
+
+    def _until(self) -> float:
+        return time.monotonic() + self._wait
+
+    @abc.abstractmethod
+    def _look(self, end: float) -> tuple[State, int]:
+        """Looks at the store. Also says for how many milliseconds no claim has an answer yet."""
+
+    @abc.abstractmethod
+    def _put_each(self, claims: Sequence[Claim], end: float) -> list[Found | StoreFault]:
+        """Puts claims. Each has an answer of its own, or why it has none."""
+
+    @abc.abstractmethod
+    def _withdraw(self, key: bytes, expires: int, end: float) -> bytes:
+        """Withdraws a token, and returns whose claim is there: WITHDRAWN if none."""
+
+    @abc.abstractmethod
+    def _withdrawals(self, after: str, end: float) -> tuple[list[tuple[bytes, int]], str]:
+        """The withdrawals after a position, and the position up to which they are read."""
+
+    def _hear(self, end: float) -> None:
+        """Reads the withdrawals that have come."""
+        while True:
+            these, last = self._withdrawals(self._position, end)
+            with self._lock:
+                self._withdrawn.update(these)
+                done, self._position = self._position == last, last
+            if done:
+                self._heard = True
+                return
+
+    def _forget(self, moment: int) -> None:
+        """Forgets withdrawals that are over."""
+        with self._lock:
+            over = [
+                it for it, expires in self._withdrawn.items() if expires + self._margin < moment
+            ]
+            for it in over:
+                del self._withdrawn[it]
+
+    def _same_process(self) -> None:
+        if self._process != os.getpid():
+            raise Forked
+        if self._end.is_said:
+            raise StoreFault("closed")
+
+
+def terms_of(longest: int, ahead: int) -> tuple[int, int, int]:
+    """The terms of a member: lasts, the margin for members' clocks, and back."""
+    margin = max(ahead, said.LEAST_MARGIN // 1000)
+    return lib.quick.svid_claim_until(longest, 2 * ahead), margin, said.STEP_BACK // 1000
+
+
+def _watch(of: weakref.ref[GroupStore], end: End) -> None:
+    """Looks at a store once a second until it is closed or dropped."""
+    why = ""
+    while True:
+        store = of()
+        if store is None or end.is_said:
+            end.say()
+            return
+        begun = time.monotonic()
+        try:
+            state, _ = store._look(begun + said.STATE_WAIT / 1000)
+            store._hear(time.monotonic() + said.HEAR_WAIT / 1000)
+            store._forget(state.time)
+            why = ""
+        except Exception as now:
+            if not why and not end.is_said and getattr(now, "name", "") != "run":
+                # (a record that somebody keeps must not keep the store)
+                _warn("the group's store can't be looked at: %s", str(now))
+            why = str(now) or "unknown"
+        del store
+        end.wait(max(0.0, begun + said.STATE_EVERY / 1000 - time.monotonic()))
+
+
+def _warn(text: str, *words: object) -> None:
+    with contextlib.suppress(Exception):  # (who is warned must not end a call)
+        _LOG.warning(text, *words)
+
+
+def warn_of_end(deaf: int) -> None:
+    """Warns of the end of an epoch."""
+    _warn(
+        "the epoch of the group's store has ended: tokens that expire by %d "
+        "may have been claimed before",
+        deaf,
+    )
+
+
+class Answer(NamedTuple):
+    """What a call like put answers."""
+
+    status: int
+    time: int
+    deaf: int
+    epoch: str
+    cells: bytes
+
+
+def found_of(answer: Answer, claim: Claim, n: int) -> Found | StoreFault:
+    """What is answered to one of the claims."""
+    if not answer.cells:  # (each is there by this call)
+        return Found(claim.owner, answer.time, answer.deaf)
+    cell = answer.cells[n * CELL : (n + 1) * CELL]
+    if cell[0] == 1:
+        return Found(cell[1:], answer.time, answer.deaf)
+    return StoreFault(said.OF_CELL.get(cell[0], "answer"))
+
+
+def withdrawals_of(these: bytes) -> list[tuple[bytes, int]]:
+    """Reads withdrawals, as a store tells them."""
+    if len(these) % _WITHDRAWAL.size:
+        raise StoreFault("answer")
+    return [(key, expires) for key, expires in _WITHDRAWAL.iter_unpack(these)]
+
+
+def brief(text: str) -> str:
+    """What a server says, cut."""
+    text = text.strip()
+    return (
+        text
+        if len(text) <= _LONGEST_ERROR
+        else f"{text[:_LONGEST_ERROR]}.. ({len(text)} characters)"
+    )
+
+
+class End:
+    """The end of a store, which ends all waiting."""
+
+    def __init__(self) -> None:
+        self._heard, self._said = socket.socketpair()
+        self.is_said = False
+
+    def fileno(self) -> int:
+        return self._heard.fileno()
+
+    def say(self) -> None:
+        self.is_said = True
+        self._said.close()
+
+    def wait(self, seconds: float) -> None:
+        """Waits for so long, or until the end."""
+        select.select([self._heard], [], [], seconds)

@@ -1,0 +1,328 @@
+"""RedisStore, over real servers. The tests of go/claims/redis run over it too."""
+
+import contextlib
+import gc
+import logging
+import os
+import pathlib
+import re
+import signal
+import subprocess
+import sys
+import threading
+import time
+
+import pytest
+import redis
+import svid
+from making import PATIENCE, fresh, until, validator
+from svid.redis import RedisStore, StoreFault
+
+TOP = pathlib.Path(os.environ["SVID"]).parent
+CLIENT = pathlib.Path(__file__).parent / "store_client.py"
+# The tests of go/claims/redis, in groups that take some time each.
+TESTS = {
+    "member": "TestAMemberOfAnotherLanguage|TestStore|TestListsHaveAnAge|TestGarbageInAList",
+    "fit": "TestAServerThatForgets|TestASettingThatIsChanged|TestTheFirstRewrite"
+    "|TestAKeyThatIsNoRecord|TestAServerThatGetsAFile|TestRightsOfAnotherLanguage|TestPasswords"
+    "|TestTLS|TestASocket",
+    "losses": "TestAnEntryThatIsRemovedByHand|TestWhatAMemberKnows|TestATokenThatLivesTooLong"
+    "|TestMembersAgree|TestEachPutLooksAtTheEpoch|TestAnEndCoversWhatEachMemberKnows"
+    "|TestAStoreThatWasMadeAnew|TestMembersCompareFirst|TestWhatIsOverIsNotKept"
+    "|TestAClockThatIsADayOff",
+    "ends": "TestFullMemory|TestFullDisk|TestLateAnswers|TestKilledOverAndOver"
+    "|TestAClusterIsRefused",
+    "replicas": "TestAReplicaAlone|TestAReplicaUnderTheSameName|TestATakeover"
+    "|TestATakeoverWithReplicas|TestTooFewReplicas|TestTwoPrimaries|TestAPrimaryThatWasAReplica"
+    "|TestEachPutLooksAtTheRun",
+    "sentinels": "TestSentinel|TestAPrimaryThatHung|TestSentinelsThatDisagree",
+}
+# Those of what only the member in Go has.
+OTHERS = {
+    "TestRights",
+    "TestOptions",
+    "TestRecords",
+    "TestSlots",
+    "TestNoTextIsAnID",
+    "TestARecordThatChangedMeanwhile",
+    "TestCluster",
+    "TestClusterWithoutOneServer",
+    "TestClusterTakeover",
+    "TestServersThatHang",
+}
+
+
+@pytest.fixture(scope="module")
+def binary(tmp_path_factory):
+    """The tests of go/claims/redis as a program."""
+    made = tmp_path_factory.mktemp("go") / "redis.test"
+    words = ["go", "test", "-c", "-o", str(made), "./claims/redis"]
+    subprocess.run(words, cwd=TOP / "go", check=True)
+    return made
+
+
+@pytest.mark.parametrize("name", TESTS)
+def test_store(binary, name):
+    """What go/claims/redis promises of a member over real servers."""
+    ran = subprocess.run(
+        [binary, "-test.v", "-test.timeout", "20m", "-test.run", f"^({TESTS[name]})$"],
+        cwd=TOP / "go/claims/redis",
+        env={**os.environ, "SVID_STORE_CLIENT": f"{sys.executable} {CLIENT} redis"},
+        capture_output=True,
+        text=True,
+    )
+    failed = re.findall(r"^--- FAIL: (.*)", ran.stdout, re.M)
+    assert ran.returncode == 0, (failed, ran.stdout[-5000:], ran.stderr[-2000:])
+    assert len(re.findall(r"^--- (?:PASS|SKIP): ", ran.stdout, re.M)) == len(TESTS[name].split("|"))
+
+
+def test_every_test_of_a_store_is_run(binary):
+    listed = subprocess.check_output([binary, "-test.list", "^Test"], text=True).split()
+    assert {it for names in TESTS.values() for it in names.split("|")} == {*listed} - OTHERS
+
+
+class Machine:
+    """A server, on a socket of its own."""
+
+    def __init__(self, folder, *more):
+        self.url = f"unix://{folder}/socket"
+        self.words = ["redis-server", "--port", "0", "--unixsocket", f"{folder}/socket"]
+        self.words += ["--dir", str(folder), "--appendonly", "yes", "--appendfsync", "always"]
+        self.words += ["--save", "", "--logfile", f"{folder}/log", *more]
+        self.socket = f"{folder}/socket"
+        self.start()
+
+    def start(self):
+        self.run = subprocess.Popen(self.words)
+        until(self._answers)
+
+    def _answers(self):
+        with contextlib.suppress(redis.exceptions.ConnectionError):
+            return self.client().ping()
+
+    def client(self):
+        return redis.Redis(unix_socket_path=self.socket)
+
+    def kill(self):
+        self.run.kill()
+        self.run.wait()
+
+    @contextlib.contextmanager
+    def paused(self):
+        self.run.send_signal(signal.SIGSTOP)
+        try:
+            yield
+        finally:
+            self.run.send_signal(signal.SIGCONT)
+
+
+@pytest.fixture
+def machine(tmp_path):
+    made = Machine(tmp_path)
+    try:
+        yield made
+    finally:
+        made.kill()
+
+
+def claim(n, owner=b"o"):
+    return svid.Claim(bytes([n]) * 32, owner * 32, int(time.time()) + 300)
+
+
+def put(store, *claims):
+    """Puts claims until they are answered."""
+    end = time.monotonic() + PATIENCE
+    while True:
+        try:
+            return store.put(claims)
+        except StoreFault:
+            assert time.monotonic() < end
+            time.sleep(0.02)
+
+
+def test_one_validator_accepts_a_token(machine):
+    token = fresh(jti="one")
+    with RedisStore(machine.url, wait=PATIENCE) as store, RedisStore(machine.url) as other:
+        put(store, claim(1))
+        with validator(mode="strict", store=store) as one:
+            with validator(mode="strict", store=other) as two:
+                assert one.check(token).spiffe_id
+                with pytest.raises(svid.Replayed):
+                    two.check(token)
+
+
+def test_a_withdrawal_wins_over_a_claim(machine):
+    with RedisStore(machine.url) as one, RedisStore(machine.url) as other:
+        assert put(one, claim(1))[0].owner == b"o" * 32
+        one.withdraw(claim(1).key, claim(1).expires)
+        assert put(one, claim(1))[0].owner == svid.WITHDRAWN
+        until(lambda: put(other, claim(1))[0].owner == svid.WITHDRAWN)
+
+
+def test_a_server_that_lost_its_scripts_gets_them_again(machine):
+    with RedisStore(machine.url) as store:
+        put(store, claim(1))
+        machine.client().script_flush()
+        assert store.put([claim(1, b"x"), claim(2)])[0].owner == b"o" * 32
+
+
+def test_a_call_ends_though_the_server_does_not_answer(machine):
+    """It fails within `wait`, or soon after it. The same claim finds its own entry later."""
+    with RedisStore(machine.url, wait=0.5) as store:
+        put(store, claim(1))
+        with machine.paused():
+            for call in (
+                lambda: store.put([claim(2)]),
+                lambda: store.put([]),
+                lambda: store.withdraw(claim(3).key, claim(3).expires),
+                store.withdrawals,
+                store.state,
+            ):
+                begun = time.monotonic()
+                with pytest.raises(StoreFault):
+                    call()
+                assert time.monotonic() - begun < 5  # (a busy machine)
+        assert put(store, claim(2))[0].owner == b"o" * 32
+
+
+def test_close_ends_calls(machine):
+    store = RedisStore(machine.url, wait=PATIENCE)
+    put(store, claim(1))
+    raised = []
+
+    def call():
+        try:
+            store.put([claim(2)])
+        except StoreFault as why:
+            raised.append(why.name)
+
+    with machine.paused():
+        thread = threading.Thread(target=call)
+        thread.start()
+        until(lambda: store._open and not store._idle)
+        store.close()
+        thread.join(PATIENCE)
+        assert raised == ["closed"]
+    store.close()
+    for call in (lambda: store.put([claim(1)]), store.state, store.withdrawals):
+        with pytest.raises(StoreFault, match="closed"):
+            call()
+
+
+def test_nothing_of_a_store_stays(machine):
+    """Neither a thread nor a descriptor, when it is closed and when it is dropped."""
+    threads, files = threading.active_count(), len(os.listdir("/proc/self/fd"))
+    stores = [RedisStore(machine.url) for _ in range(3)]
+    for it in stores:
+        put(it, claim(1))
+    for it in stores[1:]:
+        it.close()
+    del it
+    stores.clear()
+    until(lambda: gc.collect() >= 0 and threading.active_count() <= threads)
+    until(lambda: gc.collect() >= 0 and len(os.listdir("/proc/self/fd")) <= files)
+
+
+def test_a_store_of_another_process_answers_nobody(machine):
+    with RedisStore(machine.url) as store:
+        put(store, claim(1))
+        child = os.fork()
+        if not child:
+            status = 1
+            try:
+                store.put([claim(2)])
+            except svid.Forked:
+                status = 0
+            finally:
+                os._exit(status)
+        assert os.waitpid(child, 0)[1] == 0
+        assert put(store, claim(1))[0].owner == b"o" * 32
+
+
+def test_warnings(machine, caplog):
+    """The end of an epoch, and a server that is away, are warned of once. A new store is not."""
+    caplog.set_level(logging.WARNING, "svid")
+    with RedisStore(machine.url) as store:
+        put(store, claim(1))
+        assert not caplog.text
+        machine.client().flushall()
+        until(lambda: "the epoch of the group's store has ended" in caplog.text)
+        machine.kill()
+        until(lambda: "can't be looked at" in caplog.text)
+        machine.start()
+        assert put(store, claim(1))[0].deaf >= claim(1).expires
+    assert caplog.text.count("has ended") == 1
+    assert caplog.text.count("can't be looked at") == 1
+
+
+def test_terms(machine):
+    """They are those of svidd: see go/guard. So are the 3 seconds in which members compare."""
+    with RedisStore(machine.url, longest=8000, ahead=10) as store:
+        put(store, claim(1))
+        record = machine.client().get("svid:{svid}:epoch").decode().split()
+        assert record[4:7] == ["8020", "120", "60"]
+        assert int(record[11]) // 1000 - int(record[3]) in (2, 3)
+    with RedisStore(machine.url, ahead=61) as store:
+        with pytest.raises(StoreFault, match="give all members the same clock tolerance"):
+            store.put([])
+
+
+def test_passwords(tmp_path, monkeypatch):
+    """One may stand in the address, in a file, or in the environment."""
+    machine = Machine(tmp_path)
+    try:
+        machine.client().config_set("requirepass", "sesame")
+        file = tmp_path / "password"
+        file.write_text("sesame\n")
+        with RedisStore(machine.url) as store:
+            with pytest.raises(StoreFault) as raised:
+                store.put([])
+            assert raised.value.name == "password"
+        urls = [machine.url.replace("://", "://:sesame@"), f"{machine.url}?password_file={file}"]
+        for url in urls:
+            with RedisStore(url) as store:
+                put(store, claim(1))
+        monkeypatch.setenv("REDISCLI_AUTH", "sesame")
+        with RedisStore(machine.url) as store:
+            put(store, claim(1))
+    finally:
+        machine.kill()
+
+
+@pytest.mark.parametrize(
+    "urls, terms",
+    [
+        ([], {}),
+        (["http://u:secret@h"], {}),
+        (["redis://u:secret@h:x"], {}),
+        (["redis:"], {}),
+        (["redis://u:secret@"], {}),
+        (["redis://h/secret"], {}),
+        (["redis://h/01"], {}),
+        (["redis://u:secret@h?secret=1"], {}),
+        (["redis://h?settings=secret"], {}),
+        (["redis://h?replicas=0"], {}),
+        (["redis://h?replicas=65"], {}),
+        (["redis://h?ssl_ca_certs=/dev/null"], {}),
+        (["rediss://h?ssl_certfile=/dev/null"], {}),
+        (["redis+sentinel://h"], {}),
+        (["redis://h?service=secret"], {}),
+        (["unix://run/redis.sock"], {}),
+        (["redis://h", "redis+sentinel://h?service=x"], {}),
+        (["redis://h"], {"group": "{x}"}),
+        (["redis://h"], {"group": "x" * 65}),
+        (["redis://h"], {"replicas": 0}),
+        (["redis://h"], {"replicas": 65}),
+        (["redis://h"], {"wait": 0}),
+    ],
+)
+def test_what_is_no_store(urls, terms):
+    with pytest.raises(ValueError) as raised:
+        RedisStore(*urls, **terms)
+    assert "secret" not in str(raised.value)
+
+
+def test_a_file_that_is_not_there():
+    for url in ("rediss://h?ssl_ca_certs=/nowhere", "redis://h?password_file=/nowhere"):
+        with pytest.raises(OSError, match="/nowhere"):
+            RedisStore(url)
