@@ -79,7 +79,7 @@ def of_rust(room):
         "cargo/config.toml": CARGO_HOME,
         "src/main.rs": (SERVICES / "main.rs").read_text(),
         "Cargo.toml": f'[package]\nname = "of_the_release"\nversion = "1.0.0"\nedition = "2021"\n[dependencies]\n'
-        f'svid = {{ path = "svid-{VERSION}", features = ["openssl"] }}\n',
+        f'svid = {{ path = "svid-{VERSION}", features = ["openssl", "postgres"] }}\n',
     }.items():
         (room.folder / name).parent.mkdir(exist_ok=True)
         (room.folder / name).write_text(text)

@@ -1,16 +1,22 @@
-//! Reads a token a line, and prints what becomes of it: service once FOLDER.
+//! Reads a token a line, and prints what becomes of it: service once FOLDER, or service strict URL.
 
 use std::env::args;
 use std::io::{stdin, BufRead};
+use std::sync::Arc;
 use std::time::Duration;
 
-use svid::{Error, Guard, Journal, OpenSsl, Options, Sources};
+use svid::{Error, Guard, Journal, Mode, OpenSsl, Options, PostgresStore, Sources};
 
-fn main() -> Result<(), Box<dyn std::error::Error>> {
-    let journal = Journal::open(args().nth(2).unwrap_or_default())?;
+fn main() -> Result<(), Box<dyn std::error::Error + Send + Sync>> {
+    let (mode, place) = (args().nth(1).unwrap_or_default(), args().nth(2).unwrap_or_default());
     let options = Options::new(["ledger"]).wait(Duration::from_secs(60));
     let sources = Sources::new().file("example.org", "example.org.json");
-    let guard = Guard::with_journal(&options, sources, OpenSsl::new(), journal)?;
+    let guard = if mode == "once" {
+        Guard::with_journal(&options, sources, OpenSsl::new(), Journal::open(place)?)?
+    } else {
+        let store = PostgresStore::open(&options, &[&place], "svid", 1)?;
+        Guard::open(&options.mode(Mode::Strict).store(Arc::new(store)), sources, OpenSsl::new())?
+    };
     for token in stdin().lock().lines() {
         match guard.check(&token?) {
             Ok(accepted) => println!("accepted {}", accepted.spiffe_id()),
