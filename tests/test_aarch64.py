@@ -39,7 +39,7 @@ def outcome(program, words, given, folder):
     """What a program does in a new folder with the files of the examples: its status, what it prints, and the record `kept`."""
     shutil.copytree(TOP / "examples", folder, ignore=lambda _, names: [it for it in names if (TOP / "examples" / it).is_dir()])
     subprocess.run(["sh", "-c", '"$0" summary two-uses.batch >asked', TOP / "dist/x86_64/svid"], cwd=folder, check=True)
-    ran = subprocess.run([program, *words], cwd=folder, input=given, capture_output=True, timeout=600)
+    ran = subprocess.run([program, *words], cwd=folder, input=given, capture_output=True, timeout=3600)
     kept = folder / "kept"
     return ran.returncode, ran.stdout, ran.stderr, kept.read_bytes() if kept.exists() else None
 
@@ -94,5 +94,5 @@ def test_what_it_asks_of_the_system(emulated):
 def test_it_does_what_the_commands_are_to_do(emulated):
     environment = {name: value for name, value in os.environ.items() if name not in ("SVID", "SVID_TESTS")}
     words = [TOP / "tests/run", "commands", "--brief", "--program", emulated]
-    ran = subprocess.run(words, capture_output=True, text=True, timeout=600, env=environment)
+    ran = subprocess.run(words, capture_output=True, text=True, timeout=3600, env=environment)
     assert ran.returncode == 0, ran.stdout[-3000:]

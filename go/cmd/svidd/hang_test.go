@@ -61,9 +61,7 @@ func TestADiskThatHangs(t *testing.T) {
 		t.Errorf("%s failures", n)
 	}
 	p.endHanging()
-	if !strings.Contains(p.log.String(), "did not take a last snapshot") {
-		t.Errorf("the log does not say so: %s", p.log)
-	}
+	p.await("the log to say so", func() bool { return strings.Contains(p.log.String(), "did not take a last snapshot") })
 }
 
 // A start that hangs ends by SIGTERM.

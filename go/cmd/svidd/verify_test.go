@@ -93,7 +93,7 @@ func TestKeysThatArePassedOver(t *testing.T) {
 	}
 	warned := func(file string) (all string) {
 		for i, why := range []string{`it has no use, which must be "jwt-svid"`, `its use is not "jwt-svid"`, "its kty is neither RSA nor EC", "unusable key: the key's n has fewer than 2048 bits"} {
-			all += fmt.Sprintf("svidd: warning: entry %d of %s is passed over: %s\n", good+i, file, why)
+			all += fmt.Sprintf("svidd: warning: entry %d of %s is skipped: %s\n", good+i, file, why)
 		}
 		return all
 	}

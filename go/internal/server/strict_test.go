@@ -7,6 +7,7 @@ import (
 	"errors"
 	"fmt"
 	"net/http"
+	"sort"
 	"strings"
 	"sync"
 	"sync/atomic"
@@ -438,7 +439,8 @@ func TestClaimsShareACall(t *testing.T) {
 	for _, call := range store.calls {
 		sizes = append(sizes, len(call))
 	}
-	if fmt.Sprint(sizes) != fmt.Sprint([]int{1, claims.MostClaims, 3}) {
+	sort.Ints(sizes) // (the last two are under way at once)
+	if fmt.Sprint(sizes) != fmt.Sprint([]int{1, 3, claims.MostClaims}) {
 		t.Errorf("the calls have %v claims", sizes)
 	}
 }

@@ -190,7 +190,8 @@ pub(crate) fn follow(shared: &Shared, number: usize) {
     };
     let mut closing = shared.closing();
     // (without who could say so, the end has come too)
-    let end = async { while !*closing.borrow() && closing.changed().await.is_ok() {} };
+    let is_open = |it: &tokio::sync::watch::Receiver<bool>| !*it.borrow();
+    let end = async { while is_open(&closing) && closing.changed().await.is_ok() {} };
     let follow = async {
         let mut pause = PAUSES.0;
         loop {
