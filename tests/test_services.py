@@ -56,8 +56,9 @@ def of_python(room):
     pip = ["/usr/bin/python3", "-m", "pip", "--python", "venv/bin/python"]
     room.run(*pip, "install", "--quiet", "--no-index", "--no-deps", wheel)
     [packages] = room.folder.glob("venv/lib/python3*/site-packages")
-    for pattern in "cryptography*", "_cffi_backend*", "psycopg*", "typing_extensions*", "redis*", "async_timeout*":
-        for it in Path("/usr/lib/python3/dist-packages").glob(pattern):
+    needed = "cryptography _cffi_backend psycopg typing_extensions redis async_timeout deprecated Deprecated packaging wrapt"
+    for name in needed.split():
+        for it in Path("/usr/lib/python3/dist-packages").glob(f"{name}*"):
             (packages / it.name).symlink_to(it)
     assert "No broken requirements" in room.run(*pip, "check")
     assert f"Version: {VERSION}\n" in room.run(*pip, "show", "svid")
@@ -142,15 +143,16 @@ def release(session):
 
 
 @pytest.fixture(scope="session")
-def services(release, session):
+def services(request, release, session):
     """Of each language its room and the words that run its service, once it is built: beside the others."""
 
     def built(language):
         room = Room(session / f"of_{language.lower()}", release)
         return room, LANGUAGES[language](room)
 
+    asked = {it.callspec.params["language"] for it in request.session.items if "services" in it.fixturenames}
     with ThreadPoolExecutor() as pool:
-        yield {it: pool.submit(built, it) for it in LANGUAGES}
+        yield {it: pool.submit(built, it) for it in LANGUAGES if it in asked}
 
 
 class Service:

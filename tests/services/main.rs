@@ -8,13 +8,13 @@ use std::time::Duration;
 use svid::{Error, Guard, Journal, Mode, OpenSsl, Options, PostgresStore, Sources};
 
 fn main() -> Result<(), Box<dyn std::error::Error + Send + Sync>> {
-    let (mode, place) = (args().nth(1).unwrap_or_default(), args().nth(2).unwrap_or_default());
+    let (mode, given) = (args().nth(1).unwrap_or_default(), args().nth(2).unwrap_or_default());
     let options = Options::new(["ledger"]).wait(Duration::from_secs(60));
     let sources = Sources::new().file("example.org", "example.org.json");
     let guard = if mode == "once" {
-        Guard::with_journal(&options, sources, OpenSsl::new(), Journal::open(place)?)?
+        Guard::with_journal(&options, sources, OpenSsl::new(), Journal::open(given)?)?
     } else {
-        let store = PostgresStore::open(&options, &[&place], "svid", 1)?;
+        let store = PostgresStore::open(&options, &[&given], "svid", 1)?;
         Guard::open(&options.mode(Mode::Strict).store(Arc::new(store)), sources, OpenSsl::new())?
     };
     for token in stdin().lock().lines() {
