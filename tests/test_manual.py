@@ -177,7 +177,7 @@ def test_lines_on_standard_error():
 def test_statuses_of_these_lines():
     rows = {re.sub(r"\b(I|J|P|N|NAME|REASON)\b", "{}", line): it for line, it in table("docs/FORMATS.md", "| line | status | where |")}
     of_bundles = rows.pop("svid: bundles: FAULT")
-    rows |= {f"svid: bundles: {fault}": of_bundles for fault in ("NotObject", "Domain({})", "Keys({})")}
+    rows |= {f"svid: bundles: {fault}": of_bundles for fault in ("NotObject", "Domain({})", "Keys({})", "Unnamed")}
     assert {tag: (re.match(r"Status (\d)\.\n", text) or " -")[1] for tag, text in MAN.tags["DIAGNOSTICS"]} == rows
 
 

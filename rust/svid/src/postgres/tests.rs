@@ -369,7 +369,7 @@ fn terms_are_those_of_svidd() {
     let mut machine = Machine::new();
     machine.group("terms");
     put(&machine.store(&options().longest(8000), "terms"), 1);
-    assert_eq!(machine.tell("DO $$ BEGIN ASSERT (SELECT lasts FROM terms.epoch) = 8020; END $$"), "done");
+    assert_eq!(machine.tell("DO $$ BEGIN ASSERT (SELECT lasts FROM terms.epoch) = 8060; END $$"), "done");
     let why = machine.store(&options().ahead(61), "terms").put(&[]).unwrap_err().to_string();
     assert!(why.contains("give all members the same clock tolerance"), "{why}");
 }
