@@ -47,6 +47,7 @@ tool_sentence tool.OutOfMemory first = says.OutOfMemory
 abbrev pub sentence_of : Failure → Sentence
 sentence_of (failure.Tool fault first) = tool_sentence fault first
 sentence_of (failure.CannotOpen name) = says.CannotOpen
+sentence_of failure.Unnamed = says.BundlesUnnamed
 sentence_of failure.BadValidatorId = says.BadPlace
 
 -- the number of the input that an engine's fault is about, 0 where it is about none
@@ -62,11 +63,13 @@ tool_input _ = 0
 -- that of a failure
 abbrev pub input_of : Failure → ℕ
 input_of (failure.Tool fault first) = tool_input fault
+input_of failure.Unnamed = 1
 input_of _ = 0
 
 -- the exit status
 abbrev pub failure_status : Failure → ℕ
 failure_status (failure.Tool fault first) = status_of fault
+failure_status failure.Unnamed = 1
 failure_status _ = 2
 
 -- the line of a file that could not be opened, without its line end
@@ -77,6 +80,7 @@ unopened_line name = codes "svid: cannot open " ++ name
 abbrev pub failure_line : Failure → List ℕ
 failure_line (failure.Tool fault first) = fault_text fault
 failure_line (failure.CannotOpen name) = unopened_line name.items
+failure_line failure.Unnamed = codes "svid: bundles: Unnamed"
 failure_line failure.BadValidatorId = codes "svid: bad place"
 
 -- the line of a sentence that is asked for

@@ -48,6 +48,7 @@ sentence_text (says.BadTable table_fault) input = input ++ (codes " is no table 
 sentence_text says.BundlesNotObject input = input ++ codes " is no file of trust bundles: no JSON object. Write one object that has a JWK Set under the name of each trust domain."
 sentence_text (says.BundlesDomain index) input = input ++ (codes " is no file of trust bundles: a name is no trust domain name. It is the one behind " ++ (decimal index ++ codes " others in rising order. Correct that name, or take it out."))
 sentence_text (says.BundlesKeys index) input = input ++ (codes " is no file of trust bundles: a name has no list of keys. It is the one behind " ++ (decimal index ++ codes " others in rising order. Write a JWK Set under that name, or take it out."))
+sentence_text says.BundlesUnnamed input = input ++ codes " is the bundle of one trust domain, without its name. Name it: give --trust-domain NAME too."
 sentence_text says.BadPlace input = codes "The value of --validator-id is not 32 hexadecimal digits. Choose 32 that no other validator has, and give them each time."
 sentence_text says.CannotOpen input = codes "There is no such file, or you may not open it, or its name is not UTF-8. Look at the name, and at who may read the file, or write to that of --out."
 sentence_text says.CannotRead input = codes "A read of " ++ (input ++ codes " failed. Name a file, and no folder, or leave standard input open.")

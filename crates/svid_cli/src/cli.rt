@@ -7,7 +7,7 @@ use crate::kept::Kept;
 use crate::mistake::one_line;
 use crate::refusals::{JSON, LINES};
 use crate::sentence::Words;
-use crate::trust_domain::bundles_of;
+use crate::trust_domain::{bundles_of, is_unnamed};
 use crate::words::{bytes_of_text, words};
 use clap::error::ErrorKind;
 use clap::{ArgMatches, Error};
@@ -161,13 +161,25 @@ fn trusted<'a>(
     mut file: Input<'a>,
 ) -> Result<Input<'a>, Failure> {
     let Some(word) = matches.get_str("trust-domain") else {
-        return Ok(file);
+        let text = read_input(rt.alloc(), &mut file, 1)?;
+        return Ok(Input::new(rt, Stream::Made(Cursor::new(text))));
     };
     let domain = domain_of(rt.alloc(), word)?;
     let text = read_input(rt.alloc(), &mut file, 1)?;
     match bundles_of(rt.alloc(), domain.as_str(), &text) {
         Ok(bundles) => Ok(Input::new(rt, Stream::Made(Cursor::new(bundles)))),
         Err(fault) => Err(Failure::from(ToolFault::Bundles(fault))),
+    }
+}
+
+// Why an engine gave up that read these bundles: they may be the bundle of one trust domain, which nobody named.
+fn refused(rt: &HostRuntime, bundles: &Input<'_>, failure: Failure) -> Failure {
+    match &failure {
+        Failure::Tool {
+            fault: ToolFault::Bundles(BundleFault::Keys(_)),
+            ..
+        } if is_unnamed(rt.alloc(), bundles.made()) => Failure::Unnamed,
+        _ => failure,
     }
 }
 
@@ -233,8 +245,10 @@ fn candidates(rt: &HostRuntime, matches: &ArgMatches<'_>) -> Result<u8, Failure>
     let mut bundles = trusted(rt, matches, file)?;
     let mut tokens = standard_input(rt);
     let mut out = Counted::new(io::writer(rt));
-    let accepted = run_candidates(rt.alloc(), &mut bundles, &mut tokens, &mut out)?;
-    Ok(status_of(accepted))
+    match run_candidates(rt.alloc(), &mut bundles, &mut tokens, &mut out) {
+        Ok(accepted) => Ok(status_of(accepted)),
+        Err(fault) => Err(refused(rt, &bundles, Failure::from(fault))),
+    }
 }
 
 fn refusals(rt: &HostRuntime, matches: &ArgMatches<'_>) -> Result<u8, Failure> {
@@ -306,7 +320,8 @@ fn check(rt: &HostRuntime, matches: &ArgMatches<'_>) -> Result<u8, Failure> {
         Ok(accepted) => Ok(status_of(accepted)),
         Err(fault) => {
             discard(&mut kept);
-            Err(failure_of(fault, earlier.as_slice(), 4))
+            let failure = failure_of(fault, earlier.as_slice(), 4);
+            Err(refused(rt, &bundles, failure))
         }
     }
 }

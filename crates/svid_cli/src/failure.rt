@@ -21,6 +21,8 @@ pub enum Failure {
     },
     /// A file with this name could not be opened.
     CannotOpen(Vec<u8>),
+    /// The file of trust bundles has the bundle of one trust domain, without its name.
+    Unnamed,
     /// A validator ID is not 32 hexadecimal digits.
     BadValidatorId,
 }
@@ -115,6 +117,7 @@ impl Failure {
     {
         match self {
             Failure::Tool { fault, .. } => fault.status(),
+            Failure::Unnamed => 1,
             Failure::CannotOpen(_) | Failure::BadValidatorId => 2,
         }
     }
@@ -125,6 +128,7 @@ impl Failure {
     {
         match self {
             Failure::Tool { fault, first } => tool_sentence(*fault, *first),
+            Failure::Unnamed => Sentence::BundlesUnnamed,
             Failure::CannotOpen(_) => Sentence::CannotOpen,
             Failure::BadValidatorId => Sentence::BadPlace,
         }
@@ -136,6 +140,7 @@ impl Failure {
     {
         match self {
             Failure::Tool { fault, .. } => tool_input(*fault),
+            Failure::Unnamed => 1,
             Failure::CannotOpen(_) | Failure::BadValidatorId => 0,
         }
     }
@@ -146,6 +151,7 @@ impl Failure {
         match self {
             Failure::Tool { fault, .. } => writeln!(to, "{fault}"),
             Failure::BadValidatorId => to.write_all(b"svid: bad place\n"),
+            Failure::Unnamed => to.write_all(b"svid: bundles: Unnamed\n"),
             Failure::CannotOpen(name) => {
                 write_unopened(name, to)?;
                 to.write_all(b"\n")

@@ -70,6 +70,14 @@ impl<'a> Input<'a> {
         self.first
     }
 
+    /// The bytes of what the program made.
+    pub fn made(&self) -> &[u8] {
+        match &self.stream {
+            Stream::Made(bytes) => bytes.get_ref(),
+            _ => &[],
+        }
+    }
+
     fn read(&mut self, room: &mut [u8]) -> io::Result<usize>
         ensures bound { ReadsAtMost result room.new }
         ensures faults { self.new.faults ≡ self.old.faults }

@@ -41,6 +41,8 @@ pub enum Sentence {
     BundlesDomain { index: usize },
     /// A name of the bundles has no list of keys.
     BundlesKeys { index: usize },
+    /// The bundles are those of one trust domain, without its name.
+    BundlesUnnamed,
     /// A validator ID is not 32 hexadecimal digits.
     BadPlace,
     /// A file was not opened.
@@ -175,6 +177,10 @@ impl<'a> fmt::Display for Words<'a> {
             Sentence::BundlesKeys { index } => write!(
                 f,
                 "{input} is no file of trust bundles: a name has no list of keys. It is the one behind {index} others in rising order. Write a JWK Set under that name, or take it out."
+            ),
+            Sentence::BundlesUnnamed => write!(
+                f,
+                "{input} is the bundle of one trust domain, without its name. Name it: give --trust-domain NAME too."
             ),
             Sentence::BadPlace => f.write_str(
                 "The value of --validator-id is not 32 hexadecimal digits. Choose 32 that no other validator has, and give them each time.",
