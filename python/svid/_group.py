@@ -199,10 +199,11 @@ def _watch(of: weakref.ref[GroupStore], end: End) -> None:
             store._forget(state.time)
             why = ""
         except Exception as now:
-            if not why and not end.is_said and getattr(now, "name", "") != "run":
+            compares = getattr(now, "name", "") == "run"
+            if not (why or end.is_said or compares):
                 # (a record that somebody keeps must not keep the store)
                 _warn("the group's store can't be looked at: %s", str(now))
-            why = str(now) or "unknown"
+            why = why if compares else str(now) or "unknown"
         del store
         end.wait(max(0.0, begun + said.STATE_EVERY / 1000 - time.monotonic()))
 
