@@ -117,7 +117,7 @@ async function put(store, ...claims) {
 const isOf = async (store, n, owner, by = OWNER) => Buffer.compare((await put(store, claim(n, by))).owner, owner) === 0;
 
 test("each test of a store in Go is run", async () => {
-  const others = ["TestRights", "TestOptions", "TestRecords", "TestSlots", "TestNoTextIsAnID", "TestARecordThatChangedMeanwhile", "TestCluster",
+  const others = ["TestRights", "TestAKeyOfAnUnknownAlgorithm", "TestOptions", "TestRecords", "TestSlots", "TestNoTextIsAnID", "TestARecordThatChangedMeanwhile", "TestCluster",
     "TestClusterWithoutOneServer", "TestClusterTakeover", "TestServersThatHang"];
   const { stdout } = await run(binary, ["-test.list", "^Test"]);
   assert.deepEqual([...Object.values(TESTS).join("|").split("|"), ...others].sort(), stdout.trim().split("\n").sort());

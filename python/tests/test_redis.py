@@ -40,6 +40,7 @@ TESTS = {
 # Those of what only the member in Go has.
 OTHERS = {
     "TestRights",
+    "TestAKeyOfAnUnknownAlgorithm",
     "TestOptions",
     "TestRecords",
     "TestSlots",
