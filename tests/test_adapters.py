@@ -54,7 +54,8 @@ RULES = {
 
 # What answers requests by a member of the library, and what hands requests to it. Stores are none of these: they keep what they are told.
 SHELLS = re.compile(
-    r"^(go/(internal/server|guard|svidhttp|cmd/svidd|svid)|python/svid|node/src|rust/svid/src|java/src/main)/(?!(java/svid/)?[Pp]ostgres|_group|redis|answers|group-store)"
+    r"^(go/(internal/server|guard|svidhttp|cmd/svidd|svid)|python/svid|node/src|rust/svid/src|java/src/main)/"
+    r"(?!(java/svid/)?[Pp]ostgres|_group|redis|answers|group-store)"
 )
 
 # What a shell must not decide, since the member does, and lines that it must not have.
