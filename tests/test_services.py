@@ -110,8 +110,6 @@ def of_node(room):
     for pattern in "pg*", "postgres-*", "buffer-writer", "obuf", "packet-reader", "split2", "xtend":
         for it in debian.glob(pattern):
             shutil.copytree(it, modules / it.name)
-    for it in "redis", "@redis", "cluster-key-slot", "generic-pool", "yallist":
-        shutil.copytree(f"/usr/share/nodejs/{it}", modules / it)
     shutil.copy(SERVICES / "service.mjs", room.folder)
     return ["node", "service.mjs"]
 
