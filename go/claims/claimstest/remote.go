@@ -144,7 +144,7 @@ var remotes struct {
 	count int
 }
 
-// NewRemote makes a store, of which the client is told these words.
+// NewRemote is a store of the client with these terms, this name, so many replicas and these addresses.
 func NewRemote(o claims.Terms, name string, replicas int, more ...string) (*Remote, error) {
 	c, err := startClient()
 	if err != nil {

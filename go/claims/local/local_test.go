@@ -114,7 +114,7 @@ func TestARestartForgetsNothing(t *testing.T) {
 	}
 }
 
-// An entry that is over leaves its key to the next claim, also behind a restart.
+// An entry that is over leaves its key to the next claim, also after a restart.
 func TestWhatIsOverIsClaimedAnew(t *testing.T) {
 	dir, c := filepath.Join(t.TempDir(), "claims"), newClock()
 	key := claimstest.Key()

@@ -85,13 +85,13 @@ func TestASettingThatIsChanged(t *testing.T) {
 	stays(t, before, a)
 }
 
-// rewrites says whether a server writes its file anew.
+// rewrites says whether a server is rewriting its file.
 func (s *machine) rewrites() bool {
 	answer, err := s.Do("EVAL", "return redis.call('INFO', 'persistence'):find('aof_rewrite_in_progress:1') and 1 or 0", "0")
 	return err == nil && answer == ":1"
 }
 
-// rewriting lets a server take hours for what it writes anew, until end: then what writes it is killed, and the next one is quick.
+// rewriting lets a server take hours to rewrite its file. At end that is killed, and the next rewrite is quick.
 func (s *machine) rewriting(t *testing.T) (end func()) {
 	t.Helper()
 	s.do(t, "DEBUG", "POPULATE", "100")

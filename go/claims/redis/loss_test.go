@@ -260,7 +260,8 @@ func TestEachPutLooksAtTheRun(t *testing.T) {
 	follows(t, s)
 	s.do(t, "REPLICAOF", "NO", "ONE")
 	lost.Owner = claimstest.Own(2)
-	if f := claimstest.Try(b, 5*time.Second, lost)[0]; claimstest.Judge(lost, f, 60) == claimstest.Mine {
+	// (a client of another language may look again within the call, and then say whose it is)
+	if f := claimstest.Try(b, 5*time.Second, lost)[0]; claimstest.Judge(lost, f, 60) == claimstest.Mine || f.Err == nil && !claimstest.OfOthers() {
 		t.Errorf("the first put at another run counts: %+v", f)
 	}
 	refused(t, b, lost)

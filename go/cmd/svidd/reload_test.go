@@ -110,7 +110,7 @@ func TestOptionsAreReadAgain(t *testing.T) {
 	}
 }
 
-// SIGHUP takes over audiences and callers, both or none, in each mode. What was accepted before stays used, also behind a restart.
+// SIGHUP takes over audiences and callers, both or none, in each mode. What was accepted before stays used, also after a restart.
 func TestAudiencesAndCallersAreReadAgain(t *testing.T) {
 	t.Parallel()
 	nats := natstest.Start(t)

@@ -55,7 +55,7 @@ func launched(s *stage) *stage {
 	return s
 }
 
-// inStrange is a stage with this kind of store, of which something happens once it is ready.
+// inStrange is a stage with this kind of store. Once it is ready, something happens to that.
 func inStrange(kind string, what func(t *testing.T, s storeServer)) func(t *testing.T, mode string) *stage {
 	return func(t *testing.T, mode string) *stage {
 		server, url := stores[kind](t)

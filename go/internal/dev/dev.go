@@ -227,7 +227,7 @@ func (d *Desk) Endpoint(hint time.Duration) http.Handler {
 	})
 }
 
-// EndpointTLS shows its certificate, which is made anew before it expires.
+// EndpointTLS shows its certificate, which is renewed before it expires.
 func (d *Desk) EndpointTLS() *tls.Config {
 	var mu sync.Mutex
 	var shown *tls.Certificate
