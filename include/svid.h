@@ -105,7 +105,7 @@ enum svid_status {
     SVID_OWN_NOT_UTF8 = 35,       /* an audience of the validator's own is not UTF-8 */
     SVID_OWN_LENGTHS = 36,        /* the lengths of the audiences do not add up to the length of `own` */
 
-    /* what svid_bundles_join answers beside SVID_BUNDLES_NOT_OBJECT to _KEYS; told: input, the number of the document, counted from 1; offset */
+    /* of bundles too: _UNNAMED wherever they are read, and the others by svid_bundles_join; there told: input, the number of the document, counted from 1; offset */
     SVID_BUNDLES_UNNAMED = 37, /* the bundle of one trust domain, without its name */
     SVID_BUNDLES_TWICE = 38,   /* an earlier document has a bundle of this trust domain */
     SVID_BUNDLES_LENGTHS = 39, /* the lengths of the documents do not add up to the length of `bytes`; nothing is told beside it */
@@ -333,9 +333,9 @@ typedef struct {
 } svid_key;
 
 /* Opens a closed validator with an empty record. `own` are its own audiences, one a line; empty lines are passed over. `bundles` are the
- * trust bundles as JSON, an object from trust domain names to JWK sets. SVID_IS_OPEN; SVID_OWN_NOT_UTF8; SVID_TOO_MUCH and
- * SVID_BUNDLES_NOT_OBJECT to SVID_BUNDLES_KEYS. Unless the status is SVID_OK, the validator stays as it was. To go on with a saved record,
- * take it by svid_validator_take. */
+ * trust bundles as JSON, an object from trust domain names to JWK sets. SVID_IS_OPEN; SVID_OWN_NOT_UTF8; SVID_TOO_MUCH,
+ * SVID_BUNDLES_NOT_OBJECT to SVID_BUNDLES_KEYS and SVID_BUNDLES_UNNAMED. Unless the status is SVID_OK, the validator stays as it was. To go
+ * on with a saved record, take it by svid_validator_take. */
 uint32_t svid_validator_open(svid_validator *v, const svid_terms *terms, const uint8_t *own, size_t own_len,
                              const uint8_t *bundles, size_t bundles_len, svid_told *told);
 
@@ -349,8 +349,8 @@ uint32_t svid_validator_open_by_lengths(svid_validator *v, const svid_terms *ter
 void svid_validator_close(svid_validator *v);
 
 /* Replaces the trust bundles. The record stays, so a token that was accepted before is still SVID_REPLAYED. If the new bundles are
- * refused (SVID_TOO_MUCH, SVID_BUNDLES_NOT_OBJECT to SVID_BUNDLES_KEYS), the old ones stay. The call takes five microseconds for each key;
- * svid_validator_renew_by takes none of that under the validator's lock. */
+ * refused (SVID_TOO_MUCH, SVID_BUNDLES_NOT_OBJECT to SVID_BUNDLES_KEYS, SVID_BUNDLES_UNNAMED), the old ones stay. The call takes five
+ * microseconds for each key; svid_validator_renew_by takes none of that under the validator's lock. */
 uint32_t svid_validator_bundles(svid_validator *v, const uint8_t *bundles, size_t bundles_len, svid_told *told);
 
 /* A token that is read once, by svid_token_open, for the calls that look for its keys, judge and check it. None of these hashes it. It shares
@@ -893,8 +893,8 @@ uint32_t svid_bundles_join(const uint8_t *bytes, size_t bytes_len, const svid_do
                            uint8_t *out, size_t out_len, svid_told *told);
 
 /* Opens a closed handle: reads trust bundles, as for svid_validator_open. SVID_IS_OPEN: the handle stays as it was. SVID_TOO_MUCH,
- * SVID_NO_MEMORY and SVID_BUNDLES_NOT_OBJECT to SVID_BUNDLES_KEYS: the handle stays closed. The bundles are no object also if they nest more
- * than 127 deep, and `keys` may be null: then the trust domain has no key. */
+ * SVID_NO_MEMORY, SVID_BUNDLES_NOT_OBJECT to SVID_BUNDLES_KEYS and SVID_BUNDLES_UNNAMED: the handle stays closed. The bundles are no object
+ * also if they nest more than 127 deep, and `keys` may be null: then the trust domain has no key. */
 uint32_t svid_bundles_open(svid_bundles *b, const uint8_t *bundles, size_t bundles_len, svid_told *told);
 
 /* Closes a handle, and frees all that it holds. Does nothing to a closed one. */

@@ -107,16 +107,6 @@ var statusErrors = map[C.uint32_t]error{
 	C.SVID_UNASKED:            ErrUnasked,
 }
 
-// ofBundles is the error of a call that has read these bundles. (To that call the `keys` of one bundle without a name are a name. A join knows better.)
-func ofBundles(status C.uint32_t, told *C.svid_told, text []byte) error {
-	if status == C.SVID_BUNDLES_DOMAIN || status == C.SVID_BUNDLES_KEYS {
-		if _, _, joined := join(text, []C.svid_document{{text_len: C.size_t(len(text))}}); joined == C.SVID_BUNDLES_UNNAMED {
-			return &BundleError{Reason: "Unnamed"}
-		}
-	}
-	return failure(status, told)
-}
-
 // failure is the error of a status, or nil for SVID_OK.
 func failure(status C.uint32_t, told *C.svid_told) error {
 	switch {
@@ -132,6 +122,8 @@ func failure(status C.uint32_t, told *C.svid_told) error {
 		return &BundleError{Reason: "Domain", Index: int(told.offset)}
 	case status == C.SVID_BUNDLES_KEYS:
 		return &BundleError{Reason: "Keys", Index: int(told.offset)}
+	case status == C.SVID_BUNDLES_UNNAMED:
+		return &BundleError{Reason: "Unnamed"}
 	}
 	if err, ok := statusErrors[status]; ok {
 		return err

@@ -116,7 +116,7 @@ func openAskers(bundles []byte) (chan *asker, error) {
 func (a *asker) open(bundles []byte) error {
 	var terms C.svid_terms
 	status := C.svid_validator_open(&a.handle, &terms, nil, 0, start(bundles), C.size_t(len(bundles)), &a.told)
-	if err := ofBundles(status, &a.told, bundles); err != nil {
+	if err := failure(status, &a.told); err != nil {
 		return err
 	}
 	status = C.svid_bundles_open(&a.lent, start(noBundles), C.size_t(len(noBundles)), &a.told)

@@ -22,7 +22,7 @@ import "runtime"
 func (v *Validator) SetBundles(bundles []byte) error {
 	var b C.svid_bundles
 	var told C.svid_told
-	if err := ofBundles(C.svid_bundles_open(&b, start(bundles), C.size_t(len(bundles)), &told), &told, bundles); err != nil {
+	if err := failure(C.svid_bundles_open(&b, start(bundles), C.size_t(len(bundles)), &told), &told); err != nil {
 		return err
 	}
 	defer freed(&b, len(bundles))
@@ -36,7 +36,7 @@ func CheckBundles(bundles []byte) error {
 	var b C.svid_bundles
 	var told C.svid_told
 	defer freed(&b, len(bundles))
-	return ofBundles(C.svid_bundles_open(&b, start(bundles), C.size_t(len(bundles)), &told), &told, bundles)
+	return failure(C.svid_bundles_open(&b, start(bundles), C.size_t(len(bundles)), &told), &told)
 }
 
 // Renew replaces the trust bundles of the validator and of its keyring as one: no
@@ -69,7 +69,7 @@ type renewal struct {
 // openRenewal reads bundles. Errors: ErrBundles, a *BundleError, ErrNoMemory.
 func openRenewal(text []byte) (*renewal, error) {
 	r, told := &renewal{text: text, bundles: new(C.svid_bundles)}, new(C.svid_told)
-	if err := ofBundles(C.svid_bundles_open(r.bundles, start(text), C.size_t(len(text)), told), told, text); err != nil {
+	if err := failure(C.svid_bundles_open(r.bundles, start(text), C.size_t(len(text)), told), told); err != nil {
 		return nil, err
 	}
 	trim(len(text)) // The askers may be read by another thread, which would not find that room.

@@ -110,7 +110,7 @@ func Open(o Options) (*Validator, error) {
 func (v *Validator) open(own, bundles []byte) error {
 	status := C.svid_validator_open(&v.handle, &v.terms, start(own), C.size_t(len(own)),
 		start(bundles), C.size_t(len(bundles)), &v.told)
-	return ofBundles(status, &v.told, bundles)
+	return failure(status, &v.told)
 }
 
 // audienceLines writes audiences one a line, as the library wants them.

@@ -202,12 +202,8 @@ export function ofStatus(status, told) {
   return new SvidError(`the library answered ${status}, which include/svid.h explains`);
 }
 
-/**
- * The same, of a call that reads bundles. `joined` is what a join answers of them alone: to the call, the `keys` of a bundle without a name are a
- * name.
- */
-export function ofBundles(status, told, joined) {
-  if (RANKED.has(status) && joined() === BUNDLES_UNNAMED) return ofBundles(BUNDLES_UNNAMED, told);
+/** The same, of a call that reads bundles. */
+export function ofBundles(status, told) {
   if (!BUNDLE_FAULTS.has(status)) return ofStatus(status, told);
   return new BadBundles(wordsOf(status, RANKED.has(status) ? `It is number ${told.offset} of the names in rising order, counted from 0.` : ""));
 }

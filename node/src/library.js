@@ -165,7 +165,7 @@ export class Library {
       this.#setWords(at, [terms.longest, terms.ahead, terms.step]);
       this.#set(at + 24n, terms.validatorId);
       const status = this.#call("svid_validator_open_by_lengths", this.#handle, at, ...this.#audiences(own, lend, room), ...lend(bundles));
-      if (status !== OK) throw this.#unread(status, bundles);
+      if (status !== OK) throw ofBundles(status, this.#told());
     });
   }
 
@@ -174,7 +174,7 @@ export class Library {
     const bundles = this.#joined(given);
     this.#within(({ lend }) => {
       const status = this.#call("svid_validator_bundles", this.#handle, ...lend(bundles));
-      if (status !== OK) throw this.#unread(status, bundles);
+      if (status !== OK) throw ofBundles(status, this.#told());
     });
   }
 
@@ -184,7 +184,7 @@ export class Library {
     const bundles = this.#joined(given);
     this.#within(({ lend }) => {
       const status = this.#call("svid_bundles_open", this.#handle, ...lend(bundles));
-      if (status !== OK) throw this.#unread(status, bundles);
+      if (status !== OK) throw ofBundles(status, this.#told());
     });
   }
 
@@ -192,15 +192,6 @@ export class Library {
   readBundle(domain, text) {
     this.openBundles([[domain, text]]);
     this.#run("svid_bundles_close", this.#handle);
-  }
-
-  // The error of a call that has read these bundles.
-  #unread(status, bundles) {
-    return ofBundles(status, this.#told(), () => this.#within(({ room, lend }) => {
-      const document = room(DOCUMENT);
-      this.#setWords(document, [0n, BigInt(bundles.length), 0n]);
-      return this.#written("svid_bundles_join", ...lend(bundles), document, 1n).status;
-    }));
   }
 
   // The one text of bundles. Those of several trust domains, each a name and a text, are joined to it. Throws BadBundles.

@@ -77,15 +77,6 @@ def joined(documents: Sequence[Document], keys: bool = False) -> bytes:
     return bytes(room[: told.len])
 
 
-def is_unnamed(text: bytes) -> bool:
-    """Whether a text is the bundle of one trust domain, without its name."""
-    try:
-        joined([Document("", None, text)])
-    except BadBundles as fault:
-        return isinstance(fault, Unnamed)
-    return False
-
-
 def bundle_words(status: int, offset: int) -> str:
     """What a status says of bundles, and of which name of them."""
     if status not in (lib.BUNDLES_DOMAIN, lib.BUNDLES_KEYS, lib.BUNDLES_TWICE):

@@ -11,7 +11,7 @@ from collections.abc import Callable, Iterator
 from typing import Any
 
 from . import _library as lib
-from ._bundles import bundle_words, is_unnamed
+from ._bundles import bundle_words
 from ._signatures import Verifies
 from ._token import Token
 from ._words import REASONS, no_memory, reason, said
@@ -85,7 +85,7 @@ class Handle:
         opens = lib.library.svid_validator_open_by_lengths
         status = opens(self._at, *lent, bundles, len(bundles), self._told_at)
         if status != lib.OK:
-            raise _bundles_fault(status, self._told, bundles)
+            raise _bundles_fault(status, self._told)
         self._freeing = weakref.finalize(self, _close, self._words)
         self._freeing.atexit = False  # a thread that outlives the interpreter may be in a call
         _handles.add(self)
@@ -119,7 +119,7 @@ class Handle:
         at = lib.address(words)
         status = lib.library.svid_bundles_open(at, bundles, len(bundles), lib.address(told))
         if status != lib.OK:
-            raise _bundles_fault(status, told, bundles)
+            raise _bundles_fault(status, told)
         try:
             with self._lock:
                 status = lib.library.svid_validator_renew_by(self._at, at, self._told_at)
@@ -286,13 +286,11 @@ def fault(status: int, told: lib.Told | None = None) -> Exception:
     return RuntimeError(f"libsvid answered {status}, which include/svid.h does not explain")
 
 
-def _bundles_fault(status: int, told: lib.Told, bundles: bytes) -> Exception:
-    """The exception for a status of these bundles that is not OK."""
+def _bundles_fault(status: int, told: lib.Told) -> Exception:
+    """The exception for a status of a call that has read bundles that is not OK."""
     if status == lib.TOO_MUCH:
         return BadBundles(said(status))
-    if status in (lib.BUNDLES_NOT_OBJECT, lib.BUNDLES_DOMAIN, lib.BUNDLES_KEYS):
-        # (To what reads bundles, the `keys` of one without a name are a name: a join knows better.)
-        status = lib.BUNDLES_UNNAMED if is_unnamed(bundles) else status
+    if status in (lib.BUNDLES_NOT_OBJECT, lib.BUNDLES_DOMAIN, lib.BUNDLES_KEYS, lib.BUNDLES_UNNAMED):
         return BadBundles(bundle_words(status, told.offset))
     return fault(status, told)
 

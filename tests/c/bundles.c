@@ -107,7 +107,8 @@ static void listed(void) {
     at = "opening";
     static const struct { const char *text; uint32_t due; size_t offset; } bad[] = {
         { "", SVID_BUNDLES_NOT_OBJECT, 0 }, { "[]", SVID_BUNDLES_NOT_OBJECT, 0 }, { "{\"a\":{\"keys\":[]},\"B\":{\"keys\":[]}}", SVID_BUNDLES_DOMAIN, 0 },
-        { "{\"a\":{\"keys\":[]},\"b\":{}}", SVID_BUNDLES_KEYS, 1 },
+        { "{\"a\":{\"keys\":[]},\"b\":{}}", SVID_BUNDLES_KEYS, 1 }, { "{\"A\":{},\"keys\":{}}", SVID_BUNDLES_DOMAIN, 0 },
+        { "{\"keys\":[]}", SVID_BUNDLES_UNNAMED, 0 }, { "{\"A\":{},\"keys\":null}", SVID_BUNDLES_UNNAMED, 0 }, { "{\"keys\":{}}", SVID_BUNDLES_KEYS, 0 },
     };
     for (size_t i = 0; i < sizeof bad / sizeof *bad; i++) {
         answered = svid_bundles_open(&b, (const uint8_t *)bad[i].text, strlen(bad[i].text), &told);

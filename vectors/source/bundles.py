@@ -147,8 +147,7 @@ def vectors():
         "Keys 0",
         f"{BUNDLES}: the first faulty name",
     )
-    yield domains(SPIRES_FILE, json_text(spire), "Keys 0", f"{BUNDLES}: it has no names of trust domains", ["c"])
-    yield domains(f"{SPIRES_FILE}, for a package or the program", json_text(spire), "Unnamed", f"{BUNDLES}: it has no names of trust domains", ["go", "python", "rust", "svid"])
+    yield domains(SPIRES_FILE, json_text(spire), "Unnamed", f"{BUNDLES}: it has no names of trust domains", ["c", "go", "python", "rust", "svid"])
 
     yield document("SPIRE's file", json_text(spire), accepted())
     yield document(

@@ -21,7 +21,7 @@ use Rattle.svid_check.specs.Verdict.{verdict_on}
 use Rattle.svid_check.specs.declared.accepted.Accepted.{Accepted}
 use Rattle.svid_share.specs.declared.tool_fault.ToolFault.{ToolFault}
 use Rattle.svid_c.specs.Checked.{refusal_number, use_seen}
-use Rattle.svid_c.specs.Inputs.{AreBundles, AreMessages, AreNoBundles, IsRefused, Tells}
+use Rattle.svid_c.specs.Inputs.{AreBundles, AreMessages, IsRefused, RefusesBundles, Tells}
 use Rattle.svid_c.specs.Joined.{IsSummaryRefused}
 use Rattle.svid_c.specs.Own.{Named}
 use Rattle.svid_c.specs.Status.{fault_number, told_fault, told_length}
@@ -94,7 +94,7 @@ pub record IsBegun (own : List (List ℕ)) (bundles : List ℕ) (terms : SvidTer
 -- what comes of a closed handle that is opened with these audiences: it holds a validator that begins; or the bundles are refused
 pub data Begins (bundles : List ℕ) (terms : SvidTerms) (status : ℕ) (told : SvidTold) (new : Option Live) (own : List (List ℕ)) : Type 0 where
   begun : (live : Live) → new ≡ Some live → IsBegun own bundles terms live → status ≡ 0 → told ≡ told_length 0 → Begins bundles terms status told new own
-  not_begun : (why : ToolFault) → new ≡ None → AreNoBundles bundles why → status ≡ fault_number why → told ≡ told_fault why → Begins bundles terms status told new own
+  not_begun : new ≡ None → RefusesBundles bundles status told → Begins bundles terms status told new own
 
 -- what opening answers: the handle was open, and stays as it was; or it was closed, and is opened with the audiences that it is given
 pub data Opens (AreOwn : List (List ℕ) → Type 0) (IsOwnFault : OwnFault → Type 0) (bundles : List ℕ) (terms : SvidTerms) (status : ℕ) (told : SvidTold) (old new : Option Live) : Type 0 where
@@ -157,7 +157,7 @@ gained_by gain.Nothing = adds_nothing
 -- what renewing the bundles does: other bundles stand in the place of those that there were; or they are refused, and nothing happens
 pub data Renews (text : List ℕ) (status : ℕ) (told : SvidTold) (old new : Kept) : Type 0 where
   renewed : (kept : List Bundle) → AreBundles text kept → status ≡ 0 → told ≡ told_length 0 → new ≡ with_bundles old kept → Renews text status told old new
-  unrenewed : (why : ToolFault) → AreNoBundles text why → status ≡ fault_number why → told ≡ told_fault why → new ≡ old → Renews text status told old new
+  unrenewed : RefusesBundles text status told → new ≡ old → Renews text status told old new
 
 -- what a tick does
 pub record Ticks (now status : ℕ) (told : SvidTold) (old new : Kept) : Type 0 where

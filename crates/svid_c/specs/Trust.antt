@@ -15,7 +15,7 @@ use Rattle.svid_check.specs.Setting.{with_bundles}
 use Rattle.svid_check.specs.Verdict.{keys_due}
 use Rattle.svid_share.specs.declared.tool_fault.ToolFault.{ToolFault}
 use Rattle.svid_c.specs.Checked.{RefusesAs, refusal_number}
-use Rattle.svid_c.specs.Inputs.{AreBundles, AreNoBundles}
+use Rattle.svid_c.specs.Inputs.{AreBundles, RefusesBundles}
 use Rattle.svid_c.specs.Live.{Kept}
 use Rattle.svid_c.specs.Status.{fault_number, told_fault, told_length, told_rows}
 use Rattle.svid_c.specs.Written.{IsPut}
@@ -39,7 +39,7 @@ pub record HasRead (text : List ℕ) (new : Option Trust) : Type 0 where
 pub data OpensBundles (text : List ℕ) (status : ℕ) (told : SvidTold) (old new : Option Trust) : Type 0 where
   held_already : (trust : Trust) → old ≡ Some trust → new ≡ old → status ≡ 6 → told ≡ told_length 0 → OpensBundles text status told old new
   opened : old ≡ None → HasRead text new → status ≡ 0 → told ≡ told_length 0 → OpensBundles text status told old new
-  unopened : (why : ToolFault) → old ≡ None → new ≡ None → AreNoBundles text why → status ≡ fault_number why → told ≡ told_fault why → OpensBundles text status told old new
+  unopened : old ≡ None → new ≡ None → RefusesBundles text status told → OpensBundles text status told old new
 
 -- what a call does with what is held: it does what it is for; or nothing is held, this is told, and all is as it was
 pub data ReadsHeld {A : Type 0} (IsAsBefore : Type 0) (Does : A → Type 0) (status : ℕ) (told : SvidTold) (held : Option A) : Type 0 where

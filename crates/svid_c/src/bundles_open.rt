@@ -4,10 +4,10 @@ ghost use Rattle.svid_c.specs.Trust.{HasRead, OpensBundles};
 
 use crate::bundles::SvidBundles;
 use crate::inputs::bundles_of;
+use crate::refuse_bundles::refuse_bundles;
 use crate::told::SvidTold;
 use crate::trust::Trust;
 use crate::validator::only;
-use crate::writing::refuse;
 use std::alloc::Global;
 use svid_share::ToolFault;
 
@@ -36,13 +36,13 @@ fn open(alloc: Global, b: &mut SvidBundles, bundles: &[u8], told: &mut SvidTold)
             b.put(trust);
             only(0, told)
         }
-        Err(fault) => refuse(fault, told),
+        Err(fault) => refuse_bundles(alloc, bundles, fault, told),
     }
 }
 
 /// Opens a closed handle of trust bundles, which it reads from JSON: 0. It keeps no record, and shares nothing with a validator.
 ///
-/// 6 where it is open: then it stays as it was. 3 (of the input 1) and 31 to 33 where the bundles are refused, and 2 for want of memory:
+/// 6 where it is open: then it stays as it was. 3 (of the input 1), 31 to 33 and 37 where the bundles are refused, and 2 for want of memory:
 /// then it is closed.
 #[unsafe(no_mangle)]
 pub extern "C" fn svid_bundles_open(

@@ -56,6 +56,7 @@ mod own_fault;
 mod pacing_sent;
 mod peer;
 mod refusal;
+mod refuse_bundles;
 mod report;
 mod rows;
 mod status_sentence;

@@ -3,9 +3,9 @@ ghost use Rattle.svid_c.specs.Live.{Calls, CallsAt, IsRest, Renews, Ticks};
 
 use crate::inputs::bundles_of;
 use crate::live::Live;
+use crate::refuse_bundles::refuse_bundles;
 use crate::told::{SvidTold, told_length};
 use crate::validator::{SvidValidator, only};
-use crate::writing::refuse;
 use std::alloc::Global;
 
 // Reads other bundles, and puts them in the place of those that there are.
@@ -19,12 +19,12 @@ fn renew(alloc: Global, live: &mut Live, bundles: &[u8], told: &mut SvidTold) ->
             *told = told_length(0);
             0
         }
-        Err(fault) => refuse(fault, told),
+        Err(fault) => refuse_bundles(alloc, bundles, fault, told),
     }
 }
 
-/// Puts other trust bundles in the place of those that there are. The record stays as it is. 3 (of the input 1) and 31 to 33 where
-/// they are refused, and 2 for want of memory: then nothing happened. 5 where the validator is closed.
+/// Puts other trust bundles in the place of those that there are. The record stays as it is. 3 (of the input 1), 31 to 33 and 37
+/// where they are refused, and 2 for want of memory: then nothing happened. 5 where the validator is closed.
 #[unsafe(no_mangle)]
 pub extern "C" fn svid_validator_bundles(
     alloc: Global,

@@ -6,9 +6,9 @@ ghost use Rattle.svid_c.specs.Own.{AreCut, AreLines, IsCutFault, IsLineFault};
 use crate::inputs::bundles_of;
 use crate::live::{Live, Nobody, Store};
 use crate::names::{names_by, names_in};
+use crate::refuse_bundles::refuse_bundles;
 use crate::told::SvidTold;
 use crate::validator::{SvidValidator, only};
-use crate::writing::refuse;
 use std::alloc::Global;
 use svid_check::Validator;
 use svid_replay::Record;
@@ -94,14 +94,14 @@ fn open(
             v.put(live);
             only(0, told)
         }
-        Err(fault) => refuse(fault, told),
+        Err(fault) => refuse_bundles(alloc, bundles, fault, told),
     }
 }
 
 /// Opens a validator that is closed, with a new record: 0. `own` are its audiences, in lines; empty lines are passed over.
 ///
-/// 6 where it is open; 35 where an audience is not UTF-8; 3 (of the input 1) and 31 to 33 where the bundles are refused; 2 for
-/// want of memory. Then it stays as it was.
+/// 6 where it is open; 35 where an audience is not UTF-8; 3 (of the input 1), 31 to 33 and 37 where the bundles are refused; 2
+/// for want of memory. Then it stays as it was.
 #[unsafe(no_mangle)]
 pub extern "C" fn svid_validator_open(
     alloc: Global,

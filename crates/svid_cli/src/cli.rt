@@ -7,7 +7,7 @@ use crate::kept::Kept;
 use crate::mistake::one_line;
 use crate::refusals::{JSON, LINES};
 use crate::sentence::Words;
-use crate::trust_domain::{bundles_of, is_unnamed};
+use crate::trust_domain::bundles_of;
 use crate::words::{bytes_of_text, words};
 use clap::error::ErrorKind;
 use clap::{ArgMatches, Error};
@@ -17,6 +17,7 @@ use std::env::Env;
 use std::fs::File;
 use std::io::{BufWriter, Cursor, Write};
 use std::{io, str};
+use svid_documents::is_unnamed;
 use svid_keys::BundleFault;
 use svid_lines::{CheckSetting, run_candidates, run_check, run_id};
 use svid_share::{ToolFault, read_input, run_answer, run_merge, run_report, run_summary};
@@ -174,12 +175,17 @@ fn trusted<'a>(
 
 // Why an engine gave up that read these bundles: they may be the bundle of one trust domain, which nobody named.
 fn refused(rt: &HostRuntime, bundles: &Input<'_>, failure: Failure) -> Failure {
-    match &failure {
-        Failure::Tool {
-            fault: ToolFault::Bundles(BundleFault::Keys(_)),
-            ..
-        } if is_unnamed(rt.alloc(), bundles.made()) => Failure::Unnamed,
-        _ => failure,
+    let Failure::Tool {
+        fault: ToolFault::Bundles(BundleFault::Domain(_) | BundleFault::Keys(_)),
+        ..
+    } = &failure
+    else {
+        return failure;
+    };
+    match is_unnamed(rt.alloc(), bundles.made()) {
+        Ok(true) => Failure::Unnamed,
+        Ok(false) => failure,
+        Err(error) => Failure::from(error),
     }
 }
 

@@ -1,13 +1,10 @@
 //! The bundle of one trust domain, as SPIRE prints it, made an object of trust domains.
-ghost use Rattle.std.specs.Prelude.{◌≡◌, ◌∷◌, [], Err, IfErr, IfOk, true};
-ghost use Rattle.svid_documents.specs.Document.{bundles};
-ghost use Rattle.svid_documents.specs.Join.{IsJoined, joined};
-ghost use Rattle.svid_documents.specs.declared.document_fault.DocumentFault.TheVariants.{Unnamed};
-ghost use Rattle.svid_documents.specs.declared.join_fault.JoinFault.{JoinFault};
+ghost use Rattle.std.specs.Prelude.{◌≡◌, IfErr, IfOk};
+ghost use Rattle.svid_documents.specs.Join.{IsJoined};
 ghost use Rattle.svid_cli.specs.TrustDomain.{IsNoBundleOf, bundle_fault, only};
 
 use std::alloc::Global;
-use svid_documents::{Document, DocumentFault, JoinFault, join};
+use svid_documents::{Document, DocumentFault, join};
 use svid_keys::BundleFault;
 
 fn bundle_fault(fault: DocumentFault) -> BundleFault
@@ -29,20 +26,5 @@ pub fn bundles_of(alloc: Global, domain: &str, text: &[u8]) -> Result<Vec<u8>, B
     match join(alloc, &[Document::Bundle { domain, text }]) {
         Ok(bundles) => Ok(bundles),
         Err(given) => Err(bundle_fault(given.fault)),
-    }
-}
-
-/// Whether a text is the bundle of one trust domain, without its name. Where memory is refused it is not.
-pub fn is_unnamed(alloc: Global, text: &[u8]) -> bool
-    ensures { result ≡ true → (given : JoinFault) × (joined (bundles text.now ∷ []) ≡ Err given) × (given.fault ≡ Unnamed) }
-{
-    match join(alloc, &[Document::Bundles(text)]) {
-        Err(
-            JoinFault {
-                fault: DocumentFault::Unnamed,
-                ..
-            },
-        ) => true,
-        _ => false,
     }
 }

@@ -1,5 +1,5 @@
 -- Documents that have trust bundles, and the bundles that each of them has.
-use Rattle.std.specs.Prelude.{ℕ, ◌&&◌, List, drop, take, codes, bytes_eq, if◌then◌else◌, nat_le, is_some, ok_or, Option, Some, None, Result, Ok, Err}
+use Rattle.std.specs.Prelude.{ℕ, ◌&&◌, Bool, List, drop, take, codes, bytes_eq, if◌then◌else◌, nat_le, is_some, ok_or, Option, Some, None, option_and_then, Result, Ok, Err}
 use Rattle.serde_json.specs.Data.{Data, Members, no_members, member, depth}
 use Rattle.serde_json.specs.Find.{as_object}
 use Rattle.svid_token.specs.Json.{json_of}
@@ -29,6 +29,10 @@ name_in domain = if bytes_eq (take 9 domain) (codes "spiffe://") then drop 9 dom
 -- an object is one of trust domains, unless it is the bundle of one, which has no name then
 abbrev pub of_many : Data → Result Members DocumentFault
 of_many d = if is_some (entries_in d) then Err Unnamed else ok_or (as_object d) NotObject
+
+-- a text is the bundle of one trust domain, which has no name by itself
+abbrev pub is_unnamed : List ℕ → Bool
+is_unnamed text = is_some (option_and_then entries_in (json_of text))
 
 -- the bundle of one trust domain under its name, if it is an object that another may hold: one nests 127 deep at the most
 abbrev pub of_one : List ℕ → Data → Result Members DocumentFault

@@ -1,14 +1,15 @@
 //! What holds of the bundles that documents are joined to, and of their entries: the contracts of functions that do nothing.
 
-ghost use Rattle.std.specs.Prelude.{◌≡◌, ℕ, List, ◌∷◌, ◌++◌, IsSome, Ok, Some};
+ghost use Rattle.std.specs.Prelude.{◌≡◌, ◌↔◌, ℕ, List, ◌∷◌, ◌++◌, Err, IsSome, None, Ok, Some, true};
 ghost use Rattle.std.specs.Result.{result_ok};
 ghost use Rattle.serde_json.specs.Data.{Data, Members};
 ghost use Rattle.serde_json.specs.Find.{get_member};
 ghost use Rattle.svid_keys.specs.Bundles.{bundles_in, bundles_of as kept_of};
 ghost use Rattle.svid_keys.specs.Candidates.{bundle_at};
-ghost use Rattle.svid_documents.specs.Document.{DocumentData, bundles_of};
+ghost use Rattle.svid_documents.specs.Document.{DocumentData, bundles, bundles_of, is_unnamed};
 ghost use Rattle.svid_documents.specs.Entry.{kept_text, key_due};
 ghost use Rattle.svid_documents.specs.Join.{IsJoined, joined};
+ghost use Rattle.svid_documents.specs.declared.document_fault.DocumentFault.TheVariants.{Unnamed};
 
 /// The text of joined bundles is bundles, as `svid_keys` reads them: those that were joined.
 pub fn joined_text_is_read()
@@ -35,4 +36,11 @@ pub fn each_domain_is_read_as_alone()
 /// and the text that is answered is that of this key.
 pub fn entries_without_a_reason_are_kept()
     ensures { (domain entry : List ℕ) → result_ok (key_due entry) ≡ kept_text domain entry }
+{}
+
+/// A text is the bundle of one trust domain, without its name, exactly if that is the fault of it as a document;
+/// and then `svid_keys` reads no bundles from it.
+pub fn unnamed_bundles_are_refused()
+    ensures fault { (text : List ℕ) → (is_unnamed text ≡ true) ↔ (bundles_of (bundles text) ≡ Err Unnamed) }
+    ensures unread { (text : List ℕ) → is_unnamed text ≡ true → bundles_in text ≡ None }
 {}

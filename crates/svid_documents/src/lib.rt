@@ -28,6 +28,7 @@ mod join_fault;
 mod joined;
 pub mod laws;
 mod object;
+mod unnamed;
 mod uses;
 
 pub use crate::document::Document;
@@ -36,3 +37,4 @@ pub use crate::entry::key_text;
 pub use crate::entry_fault::EntryFault;
 pub use crate::join_fault::JoinFault;
 pub use crate::joined::join;
+pub use crate::unnamed::is_unnamed;

@@ -1,6 +1,6 @@
 //! Trust bundles, as the library reads and joins them.
 
-use crate::error::{BundlesFault, Error};
+use crate::error::Error;
 use crate::ffi::{self, Document, Handle, Told};
 
 /// Trust bundles that were read, apart from any validator.
@@ -17,7 +17,6 @@ impl Bundles {
         let status = unsafe { ffi::svid_bundles_open(&mut raw, json.as_ptr(), json.len(), &mut told) };
         match status {
             ffi::OK => Ok(Bundles { raw }),
-            ffi::BUNDLES_DOMAIN | ffi::BUNDLES_KEYS if is_unnamed(json) => Err(Error::Bundles(BundlesFault::Unnamed)),
             status => Err(Error::of(status, &told)),
         }
     }
@@ -28,14 +27,6 @@ impl Drop for Bundles {
         // SAFETY: the handle is open, and this is its last call.
         unsafe { ffi::svid_bundles_close(&mut self.raw) }
     }
-}
-
-/// Whether a text is the bundle of one trust domain, without its name. (To a call that reads bundles, its `keys` are a name: a join knows better.)
-fn is_unnamed(json: &[u8]) -> bool {
-    let (one, mut told) = (Document { name_len: 0, text_len: json.len(), keys: 0 }, Told::default());
-    // SAFETY: there is one document, the input is a slice with its length, and nothing is written where there is no room.
-    let status = unsafe { ffi::svid_bundles_join(json.as_ptr(), json.len(), &one, 1, std::ptr::null_mut(), 0, &mut told) };
-    status == ffi::BUNDLES_UNNAMED
 }
 
 /// The text of several bundles, each with the name of its trust domain, and of objects from names to bundles, which have none.

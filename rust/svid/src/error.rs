@@ -80,6 +80,7 @@ impl Error {
             ffi::BUNDLES_NOT_OBJECT => Error::Bundles(BundlesFault::NotObject),
             ffi::BUNDLES_DOMAIN => Error::Bundles(BundlesFault::Domain { number: told.offset }),
             ffi::BUNDLES_KEYS => Error::Bundles(BundlesFault::Keys { number: told.offset }),
+            ffi::BUNDLES_UNNAMED => Error::Bundles(BundlesFault::Unnamed),
             _ => Error::unexpected(status),
         }
     }

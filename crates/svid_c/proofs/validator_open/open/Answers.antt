@@ -5,4 +5,4 @@ pub returns-in-Ok : goal.returns-in-Ok
 returns-in-Ok c = begun c.in-Ok.live.value c.put.ensures c.in-Ok.ensures.ok c.only.ensures.status c.only.ensures.told
 
 pub returns-in-Err : goal.returns-in-Err
-returns-in-Err c = not_begun c.in-Err.fault c.requires c.in-Err.ensures.fault c.refuse.ensures.number c.refuse.ensures.told
+returns-in-Err c = not_begun c.requires c.refuse_bundles.ensures

@@ -47,8 +47,7 @@ class State implements Runnable {
             terms.setLong(Library.Terms.STEP, options.step());
             terms.write(Library.Terms.VALIDATOR_ID, id, 0, id.length);
             Pointer text = lent.put(bundles);
-            told.mustRead(text, bundles.length,
-                    Library.svid_validator_open_by_lengths(handle, terms, own, len, lens, audiences.size(), text, bundles.length, told.at));
+            told.must(Library.svid_validator_open_by_lengths(handle, terms, own, len, lens, audiences.size(), text, bundles.length, told.at));
         }
     }
 
@@ -124,7 +123,7 @@ class State implements Runnable {
             Pointer fresh = lent.take(Library.Handle.SIZE);
             fresh.clear(Library.Handle.SIZE);
             Pointer text = lent.put(bundles);
-            said.mustRead(text, bundles.length, Library.svid_bundles_open(fresh, text, bundles.length, said.at));
+            said.must(Library.svid_bundles_open(fresh, text, bundles.length, said.at));
             try {
                 said.must(locked(v -> {
                     edition++;

@@ -72,6 +72,7 @@ public abstract sealed class SvidException extends RuntimeException {
             case NOT_ALLOWED:
                 return new NotAllowed();
             case BUNDLES_NOT_OBJECT:
+            case BUNDLES_UNNAMED:
                 return new BadBundles(status, 0);
             case BUNDLES_DOMAIN:
             case BUNDLES_KEYS:

@@ -34,24 +34,6 @@ final class Told {
         }
     }
 
-    /** Throws what the status of a call says that has read bundles, and is not OK. */
-    void mustRead(Pointer bundles, long len, int status) {
-        Status read = Status.of(status);
-        if (read == Status.BUNDLES_DOMAIN || read == Status.BUNDLES_KEYS) {
-            // (to that call, the `keys` of a bundle without a name are a name: a join knows better)
-            try (Room room = new Room()) {
-                Pointer document = room.take(Library.Document.SIZE);
-                document.clear(Library.Document.SIZE);
-                document.setLong(Library.Document.TEXT_LEN, len);
-                int joined = Library.svid_bundles_join(bundles, len, document, 1, Pointer.NULL, 0, new Told(room).at);
-                if (Status.of(joined) == Status.BUNDLES_UNNAMED) {
-                    throw new SvidException.BadBundles(Status.BUNDLES_UNNAMED, 0);
-                }
-            }
-        }
-        must(status);
-    }
-
     /** Throws what a status says that is not OK. */
     void accept(int status) throws Refusal {
         Refusal.Reason reason = Refusal.Reason.of(status);
