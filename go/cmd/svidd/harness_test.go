@@ -21,6 +21,7 @@ import (
 	"svid.example/go/v3/internal/broker"
 	"svid.example/go/v3/internal/issuer"
 	"svid.example/go/v3/internal/patience"
+	"svid.example/go/v3/internal/scarce"
 	"svid.example/go/v3/svid"
 )
 
@@ -30,6 +31,17 @@ const asSvidd = "SVIDD_TEST_IS_SVIDD"
 // jumpedBy, in the environment, names a file that says how many seconds svidd's clock is ahead of this machine's. (Nothing else can
 // set the clock of one process.)
 const jumpedBy = "SVIDD_TEST_CLOCK"
+
+// starvedBy, in the environment, names a pipe. Once a test opens it, the system refuses svidd memory.
+const starvedBy = "SVIDD_TEST_MEMORY"
+
+// starve waits until somebody opens the pipe.
+func starve(pipe string) {
+	if _, err := os.OpenFile(pipe, os.O_RDONLY, 0); err != nil {
+		panic(err)
+	}
+	scarce.Everywhere()
+}
 
 func aheadBy(file string) uint64 {
 	text, err := os.ReadFile(file)
@@ -47,6 +59,9 @@ func TestMain(m *testing.M) {
 	if os.Getenv(asSvidd) != "" {
 		if name := os.Getenv(jumpedBy); name != "" {
 			clock = func() uint64 { return svid.Now() + aheadBy(name) }
+		}
+		if pipe := os.Getenv(starvedBy); pipe != "" {
+			go starve(pipe)
 		}
 		os.Exit(run(os.Args[1:], stdio{os.Stdin, os.Stdout, os.Stderr}))
 	}
@@ -223,6 +238,23 @@ func (p *process) awaitFor(most time.Duration, what string, is func() bool) {
 			p.t.Fatalf("waited %v for: %s\n%s", most, what, p.log)
 		}
 	}
+}
+
+// meanwhile does this each second, until the test ends.
+func (p *process) meanwhile(do func()) {
+	ended, done := make(chan struct{}), make(chan struct{})
+	go func() {
+		defer close(done)
+		for {
+			do()
+			select {
+			case <-ended:
+				return
+			case <-time.After(time.Second):
+			}
+		}
+	}()
+	p.t.Cleanup(func() { close(ended); <-done })
 }
 
 // kill ends the process as a crash does, if it runs.

@@ -338,7 +338,7 @@ func TestReadyzTable(t *testing.T) {
 						s.want(s.token(fmt.Sprint("row", i)), map[string]int{"200": 200, "403": 403, "503": 503}[r.check], r.reason)
 					}
 				}
-				if r.reason != "NotReady" && r.reason != "ClockJump" {
+				if r.reason != "NotReady" && r.reason != "ClockJump" && r.reason != "NoMemory" {
 					s.want("a.b.c", 401, "HeaderSpelling")
 				}
 				if !isSo() {

@@ -10,6 +10,7 @@ import (
 	"os/exec"
 	"path/filepath"
 	"strings"
+	"syscall"
 	"testing"
 	"time"
 
@@ -120,6 +121,23 @@ func init() {
 			must(t, p.Do("SELECT pg_reload_conf()"))
 		}),
 		"NATS is away": inStrange("NATS", func(_ *testing.T, s storeServer) { s.Kill() }),
+		"The system refuses memory for a token": func(t *testing.T, mode string) *stage {
+			pipe := filepath.Join(t.TempDir(), "pipe")
+			must(t, syscall.Mkfifo(pipe, 0o600))
+			s := newStage(t, mode, bundleOption(bundleFile(t, example)))
+			s.more = []string{starvedBy + "=" + pipe}
+			s.start()
+			starve, err := os.OpenFile(pipe, os.O_WRONLY, 0)
+			must(t, err)
+			t.Cleanup(func() { must(t, starve.Close()) })
+			isRefused := func() bool { // Only a token shows it, and for some seconds.
+				status, _, _ := s.check(s.token("shows"))
+				return status == http.StatusServiceUnavailable
+			}
+			s.await("a token that memory is refused for", isRefused)
+			s.meanwhile(func() { _ = isRefused() })
+			return s
+		},
 	} {
 		plays[state] = play
 	}

@@ -22,7 +22,12 @@ static _Thread_local long left = -1;
 static _Thread_local int all;
 static _Thread_local long refused;
 
-static int refuse(void) {
+// Whether no thread gets more than a little. (The start of a thread takes 24 bytes, and Go ends the process where it gets none.)
+enum { LITTLE = 64 };
+static atomic_int scarce;
+
+static int refuse(size_t size) {
+    if (size > LITTLE && atomic_load(&scarce)) return 1;
     if (left < 0 || left-- > 0) return 0;
     if (all) left = 0;
     refused++;
@@ -37,10 +42,10 @@ static void *holds(void *new) {
     return new;
 }
 
-void *malloc(size_t size) { return refuse() ? NULL : holds(__libc_malloc(size)); }
+void *malloc(size_t size) { return refuse(size) ? NULL : holds(__libc_malloc(size)); }
 void *calloc(size_t count, size_t size) { return holds(__libc_calloc(count, size)); }
 void *realloc(void *old, size_t size) {
-    if (refuse()) return NULL;
+    if (refuse(size)) return NULL;
     return old ? __libc_realloc(old, size) : holds(__libc_malloc(size));
 }
 void free(void *old) {
@@ -49,6 +54,8 @@ void free(void *old) {
 }
 
 static long held_now(void) { return atomic_load(&held); }
+
+static void set_scarce(int is) { atomic_store(&scarce, is); }
 
 static void from(long n, int every) { left = n, all = every, refused = 0; }
 static long end(void) { left = -1; return refused; }
@@ -75,6 +82,9 @@ func During(n int, all bool, f func()) (refused int) {
 	<-done
 	return refused
 }
+
+// Everywhere refuses, from now on, each allocation of the process that is larger than 64 bytes.
+func Everywhere() { C.set_scarce(1) }
 
 // Held is how many blocks of memory C holds in this process, but for some that it took as it began: two of these numbers tell how many more
 // there are.

@@ -17,7 +17,7 @@ type outlook struct {
 	noRoom atomic.Bool             // in mode once: the state folder does not take the next acceptance
 	away   atomic.Pointer[absence] // since when the group's store has not answered; nil while it does
 	claims atomic.Pointer[absence] // since when it takes no claim, though it may answer; nil while it does, as far as is known
-	memory atomic.Int64            // when memory was last refused for a token, in nanoseconds behind the start; 0 if it was not since a token was judged
+	memory atomic.Int64            // when memory was last refused for a token, in nanoseconds after the start; 0 if it was not since a token was accepted
 
 	looking sync.Mutex // held over a look at the store; guards the fields below
 	said    bool       // that the store has been away for too long
@@ -43,24 +43,24 @@ func (e *Engine) isAway() bool {
 	return e.outlook.away.Load().isLonger(e.Wait) || e.outlook.claims.Load().isLonger(e.Wait)
 }
 
-// starvedFor is for how long memory that was refused for a token makes the engine unready, where no token comes that shows whether there is some.
+// starvedFor is for how long memory that was refused for a token makes the engine unready, where no token is accepted meanwhile.
 const starvedFor = 10 * time.Second
 
 // errStarved: a token would be answered 503.
 var errStarved = errors.New("the system refused memory for a token")
 
-// isStarved says whether memory was refused for the last token.
+// isStarved says whether memory was refused for a token, and none was accepted since.
 func (e *Engine) isStarved() bool {
 	at := e.outlook.memory.Load()
 	return at != 0 && time.Since(e.start)-time.Duration(at) < starvedFor
 }
 
-// noteMemory takes note of whether there was memory for a token.
+// noteMemory takes note of whether there was memory for a token. (A bad one may take none: whoever sends such tokens does not make the engine ready.)
 func (e *Engine) noteMemory(err error) {
 	switch {
 	case errors.Is(err, svid.ErrNoMemory):
 		e.outlook.memory.Store(int64(time.Since(e.start)) | 1) // (0 is none)
-	case e.outlook.memory.Load() != 0:
+	case err == nil && e.outlook.memory.Load() != 0:
 		e.outlook.memory.Store(0)
 	}
 }

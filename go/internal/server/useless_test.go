@@ -102,7 +102,7 @@ func TestAStoreThatTakesNoClaims(t *testing.T) {
 	}
 }
 
-// A sidecar that has no memory for tokens is not ready, until it has memory for one, or none has come for a while.
+// A sidecar that has no memory for tokens is not ready, until it accepts one, or was refused none for a while.
 func TestMemoryThatIsRefusedMakesUnready(t *testing.T) {
 	e := ready(t, engine(t, Options{Mode: Reuse}))
 	e.noteMemory(svid.Expired)
@@ -112,6 +112,9 @@ func TestMemoryThatIsRefusedMakesUnready(t *testing.T) {
 	e.noteMemory(fmt.Errorf("a token: %w", svid.ErrNoMemory))
 	if err := e.Ready(); err != errStarved {
 		t.Errorf("ready is %v", err)
+	}
+	if e.noteMemory(svid.HeaderSpelling); e.Ready() != errStarved {
+		t.Errorf("after a token that takes no memory, ready is %v", e.Ready())
 	}
 	if err := check(e, token("a")); err != nil || e.Ready() != nil {
 		t.Errorf("with memory: %v %v", err, e.Ready())
