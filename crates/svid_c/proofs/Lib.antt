@@ -14,6 +14,7 @@ pub mod LiveLemmas
 pub mod LogLemmas
 pub mod NamesLemmas
 pub mod OfferLemmas
+pub mod RefusedBundlesLemmas
 pub mod SaysLemmas
 pub mod SpkiLemmas
 mod TextsLemmas

@@ -41,14 +41,15 @@ func verify(args []string, std stdio) int {
 	if token == "" {
 		return fail(std, errNoToken)
 	}
-	var over sentences
-	err = o.judge(token, &over)
+	var said heard
+	err = o.judge(token, &said)
+	defer said.exposed.warn(std)
 	var refusal svid.Refusal
 	switch {
 	case errors.As(err, &refusal):
 		fmt.Fprintf(std.err, "refused %s\n%s\n", refusal.String(), refusal.Sentence())
 		if refusal == svid.NoKey || refusal == svid.BadSignature { // One of these keys may have made the signature.
-			over.warn(std)
+			said.over.warn(std)
 		}
 		return exitRefused
 	case err != nil:
@@ -83,9 +84,9 @@ func readToken(std stdio) (string, error) {
 	return token, err
 }
 
-// judge is nil for a token that a validator with an empty record accepts. over gets what is said of keys that are passed over.
-func (o *options) judge(token string, over *sentences) error {
-	text, err := o.readBundles(over)
+// judge is nil for a token that a validator with an empty record accepts.
+func (o *options) judge(token string, said *heard) error {
+	text, err := o.readBundles(said)
 	if err != nil {
 		return err
 	}
@@ -109,7 +110,7 @@ func (o *options) judge(token string, over *sentences) error {
 }
 
 // readBundles reads all bundles once. One that can't be read is an error.
-func (o *options) readBundles(over *sentences) ([]byte, error) {
+func (o *options) readBundles(said *heard) ([]byte, error) {
 	specs, err := o.specs()
 	if err != nil {
 		return nil, err
@@ -131,7 +132,10 @@ func (o *options) readBundles(over *sentences) ([]byte, error) {
 		return nil
 	}, bundles.Options{Check: guard.CheckBundle, Unusable: guard.Unusable(o.rsaBits), Log: func(event string, fields ...any) {
 		if why := passedOver(event, fields); why != nil {
-			over.add(why.Error())
+			said.over.add(why.Error())
+		}
+		if event == "bundle has a private key" {
+			said.exposed.add(unread(fields).Error())
 		}
 		if strings.HasPrefix(event, "bundle not read") {
 			select {
@@ -158,6 +162,12 @@ func (o *options) readBundles(over *sentences) ([]byte, error) {
 			return nil, errors.New("the bundles did not come in time")
 		}
 	}
+}
+
+// A heard is what is said of bundles that are read.
+type heard struct {
+	over    sentences // of keys that are skipped
+	exposed sentences // of private keys
 }
 
 // sentences are gathered by several goroutines.

@@ -70,7 +70,7 @@ func TestVerifyReadsOneToken(t *testing.T) {
 }
 
 // Where a token's key is not found, or no key made its signature, verify names each key that was passed over, and which cause makes it none. So does
-// --check-config, which also names a bundle that has a private key.
+// --check-config. Both name a bundle that has a private key.
 func TestKeysThatArePassedOver(t *testing.T) {
 	t.Parallel()
 	var set struct {
@@ -127,6 +127,12 @@ func TestKeysThatArePassedOver(t *testing.T) {
 	due := warned(file) + "svidd: warning: " + file + ": it has the private part of a key, and whoever reads it can sign tokens of this trust domain: take that part out, and replace the key\n"
 	if status, _, said := here("", append(check, bundleOption(file))...); status != 0 || said != due {
 		t.Errorf("a private key: %d %q", status, said)
+	}
+	exposed := strings.TrimPrefix(due, warned(file))
+	for token, due := range map[string]string{example.Token("ES256", claims): exposed, noKey: warned(file) + exposed} {
+		if status, _, said := here(token, "verify", "--audience", "ledger", bundleOption(file)); !strings.HasSuffix(said, due) || status == 0 != (said == exposed) {
+			t.Errorf("verify, of a private key: %d %q", status, said)
+		}
 	}
 }
 
