@@ -41,7 +41,7 @@ func verify(args []string, std stdio) int {
 	if token == "" {
 		return fail(std, errNoToken)
 	}
-	var said heard
+	var said spoken
 	err = o.judge(token, &said)
 	defer said.exposed.warn(std)
 	var refusal svid.Refusal
@@ -85,7 +85,7 @@ func readToken(std stdio) (string, error) {
 }
 
 // judge is nil for a token that a validator with an empty record accepts.
-func (o *options) judge(token string, said *heard) error {
+func (o *options) judge(token string, said *spoken) error {
 	text, err := o.readBundles(said)
 	if err != nil {
 		return err
@@ -110,7 +110,7 @@ func (o *options) judge(token string, said *heard) error {
 }
 
 // readBundles reads all bundles once. One that can't be read is an error.
-func (o *options) readBundles(said *heard) ([]byte, error) {
+func (o *options) readBundles(said *spoken) ([]byte, error) {
 	specs, err := o.specs()
 	if err != nil {
 		return nil, err
@@ -164,8 +164,8 @@ func (o *options) readBundles(said *heard) ([]byte, error) {
 	}
 }
 
-// A heard is what is said of bundles that are read.
-type heard struct {
+// A spoken is what is said of bundles that are read.
+type spoken struct {
 	over    sentences // of keys that are skipped
 	exposed sentences // of private keys
 }
