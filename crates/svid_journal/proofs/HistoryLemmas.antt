@@ -86,7 +86,7 @@ Front-left title payloads f bytes left front = at f.whole left
     at true is = subst (Front title payloads) (sym is) front
     at false is = subst (Front title payloads) (sym is.1) (Front-more title payloads f.kept is.0 front)
 
--- what is left of a file of which all is on the disk
+-- what is left of a file that is whole on the disk
 pub whole_left : (f : File) (bytes : List ℕ) → f.whole ≡ true → MayLeave f bytes → bytes ≡ f.kept
 whole_left f bytes whole left = subst (λ (b : Bool). MatchBool b (bytes ≡ f.kept) ((rest : List ℕ) × (bytes ≡ f.kept ++ rest))) whole left
 
@@ -962,7 +962,7 @@ module _ (has : List ℕ → Bool) (t : Titles) where
       ⊎_elim (λ before. held_more d newest log flying (held before)) (λ now. inr (inr (list_any-append has log flying ∙ or_right (list_any has log) (list_any has flying) now)))
       (or_cases (list_any has acknowledged) (list_any has flying) (sym (list_any-append has acknowledged flying) ∙ a))
 
-  -- one frame flies where its length is told
+  -- one frame is in flight where its length is given
   one_flies : (title : List ℕ) (number flies : ℕ) (flying : Payloads) → flies ≡ length (frames_of title number flying) → length flying ≤ 1 → (flies == 0) ≡ false → length flying ≡ 1
   one_flies title number flies [] long one some = absurd (true≢false (sym (eq-eqb flies 0 long) ∙ some))
   one_flies title number flies (p ∷ []) long one some = refl

@@ -78,7 +78,7 @@ is_unkept before mid after s0 s1 s2 text all same counts = record {
 pub same_says : (table questions : List (List ℕ)) → ((question : List ℕ) → is_among question table ≡ is_among question questions) → table_says table ≡ table_says questions
 same_says table questions same = λ i key alg input signature. same (question_of key alg input signature) i
 
--- what the checks come to is what is due to the inputs
+-- the outcome of the checks is what is due to the inputs
 pub comes_to : {R : Type 0} (given : CheckSetting) (inputs : CheckInputs R) (bundles : List Bundle) (table : List (List ℕ)) (tokens : List ℕ) (earlier : State) (outcome : Outcome)
     → AreBundlesRead inputs.bundles bundles → IsTableOf inputs.table table → IsRead inputs.tokens most_bytes tokens → IsEarlier (inputs_of inputs.earlier) earlier
     → outcome ≡ outcome_from (setting_under given bundles (table_says table)) given.now earlier (tokens_of (lines_of tokens))

@@ -94,7 +94,7 @@ module _ (group : ℕ → Terms) (v now : ℕ) where
   own_put : (w : World) (x : Reader) → ((put w v x).members v) ≡ x
   own_put w x = cond-true (v == v) x (w.members v) (eq-eqb v v refl)
 
--- what a member comes to in front of a value
+-- a member that has arrived before a value
 record IsThere (values : List (List Use)) (m m_there : MemberState) (x : State) (position : ℕ) (w a : World) (v : ℕ) : Type 0 where
   member : IsMember values m_there x (a.members v)
   log : a.log ≡ w.log

@@ -1,4 +1,4 @@
--- Of a key of which nothing is told outside of the log, a member's record has what it found first in the log.
+-- Where no use of a key comes from outside the log, a member's record has the use that it found first in the log.
 use Rattle.std.proofs.Common.{◌≡◌, ◌⊎◌, inl, inr, ℕ, ◌+◌, ◌<◌, max, Bool, true, false, ◌||◌, nat_lt, List, [], ◌∷◌, ◌++◌, drop, refl, sym, ap, ◌∙◌, subst, arith}
 use Rattle.std.specs.Prelude.{IsTrue, Option, Some, None, slice_get, ◌==◌}
 use Rattle.std.specs.List.{AllByRecursion}

@@ -54,7 +54,7 @@ with_sound s d fields lt sound u h =
       | inr e ↦ subst IsSound (sym e) (record { fields = fields; sound = ltb-true d.at d.exp lt })
     ]
 
--- a record that was raised to a moment is no earlier
+-- a record that was advanced to a moment is at that moment or later
 pub raised_past : (x y : State) (moment : ℕ) → y ≡ join x (state_of moment []) → moment ≤ y.moment
 raised_past x y moment e =
     let past : moment ≤ max x.moment moment = omega arith in
@@ -300,7 +300,7 @@ gains_stay Replayed x c = refl
 pub held_stays : (x : State) (beside : Uses) (now far : ℕ) (c : Use) → (held_after x beside now far c).moment ≡ (reached x now far c).moment
 held_stays x beside now far c = gains_stay (fate_at x beside now far c) (reached x now far c) c
 
--- a record that is raised to a moment that it has reached stays as it is
+-- a record stays as it is when it is advanced to a moment that it has reached
 pub raised_is_same : (x : State) (moment : ℕ) → IsRecord x → moment ≤ x.moment → raised_to x moment ≡ x
 raised_is_same x moment is le =
     let b = state_of moment [] in

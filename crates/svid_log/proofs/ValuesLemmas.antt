@@ -31,7 +31,7 @@ some_is_none [] some none = absurd (below_none some)
     below_none lt = omega arith
 some_is_none (x ∷ xs) some none = absurd (cc)
 
--- a value has no fault but want of memory
+-- a value has no fault other than out of memory
 no_fault : (bytes : List ℕ) (uses : List Use) (fault : WireFault) → IsValue bytes uses → IsNoValue bytes fault → fault ≡ no_memory
 no_fault bytes uses fault a (inr e) = e
 no_fault bytes uses fault a (inl (messages, stops)) = by_why stops.why

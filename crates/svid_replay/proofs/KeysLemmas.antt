@@ -249,6 +249,6 @@ live_left expired_by moment (u ∷ us) live = elim (nat_lt moment u.exp) as (λ 
   | false ↦ λ _. live_left expired_by moment us live.1
 ] refl
 
--- the merge of what is left
+-- nothing is left after the last key
 pub left_at_end : (expired_by : Option ℕ) (keys : List Expiry) (i : ℕ) → length keys ≤ i → left_of expired_by (drop i keys) ≡ []
 left_at_end expired_by keys i done = ap (left_of expired_by) (drop_all i keys done)

@@ -136,7 +136,7 @@ prefix_from_point p (x ∷ xs) i bound point = sym (prefix_len_is p (x ∷ xs) i
 pub parted_tail : {X : Type 0} (p : X → Bool) (x : X) (xs : List X) → IsPartitionedBy p (x ∷ xs) → IsPartitionedBy p xs
 parted_tail p x xs parted = λ i j d le h. parted (suc i) (suc j) d (omega arith) (omega arith)
 
--- a list of which a front alone passes a test, cut behind it
+-- if only a prefix of a list passes a test, the rest is what fails it
 pub drop-parted : {X : Type 0} (p : X → Bool) (xs : List X) → IsPartitionedBy p xs → drop (prefix_len p xs) xs ≡ filter (λ x. not (p x)) xs
 drop-parted p [] parted = refl
 drop-parted p (x ∷ xs) parted =

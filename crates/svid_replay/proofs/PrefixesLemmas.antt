@@ -83,7 +83,7 @@ both_when : (a b c : Bool) → (c ≡ true → a ≡ b) → (a && c) ≡ (b && c
 both_when a b true h = ap (λ t. t && true) (h refl)
 both_when a b false h = and-false a ∙ sym (and-false b)
 
--- what passes one test, of what passes two that agree there
+-- two filters that agree where a third passes give the same after it
 filter_within : {X : Type 0} (p q r : X → Bool) → ((x : X) → p x ≡ true → q x ≡ r x) → (xs : List X) → filter p (filter q xs) ≡ filter p (filter r xs)
 filter_within p q r h [] = refl
 filter_within p q r h (x ∷ xs) =

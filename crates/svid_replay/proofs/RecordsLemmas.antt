@@ -136,7 +136,7 @@ still_live : (r : State) (u : Use) → IsRecord r → (h : Bool) → holds r.use
 still_live r u is true e = let later : r.moment < u.exp = (is.each u e).live in let test : nat_lt r.moment u.exp ≡ true = grind (arith, nat_tests) in ap (λ l. l && true) test
 still_live r u is false e = and-false (nat_lt r.moment u.exp)
 
--- raising a record to its own moment changes nothing
+-- joining a record with its own moment changes nothing
 pub raised_to_own : (r : State) → IsRecord r → join r (state_of r.moment []) ≡ r
 raised_to_own r is =
     sym (raised r r.moment r.moment r.uses (omega arith) (same_uses r.uses (live r.uses r.moment) (λ u. sym (holds-live r.uses r.moment u ∙ still_live r u is (holds r.uses u) refl))))
@@ -358,7 +358,7 @@ at_once : (l t h : Bool) → (l && (t || (l && h))) ≡ (l && (t || h))
 at_once true t h = refl
 at_once false t h = refl
 
--- a record raised to the moment of uses and joined with them all
+-- a record joined with a moment, and then with all uses of a batch
 pub absorbed_at_once : (old self new : State) (moment : ℕ) (us : List Use) → self ≡ join old (state_of moment []) → new ≡ join self (state_of self.moment us) → new ≡ join old (state_of moment us)
 absorbed_at_once old self new moment us raise e =
     let k = max old.moment moment in

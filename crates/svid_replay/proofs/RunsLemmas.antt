@@ -393,7 +393,7 @@ unknown_absent key_filter us u known unknown = any_none (eq_by_cmp use_cmp u) us
 pub run_unknown : (items told : List Use) (start : ℕ) (keyed : Bool) (keys : List Expiry) (expired_by : Option ℕ) (key_filter : List ℕ) (u : Use) → IsRun items start keyed keys expired_by key_filter → drop start items ≡ told → (HasBits key_filter u.key → ⊥) → false ≡ list_any (eq_by_cmp use_cmp u) told
 run_unknown items told start keyed keys expired_by key_filter u is view unknown = sym (sym (ap (list_any (eq_by_cmp use_cmp u)) view) ∙ unknown_absent key_filter (drop start items) u is.known unknown)
 
--- a run of which nothing is gone
+-- a run from which nothing was dropped
 pub run_made : (items us : List Use) (keyed : Bool) (keys : List Expiry) (key_filter : List ℕ) → IsRising items → us ≡ items → AreKeys keys → (keyed ≡ true → TellUses keys us) → 0 < length key_filter → AllByRecursion (λ u. HasBits key_filter u.key) us → IsRun items 0 keyed keys None key_filter
 run_made items us keyed keys key_filter up same sorted told some known = record {
   bound = omega arith;
@@ -426,7 +426,7 @@ keys_merged items told others told' start start' keyed keyed' keys keys' expired
       subst (TellUses merged) (sym f) (subst (λ ks. TellUses ks (merge use_cmp told told')) (sym e) (tell_merged (left_of expired_by keys) (left_of expired_by' keys') told told' (run_tells items told start keyed keys expired_by key_filter is view (first_true keyed keyed' both)) (run_tells others told' start' keyed' keys' expired_by' key_filter' is' view' (first_true keyed' keyed (and-comm keyed' keyed ∙ both)))));
 }
 
--- a use in a index, among uses of which the same holds
+-- a use at an index, among uses with the same property
 pub known_insert : (key_filter : List ℕ) (us : List Use) (index : ℕ) (new : Use) → HasBits key_filter new.key → AllByRecursion (λ u. HasBits key_filter u.key) us → AllByRecursion (λ u. HasBits key_filter u.key) (take index us ++ new ∷ drop index us)
 known_insert key_filter us index new here known = each_append _ (take index us) (new ∷ drop index us) (each_take _ index us known) (here, each_drop _ index us known)
 

@@ -69,7 +69,7 @@ rising_has_held s u =
 pub same_held_same_set : SameHeldSameSet
 same_held_same_set s t is = same_uses s t is
 
--- a set of which none are counted is that of no uses
+-- a set whose count is 0 is the set of no uses
 pub counts_none : (s : Uses) (n : ℕ) → n ≡ count s → IsTrue (nat_eq n 0) ↔ (s ≡ no_uses)
 unfolding IsStrictlySortedBy
 counts_none s n e = (

@@ -151,7 +151,7 @@ behind_first (suc n) us after up =
       | Some u ↦ λ e. let is = next_is after us u up e in ap (λ ws. filter (is_after (last_of after (take (suc n) ws))) us) is ∙ behind_first n us (Some u) up ∙ ap (drop (suc n)) (sym is)
     ] refl
 
--- a room that was filled has the first of what is left, and the rest is behind the last of them
+-- a filled room has the first of the uses that are left, and the others come after its last
 pub refilled : (s : Uses) (before after : Option Use) (room : List Use) → room ≡ next_few s before → after ≡ last_of before room → room ++ uses_behind s after ≡ uses_behind s before
 refilled s before after room is last =
     ap (λ o. room ++ uses_behind s o) (last ∙ ap (last_of before) is) ∙ ap (λ ws. ws ++ uses_behind s (last_of before (next_few s before))) is
@@ -204,7 +204,7 @@ last_is before (u ∷ v ∷ us) d some =
     let e : length (u ∷ v ∷ us) - 1 ≡ suc (length (v ∷ us) - 1) = omega arith in
     ap (λ n. Some (get_or (u ∷ v ∷ us) n d)) e ∙ last_is (Some u) (v ∷ us) d (omega arith)
 
--- a room that was filled gives the first of what is left
+-- a filled room gives the first of the uses that are left
 pub gives_first : (s : Uses) (before after : Option Use) (given room whole : List Use) (r : Option Use) → given ++ uses_behind s before ≡ whole → given ≡ [] → room ≡ next_few s before → after ≡ last_of before room → r ≡ slice_get room 0 → YieldsFirst {S = List Use} (λ w. w) whole r (drop 1 room ++ uses_behind s after)
 gives_first s before after given room whole r view none is last first =
     subst (λ o. YieldsFirst {S = List Use} (λ w. w) whole o (drop 1 room ++ uses_behind s after)) (sym first) (from room refl)

@@ -25,7 +25,7 @@ use Rattle.svid_shards.specs.declared.bucket_digest.BucketDigest.{BucketDigest}
 use Rattle.svid_shards.specs.Shards.{AreApart, all_in, shard}
 use Rattle.svid_shards.proofs.ShardsLemmas.{holds_all, rising_none}
 
--- what is live of a bucket is the bucket of what is live
+-- the live uses of a bucket are the bucket of the live uses
 pub live_of_bucket : (b moment : ℕ) (s : Uses) → live (bucket b s) moment ≡ bucket b (live s moment)
 live_of_bucket b moment s = same_uses (live (bucket b s) moment) (bucket b (live s moment)) (λ u.
     let is_live = nat_lt moment u.exp in
@@ -37,7 +37,7 @@ live_of_bucket b moment s = same_uses (live (bucket b s) moment) (bucket b (live
     turned true b c = refl
     turned false b c = refl
 
--- the digest of what is live in the store of a bucket
+-- the digest of the live uses in the store of a bucket
 pub digest_is : (d : BucketDigest) (here s : Uses) (b moment : ℕ) → here ≡ bucket b s → d.digest ≡ sha256 (flat_map text_of (rising (live here moment))) → d.uses ≡ count (live here moment) → d ≡ digest_at b moment s
 unfolding digest_at bucket_digest
 digest_is d here s b moment at digest uses =
@@ -140,7 +140,7 @@ each_answer : (s : SummaryData) (uses : Uses) (n k : ℕ) → n + k ≤ 256 → 
 each_answer s uses n zero few = refl
 each_answer s uses n (suc k) few = (λ i. answer_of_bucket s uses n (omega (arith, few)) i ++ each_answer s uses (n + 1) k (omega (arith, few)) i)
 
--- the uses of a raised record are those that are live at the moment alone
+-- the live uses of an advanced record are those that are live at the moment alone
 live_later : (r : State) (moment : ℕ) → IsRecord r → live r.uses (max r.moment moment) ≡ live r.uses moment
 live_later r moment is = same_uses (live r.uses (max r.moment moment)) (live r.uses moment) (λ u.
     holds-live r.uses (max r.moment moment) u ∙ elim (holds r.uses u) as (λ t. holds r.uses u ≡ t → (nat_lt (max r.moment moment) u.exp && t) ≡ (nat_lt moment u.exp && t)) [

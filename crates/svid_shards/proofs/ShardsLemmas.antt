@@ -322,7 +322,7 @@ put_counts s new = elim (holds s new) as (λ b. count (with s new) ≡ cond b (c
   | false ↦ λ e. (omega (arith, e), omega (arith, e))
 ] (count-with s new)
 
--- stores in a vector, of which contracts see the sets
+-- stores in a vector, which contracts see as their sets
 pub store_at : {S : Type 0} (f : S → Uses) (stores : List S) (i : ℕ) (x : S) → i < length stores → x ≡ get_or stores i x → f x ≡ shard (map f stores) i
 store_at f stores i x within at = ap f at ∙ sym (mapped_at f stores i x no_uses within)
 
@@ -454,7 +454,7 @@ shard_is_bucket ss apart b = same_uses (shard ss b) (bucket b (all_in ss)) (λ u
     and_false true = refl
     and_false false = refl
 
--- what is told of each shard, and of each number of a shard
+-- a value for each shard, and for each number of a shard
 each_shard : {X : Type 0} (f : Uses → X) (g : ℕ → X) (n : ℕ) (ss : List Uses) → ((i : ℕ) → f (shard ss i) ≡ g (n + i)) → map f ss ≡ map g (range_with_len n (length ss))
 each_shard f g n [] same = refl
 each_shard f g n (s ∷ ss) same =

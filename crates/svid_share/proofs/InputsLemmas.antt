@@ -39,7 +39,7 @@ module _ {S : Type 0} (left : S → Option (List ℕ)) (stops : S → ℕ) where
   each_drawn-length (o ∷ olds) [] long = omega arith
   each_drawn-length (o ∷ olds) (n ∷ news) long = let e : length news ≡ length olds = omega arith in ap suc (each_drawn-length olds news e)
 
-  -- the inputs, of which one was read: those before it, then it, and then those behind it
+  -- the inputs after one was read: those before it, the one itself, and those after it
   each_drawn-set : (i : ℕ) (olds news : List S) (d x : S) → i < length olds → length news ≡ length olds → drop i news ≡ drop i olds
       → each_drawn left stops olds (set news i x) ≡ take i (each_drawn left stops olds news) ++ drawn left stops (get_or news i d) x ∷ drop (suc i) (each_drawn left stops olds news)
   each_drawn-set i [] news d x within long same = absurd (let no : i < 0 = within in omega arith)

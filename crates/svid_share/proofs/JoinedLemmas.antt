@@ -65,14 +65,14 @@ holds-push us vs m n u =
     ∙ sym (ap (λ b. nat_lt (max m n) u.exp && (b || holds (live (uses_in us) m) u)) (holds-uses_in vs u)
     ∙ ap (λ b. nat_lt (max m n) u.exp && (list_any (eq_by_cmp use_cmp u) vs || b)) (holds-live (uses_in us) m u ∙ ap (λ b. nat_lt m u.exp && b) (holds-uses_in us u)))
 
--- one more batch is joined to what the others come to
+-- one more batch is joined to the record of the others
 pub joined-push : (batches : List BatchData) (batch : BatchData) → joined (batches ++ batch ∷ []) ≡ join (joined batches) (batch_state batch)
 unfolding joined
 joined-push batches batch =
     is_join (joined batches) (batch_state batch) (joined (batches ++ batch ∷ [])) (greatest-push batches batch)
     (λ u. rw (greatest-push batches batch, uses-push batches batch) (holds-push (flat_map (λ b. b.uses) batches) batch.uses (greatest batches) batch.moment u))
 
--- the batches, joined one after the other to what others come to
+-- the batches, joined one after the other to the record of earlier ones
 pub joined_one_by_one : JoinedOneByOne
 joined_one_by_one earlier [] = ap joined (sym (append-nil earlier))
 joined_one_by_one earlier (b ∷ batches) = ap (λ r. join_all r batches) (sym (joined-push earlier b)) ∙ joined_one_by_one (earlier ++ b ∷ []) batches ∙ ap joined (append_assoc earlier (b ∷ []) batches)
@@ -122,11 +122,11 @@ joins_record : (r : State) (batches : List BatchData) → IsRecord r → AllByRe
 joins_record r [] is all = is
 joins_record r (b ∷ batches) is all = joins_record (join r (batch_state b)) batches (join_closed r (batch_state b) is (batch_is_record b all.0)) all.1
 
--- what batches come to is a record
+-- the join of batches is a record
 pub joined_is_record : JoinedIsRecord
 joined_is_record batches all = subst IsRecord (joined_from_nothing batches) (joins_record (state_of 0 []) batches (new_is_record no_uses refl) all)
 
--- what the parts of a record come to is that record
+-- the parts of a record join to that record
 pub parts_come_to_record : PartsComeToRecord
 parts_come_to_record r is = sym (joined_from_nothing (parts_of r)) ∙ parts_give_record r is
 
@@ -135,14 +135,14 @@ join_all-join : (a b : State) (batches : List BatchData) → join_all (join a b)
 join_all-join a b [] = refl
 join_all-join a b (x ∷ batches) = ap (λ r. join_all r batches) (join_assoc a b (batch_state x)) ∙ join_all-join a (join b (batch_state x)) batches
 
--- what batches come to, joined to a record
+-- batches joined to a record give that record joined with their join
 joins_joined : (r : State) (batches : List BatchData) → IsRecord r → join_all r batches ≡ join r (joined batches)
 joins_joined r batches is =
     ap (λ s. join_all s batches) (sym (join_comm r (state_of 0 []) ∙ join_new r is))
     ∙ join_all-join r (state_of 0 []) batches
     ∙ ap (join r) (joined_from_nothing batches)
 
--- batches behind others: what both come to, joined
+-- batches after others: the join of both
 joined-append : (batches more : List BatchData) → AllByRecursion IsBatch batches → joined (batches ++ more) ≡ join (joined batches) (joined more)
 joined-append batches more all = sym (joined_one_by_one batches more) ∙ joins_joined (joined batches) more (joined_is_record batches all)
 
@@ -223,7 +223,7 @@ joined_by_which batches others same =
     ∙ sym (holds-uses_in vs u ∙ any-flat (eq_by_cmp use_cmp u) others))
     ∙ sym (holds-live (uses_in vs) (greatest others) u)))
 
--- what the same batches come to has one text
+-- the same batches give one text
 pub merged_by_which : MergedByWhich
 merged_by_which now told others same = ap (λ r. record_text (raised_to now r)) (joined_by_which (all_of told) (all_of others) same)
 

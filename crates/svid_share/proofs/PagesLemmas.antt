@@ -59,7 +59,7 @@ passed_both told stops a b c before text mid next after first second = record {
   is = append_assoc first.went second.went after ∙ ap (λ x. first.went ++ x) second.is ∙ sym (append_assoc first.went mid next) ∙ ap (λ x. x ++ next) first.is ∙ append_assoc before text next;
 }
 
--- a text passed, and of what then stood in the room and of the next a part went out
+-- a text passed, and then a part of the room's content and the next text went out
 pub passed_part : {K : Type 0} (told : K → Option (List ℕ)) (stops : K → ℕ) (a b c : K) (before text mid next rest whole : List ℕ) → whole ≡ text ++ (next ++ rest) → Passes (taken told stops a b) before text mid → TookPart (taken told stops b c) (mid ++ next) → TookPart (taken told stops a c) (before ++ whole)
 passed_part told stops a b c before text mid next rest whole parts first second =
     part_went told stops a b c first.went (mid ++ next) rest (before ++ whole)
@@ -76,12 +76,12 @@ pub passed_whole : {K : Type 0} (told : K → Option (List ℕ)) (stops : K → 
 passed_whole told stops a b c before text mid whole first second none same =
     subst (TookAll (taken told stops a c)) (first.is ∙ ap (λ x. x ++ text) none ∙ sym same) (both_went told stops a b c first.went mid first.all second)
 
--- a text passed into a room that was empty, and then a part of what stood in the room went out
+-- a text passed into an empty room, and then a part of the room's content went out
 pub passed_in_part : {K : Type 0} (told : K → Option (List ℕ)) (stops : K → ℕ) (a b c : K) (before text mid whole : List ℕ) → Passes (taken told stops a b) before text mid → TookPart (taken told stops b c) mid → before ≡ [] → whole ≡ text → TookPart (taken told stops a c) whole
 passed_in_part told stops a b c before text mid whole first second none same =
     part_went told stops a b c first.went mid [] whole (same ∙ ap (λ x. x ++ text) (sym none) ∙ sym first.is ∙ ap (λ x. first.went ++ x) (sym (append-nil mid))) first.all second
 
--- a loop over things, of each of which a text passes
+-- a loop over things passes the text of each
 
 -- one more passed
 pub list_passes : {X : Type 0} (line : X → List ℕ) (front : List X) (x : X) {K : Type 0} (told : K → Option (List ℕ)) (stops : K → ℕ) (a b c : K) (before mid piece now : List ℕ) → piece ≡ line x → Passes (taken told stops a b) before (flat_map line front) mid → Passes (taken told stops b c) mid piece now → Passes (taken told stops a c) before (flat_map line (front ++ x ∷ [])) now

@@ -289,7 +289,7 @@ joins_more input later before after number old mid new more j come same joins = 
 pub joins_no_more : (input later : Drawn) (before after : Reader) (number : ℕ) (old new : State) (more : List Message) → (j : JoinsSoFar input before number old new) → HasCome later after (j.told ++ more) → after.number ≡ before.number → more ≡ [] → JoinsSoFar later after number old new
 joins_no_more input later before after number old new more j come same none = joins_more input later before after number old new new more j come same (ap (λ ms. join_all new (batches_of ms)) (sym none))
 
--- the input's end is that of what was joined
+-- the whole input is the one whose batches were joined
 pub joins_end : (input : Drawn) (reader : Reader) (number : ℕ) (old new : State) (r : Result Unit ToolFault) → (j : JoinsSoFar input reader number old new) → MatchResult r (λ _. IsWhole input j.told) (IsInputFault reader.number input) → OnOk r (Joins input old new) × IfErr r (IsInputFault number input)
 joins_end input reader number old new (Ok _) j whole = (record { told = j.told; whole = whole; joins = j.joins }, tt)
 joins_end input reader number old new (Err fault) j why = (tt, subst (λ n. IsInputFault n input fault) j.numbered why)

@@ -18,7 +18,7 @@ use Rattle.svid_journal.proofs.PayloadsLemmas.{messages_have_no_position, none_i
 use Rattle.svid_check.proofs.LaterLemmas.{saves_lose_nothing}
 use Rattle.svid_snapshot.specs.Snapshots.{MessagesBearNoPosition, PiecesAreAllowed, SeesIn}
 
--- a use of what batches were joined to was there before, or is seen in one of their texts
+-- a use of a record after batches were joined to it was there before, or is seen in one of the batches' texts
 seen : (has : List ℕ → Bool) (u : Use) (sees : SeesIn has u) (r : State) (bs : List BatchData) → IsTrue (holds (join_all r bs).uses u) → IsTrue (holds r.uses u) ⊎ (list_any has (map batch_text bs) ≡ true)
 seen has u sees r [] h = inl h
 seen has u sees r (b ∷ bs) h =

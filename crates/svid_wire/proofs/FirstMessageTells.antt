@@ -131,7 +131,7 @@ IsReading : Version → List ℕ → Option Use → Type 0
 IsReading v f None = HasNoKind v f
 IsReading v f (Some u) = IsReadAs v f u
 
--- a byte that says of which kind a use is
+-- a byte that gives the kind of a use
 IsKind : ℕ → Option Bool → Type 0
 IsKind k None = (k ≢ 0) × (k ≢ 1)
 IsKind k (Some w) = from_bool w ≡ k
@@ -223,7 +223,7 @@ most_is_most : (v : Version) → most_of v ≤ 65536
 most_is_most One = omega arith
 most_is_most Two = omega arith
 
--- the uses of a batch of which some were found good
+-- the uses of a batch after some were found good
 Tells-uses : (v : Version) (n m c : ℕ) (us : List Use) (x bytes : List ℕ) → c ≡ length us + n → m < 2 ^ 64 → c ≤ most_of v → AllByRecursion IsUse us → AllByRecursion (CanTell v) us → AllGood m None us → AreBytes x → bytes ≡ head_text v m c ++ (flat_map (use_text v) us ++ x) → Tells bytes (find_uses v n m us x)
 unfolding Tells find_uses
 Tells-uses v zero m c us x bytes left fits few fields tells good h parts =
@@ -267,7 +267,7 @@ find_moment_and_count-tells v x bytes h parts =
     head_parts One m c x = refl
     head_parts Two m c x = refl
 
--- the digests of a summary of which some came
+-- the digests of a summary after some came
 Tells-digests : (n m : ℕ) (ds : List (List ℕ)) (x bytes : List ℕ) → 256 ≡ length ds + n → m < 2 ^ 64 → AllByRecursion (IsBytes 32) ds → AreBytes x → bytes ≡ summary_head m ++ (flat_map digest_text ds ++ x) → Tells bytes (find_digests n m ds x)
 unfolding Tells find_digests AreBytes
 Tells-digests zero m ds x bytes left fits fields h parts =

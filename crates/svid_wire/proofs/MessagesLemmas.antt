@@ -160,7 +160,7 @@ some_bytes (batch_in One b) = omega arith
 some_bytes (batch_in Two b) = omega arith
 some_bytes (summary s) = omega arith
 
--- bytes of which there are at most so many parse
+-- at most so many bytes are parsed
 parses_within : (n : ℕ) (bytes : List ℕ) → length bytes ≤ n → All (λ b. b < 256) bytes → IsParsed bytes
 unfolding IsParsed
 parses_within n [] few h = ([], [], record { splits = record { written = []; good = tt; told = refl; parts = refl }; ends = no_bytes_begin })
