@@ -1,4 +1,4 @@
-//! The bundle of one trust domain, as SPIRE prints it, made an object of trust domains.
+//! The bundle of one trust domain, as SPIRE prints it, turned into an object of trust domains.
 ghost use Rattle.std.specs.Prelude.{◌≡◌, ◌∷◌, [], Err, IfErr, IfOk, true};
 ghost use Rattle.svid_documents.specs.Document.{bundles};
 ghost use Rattle.svid_documents.specs.Join.{IsJoined, joined};
@@ -21,7 +21,7 @@ fn bundle_fault(fault: DocumentFault) -> BundleFault
     }
 }
 
-/// An object of trust domains that has the bundle of one.
+/// An object of trust domains with the bundle of one.
 pub fn bundles_of(alloc: Global, domain: &str, text: &[u8]) -> Result<Vec<u8>, BundleFault>
     ensures ok { IfOk result (λ bundles. IsJoined (only domain.now text.now) bundles.items) }
     ensures fault { IfErr result (IsNoBundleOf domain.now text.now) }
@@ -32,7 +32,7 @@ pub fn bundles_of(alloc: Global, domain: &str, text: &[u8]) -> Result<Vec<u8>, B
     }
 }
 
-/// Whether a text is the bundle of one trust domain, without its name. Where memory is refused it is not.
+/// Whether a text is the bundle of one trust domain, without its name. False where memory is refused.
 pub fn is_unnamed(alloc: Global, text: &[u8]) -> bool
     ensures { result ≡ true → (given : JoinFault) × (joined (bundles text.now ∷ []) ≡ Err given) × (given.fault ≡ Unnamed) }
 {
