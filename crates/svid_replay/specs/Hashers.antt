@@ -21,7 +21,7 @@ abbrev pub HoldsText : Option Sha256 → List ℕ → Type 0
 HoldsText None text = text ≡ []
 HoldsText (Some hasher) text = Holds256 hasher text
 
--- 256 hashers, each of which holds the texts of the uses of its bucket
+-- 256 hashers, and each holds the texts of the uses of its bucket
 pub record HoldBuckets (hashers : List (Option Sha256)) (us : List Use) : Type 0 where
   pub full : length hashers ≡ 256
   pub each : (b : ℕ) (d : Option Sha256) → b < 256 → HoldsText (slice_index_or hashers b d) (text_in b us)

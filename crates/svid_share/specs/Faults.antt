@@ -28,7 +28,7 @@ status_of tool.Write = 2
 status_of tool.OutOfMemory = 2
 status_of _ = 1
 
--- the name of what is wrong in a message
+-- the name of the reason for which a message is bad
 abbrev pub reason_name : Reason → List ℕ
 reason_name wire.Magic = codes "Magic"
 reason_name wire.Kind = codes "Kind"
