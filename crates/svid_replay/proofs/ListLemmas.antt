@@ -93,7 +93,7 @@ in_kept p (y ∷ ys) x has e =
     (λ later. let rest = in_kept p ys x later e in elim (p y) as (λ b. Contains (cond b (y ∷ filter p ys) (filter p ys)) x) [ true ↦ has_later y (filter p ys) x rest | false ↦ rest ])
     (has_cases y ys x has)
 
--- one thing more behind a list, kept or left out
+-- one more thing at the end of a list, kept or left out
 pub filter-in : {X : Type 0} (p : X → Bool) (xs : List X) (x : X) → p x ≡ true → filter p (xs ++ x ∷ []) ≡ filter p xs ++ x ∷ []
 filter-in p xs x e = filter-append p xs (x ∷ []) ∙ ap (λ t. filter p xs ++ cond t (x ∷ []) []) e
 

@@ -56,7 +56,7 @@ later m n e false false = grind (arith, nat_tests)
 uses-push : (batches : List BatchData) (batch : BatchData) → flat_map (λ b. b.uses) (batches ++ batch ∷ []) ≡ flat_map (λ b. b.uses) batches ++ batch.uses
 uses-push batches batch = flat_map-append (λ b. b.uses) batches (batch ∷ []) ∙ ap (λ r. flat_map (λ b. b.uses) batches ++ r) (append-nil batch.uses)
 
--- a use of the batches, or of one batch more
+-- a use of the batches, or of one more batch
 holds-push : (us vs : List Use) (m n : ℕ) (u : Use) → holds (live (uses_in (us ++ vs)) (max m n)) u ≡ (nat_lt (max m n) u.exp && (holds (uses_in vs) u || holds (live (uses_in us) m) u))
 holds-push us vs m n u =
     holds-live (uses_in (us ++ vs)) (max m n) u
@@ -77,7 +77,7 @@ pub joined_one_by_one : JoinedOneByOne
 joined_one_by_one earlier [] = ap joined (sym (append-nil earlier))
 joined_one_by_one earlier (b ∷ batches) = ap (λ r. join_all r batches) (sym (joined-push earlier b)) ∙ joined_one_by_one (earlier ++ b ∷ []) batches ∙ ap joined (append_assoc earlier (b ∷ []) batches)
 
--- no batches come to the record of moment 0 with no uses
+-- the join of no batches is the record of moment 0 with no uses
 pub joined_none : state_of 0 [] ≡ joined []
 unfolding joined
 joined_none = ap (λ (s : Uses). let r : State = record { moment = 0; uses = s } in r) (uses_in-filter (λ u. nat_lt 0 u.exp) [])
@@ -90,7 +90,7 @@ pub join_all-append : (r : State) (batches more : List BatchData) → join_all r
 join_all-append r [] more = refl
 join_all-append r (b ∷ batches) more = join_all-append (join r (batch_state b)) batches more
 
--- the batches of one message more
+-- the batches of one more message
 pub joins-message : (r : State) (messages : List Message) (i : ℕ) (d : Message) → i < length messages → join_all (join_all r (batches_of (take i messages))) (batches_of (get_or messages i d ∷ [])) ≡ join_all r (batches_of (take (i + 1) messages))
 joins-message r messages i d within =
     let seen : take (i + 1) messages ≡ take i messages ++ get_or messages i d ∷ [] = rw (add-one i) (take-suc messages i d within) in
@@ -111,7 +111,7 @@ each_held : (moment : ℕ) (before : Option Use) (us : List Use) → AllByRecurs
 each_held moment before [] fields good = tt
 each_held moment before (u ∷ us) fields good = (fine_is_held moment before u fields.0 good.0, each_held moment (Some u) us fields.1 good.1)
 
--- what a batch tells is a record
+-- the content of a batch is a record
 batch_is_record : (b : BatchData) → IsBatch b → IsRecord (batch_state b)
 batch_is_record b is = record {
   moment = is.moment;
@@ -130,7 +130,7 @@ joined_is_record batches all = subst IsRecord (joined_from_nothing batches) (joi
 pub parts_come_to_record : PartsComeToRecord
 parts_come_to_record r is = sym (joined_from_nothing (parts_of r)) ∙ parts_give_record r is
 
--- what is joined to a join may be joined to its second part
+-- batches joined to a join may be joined to its second part
 join_all-join : (a b : State) (batches : List BatchData) → join_all (join a b) batches ≡ join a (join_all b batches)
 join_all-join a b [] = refl
 join_all-join a b (x ∷ batches) = ap (λ r. join_all r batches) (join_assoc a b (batch_state x)) ∙ join_all-join a (join b (batch_state x)) batches

@@ -20,7 +20,7 @@ use Rattle.svid_share.proofs.JoinedLemmas.{joined_from_nothing}
 all_joined : (inputs : List Drawn) (second : State) → (joins : JoinsAll inputs (state_of 0 []) second) → second ≡ joined (all_of joins.told)
 all_joined inputs second joins = joins.joins ∙ joined_from_nothing (all_of joins.told)
 
--- what a new record is after all inputs were joined, and it was raised, is reported
+-- the report of a new record after all inputs were joined, advanced to the moment
 pub reported : (inputs : List Drawn) (now : Option ℕ) (text : List ℕ) (second third : State) → JoinsAll inputs (state_of 0 []) second → third ≡ raised_to now second → text ≡ report_of third → IsDue (report_due now) inputs text
 reported inputs now text second third joins raises tells = record {
   told = joins.told;

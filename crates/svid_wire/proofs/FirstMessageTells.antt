@@ -1,4 +1,4 @@
--- What `first_batch` finds is true of the bytes, so that all bytes begin with a message or have a fault.
+-- What `first_message` finds is true of the bytes, so that all bytes begin with a message or have a fault.
 use Rattle.std.proofs.Common.{◌≡◌, ◌≢◌, ℕ, zero, suc, ◌+◌, ◌*◌, ◌^◌, ◌<◌, ◌≤◌, ◌⊎◌, inl, inr, Bool, true, false, nat_lt, if◌then◌else◌, List, [], ◌∷◌, ◌++◌, length, take, drop, get_or, refl, sym, ap, ◌∙◌, subst, arith, append_assoc, append-nil, length-append, length-drop, Option, None, Some, All}
 use Rattle.std.specs.Int.{from_be_bytes, from_bool, to_be_bytes, w32, w64}
 use Rattle.std.specs.List.{flat_map, AllByRecursion}
@@ -76,7 +76,7 @@ from_be_bytes-lt bytes h =
     let at = AreBytes-at bytes h in
     omega (arith, at 0, at 1, at 2, at 3, at 4, at 5, at 6, at 7)
 
--- the moment and the number of uses that a field tells
+-- the moment and the number of uses in a field
 moment_and_count_text-of : (f : List ℕ) → length f ≡ 12 → AreBytes f → moment_and_count_text (from_be_bytes w64 (take 8 f)) (from_be_bytes w32 (drop 8 f)) ≡ f
 unfolding moment_and_count_text
 moment_and_count_text-of f size h =
@@ -116,7 +116,7 @@ record IsReadAs (v : Version) (f : List ℕ) (u : Use) : Type 0 where
   fields : IsUse u
   tells : CanTell v u
 
--- a field of version 2 whose last byte is that of no kind
+-- a field of version 2 whose last byte is no kind
 record HasNoKind (v : Version) (f : List ℕ) : Type 0 where
   two : v ≡ Two
   front : List ℕ
@@ -182,7 +182,7 @@ unfolding Tells
 Tells-judged bytes v us None next good bad = good refl
 Tells-judged bytes v us (Some f) next good bad = (IsFieldFault-use bytes _ f (bad f refl)).0
 
--- a use that was read behind the good ones, or not
+-- a use that was read after the good ones, or not
 Tells-use : (bytes : List ℕ) (v : Version) (f rest : List ℕ) (m c : ℕ) (us : List Use) (o : Option Use) (next : Use → Found) → IsReading v f o → IsBegun v m c us → bytes ≡ head_text v m c ++ (flat_map (use_text v) us ++ (f ++ rest)) → ((u : Use) → IsReadAs v f u → flaw m (last_of None us) u ≡ None → Tells bytes (next u)) → Tells bytes (with_use v o m us next)
 unfolding Tells IsReading
 Tells-use bytes One f rest m c us None next is begun parts good = absurd (no_two is.two)
@@ -246,7 +246,7 @@ is_over most c test = grind (arith, nat_tests)
 is_within : (most c : ℕ) → nat_lt most c ≡ false → c ≤ most
 is_within most c test = grind (arith, nat_tests)
 
--- the head of a batch, and what is behind it
+-- the head of a batch, and the bytes after it
 Tells-head : (bytes : List ℕ) (v : Version) (m c : ℕ) (rest : List ℕ) (b : Bool) → m < 2 ^ 64 → c < 2 ^ 32 → AreBytes rest → bytes ≡ head_text v m c ++ rest → nat_lt (most_of v) c ≡ b → Tells bytes (if b then fault_at 13 reason.Count else find_uses v c m [] rest)
 unfolding Tells
 Tells-head bytes v m c rest true fm fc h parts test =
