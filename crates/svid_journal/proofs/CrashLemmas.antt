@@ -6,7 +6,7 @@ use Rattle.svid_journal.specs.Frames.{frame_of, frames_of, IsPayload, BeginsWith
 use Rattle.svid_journal.specs.Reading.{HasLater}
 use Rattle.svid_journal.proofs.FramesLemmas.{cells_of, same_frames, length-frame_in}
 
--- of two ways to read bytes as frames, one that goes on as long as there are frames goes as far as the other, and then on through its rest
+-- of two readings of the same bytes, one that goes on as long as there are frames has the frames of the other, and then those of its rest
 pub record GoesOn (title : List ℕ) (number : ℕ) (ps qs : List (List ℕ)) (x y : List ℕ) : Type 0 where
   pub more : List (List ℕ)
   pub first : qs ≡ ps ++ more

@@ -22,7 +22,7 @@ pub struct LogPosition {
 impl LogPosition {
     ghost use Rattle.svid_journal.specs.Payloads.{BeginsWithNoPosition, position_text};
 
-    /// The text of the position, which goes before a payload's messages.
+    /// The text of the position, to put before a payload's messages.
     pub fn text(&self) -> [u8; 28]
         ensures { result ≡ position_text self.now }
     {

@@ -35,7 +35,7 @@ ValuesHaveOneReading = (bytes : List ℕ) (uses others : List Use) (fault other 
 abbrev pub AreValues : List (List ℕ) → List (List Use) → Type 0
 AreValues texts values = (i : ℕ) (bytes : List ℕ) → slice_get texts i ≡ Some bytes → (uses : List Use) × (fault : Option WireFault) × (slice_get values i ≡ Some uses) × HasUses bytes uses fault
 
--- what one reader finds in a value of a log is what the log has there
+-- a reader of a value finds the uses that the log has there
 abbrev pub ValuesAreRead : Type 0
 ValuesAreRead = (texts : List (List ℕ)) (values : List (List Use)) (i : ℕ) (bytes : List ℕ) (uses : List Use) (fault : Option WireFault)
     → AreValues texts values → slice_get texts i ≡ Some bytes → HasUses bytes uses fault → slice_get values i ≡ Some uses

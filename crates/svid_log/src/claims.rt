@@ -182,7 +182,7 @@ impl<S: UseStore> Claims<S> {
 }
 
 impl<S: UseStore + Drop> Claims<S> {
-    /// A store, empty so far, with these uses except those that expire before they were made.
+    /// These uses, without those that expire before they were made, in an empty store.
     pub fn restore(store: S, uses: &[Use]) -> Result<Claims<S>, AllocError>
         requires { S.content store ≡ no_uses }
         ensures { IfOk result (λ claims. claims ≡ put_all no_uses uses.now) }

@@ -11,7 +11,7 @@ use svid_wire::{Feed, Message, Reason, WireFault};
 pub struct Value {
     /// The uses: none where the bytes of the value do not parse as messages.
     pub uses: Vec<Use>,
-    /// Why the bytes do not parse as messages, where they do not.
+    /// The fault of the bytes, where they do not parse as messages.
     pub fault: Option<WireFault>,
 }
 

@@ -48,7 +48,7 @@ key_first_same u q = one_test _ _
     (λ e. let is : u ≡ q = key_first_exact u q (equal _ e) in subst (λ v. eq_by_cmp use_cmp u v ≡ true) is (ap is_eq (tied_itself use_total u)))
     (λ e. let is : u ≡ q = use_exact u q (equal _ e) in subst (λ v. eq_by_cmp key_first_cmp (key_first u) (key_first v) ≡ true) is (ap is_eq (tied_itself key_first_total (key_first u))))
 
--- a use comes into both orders, or goes out of the first again
+-- a use is put into both orders, or taken out of the first again
 -- each list has a use where the old one had it, but for one use, which it has or hasn't
 abbrev pub Changes : List Use → Use → Bool → List Use → Type 0
 Changes us u has vs = (q : Use) → has_use vs q ≡ cond (eq_by_cmp use_cmp u q) has (has_use us q)

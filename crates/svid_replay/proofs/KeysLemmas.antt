@@ -179,7 +179,7 @@ pub some_left : (kind : KeyKind) (expired_by : Option ℕ) (keys : List Expiry) 
 some_left kind expired_by keys i f up at some = head_some kind (drop i keys) f some ∙ found_left kind expired_by keys i up at
 
 -- entries tell of uses
--- those that are left tell what a look by key and kind is for
+-- those that are left decide a look-up by key and kind
 pub tell_kind : (kind : KeyKind) (expired_by : Option ℕ) (keys : List Expiry) (us : List Use) → TellUses (left_of expired_by keys) us → list_any (is_held kind expired_by) keys ≡ list_any (λ u. is_eq (kind_cmp kind (expiry_of u).kind)) us
 tell_kind kind expired_by keys us tell = sym (any_kept (λ e. is_eq (kind_cmp kind e.kind)) (λ e. is_left expired_by e.exp) keys) ∙ tell (λ e. is_eq (kind_cmp kind e.kind))
 

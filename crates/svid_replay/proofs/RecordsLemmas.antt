@@ -258,7 +258,7 @@ made_in_batch old self b us i d is e within so_far =
     let made : (get_or us i d).at ≤ b.moment = made_at b.moment None us i d (subst (AllGood b.moment None) (sym e) is.good) within in
     omega (arith, ap (λ (s : State). s.moment) so_far, moment-join old (state_of b.moment (take i us)))
 
--- lists of uses, one behind the other
+-- lists of uses, one after the other
 behind : (l front t h : Bool) → (l && (t || (l && (front || h)))) ≡ (l && ((front || t) || h))
 behind false front t h = refl
 behind true true true h = refl

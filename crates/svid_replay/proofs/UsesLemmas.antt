@@ -233,7 +233,7 @@ find_kept p [] = refl
 find_kept p (u ∷ us) = elim (p u) as (λ b. slice_get (cond b (u ∷ filter p us) (filter p us)) 0 ≡ cond b (Some u) (find p us)) [ true ↦ refl | false ↦ find_kept p us ]
 
 -- a walk from each use to the next
--- the uses in front are those that a walk has passed, and the rest are after the last of them
+-- the first uses are those that a walk has passed, and the rest come after the last of them
 pub record IsWalked (us : List Use) (after : Option Use) (front : List Use) : Type 0 where
   pub parts : us ≡ front ++ filter (is_after after) us
 

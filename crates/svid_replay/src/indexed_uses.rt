@@ -88,7 +88,7 @@ fn drop_expired(by_use: &mut BTreeSet<Use>, by_key: &mut BTreeSet<KeyFirst>, mom
     before - by_use.len()
 }
 
-// Whether there is a use of this key, or a withdrawal of it. They stand side by side, so the first that is not below the least
+// Whether there is a use of this key, or a withdrawal of it. They are side by side, so the first that is not below the least
 // possible one decides.
 fn has_from(by_key: &BTreeSet<KeyFirst>, key: &[u8; 32], withdrawn: bool) -> bool
     ensures { (us : List Use) → IsIndexed us by_key.now.keys → result ≡ list_any (is_sought withdrawn key.now) us }

@@ -304,7 +304,7 @@ impl<S: UseStore> Record<S> {
     /// summary's, as batches of the record's moment: 65,536 uses in rising order in each but the last. One batch with no use
     /// where there are no such uses.
     ///
-    /// Where memory is refused, only the moment has changed. Looks at each use three times, and holds those that it returns twice
+    /// Where memory is refused, the record is only advanced. Looks at each use three times, and holds those that it returns twice
     /// while it makes the batches.
     pub fn answer(&mut self, alloc: Global, summary: &Summary) -> Result<Vec<Batch>, AllocError>
         ensures raised { self.new ≡ raised_to self.old summary.now.moment }

@@ -18,7 +18,7 @@ use std::alloc::{AllocError, Global};
 use std::marker::Model;
 
 /// A set of uses as runs: sorted vectors, each with its keys. New uses go into the last run, which is short, so most inserts are
-/// fast. The insert by which that run has 256 uses closes it: the run gets keys, and may be merged with others, at worst with
+/// fast. The insert that brings that run to 256 uses closes it: the run gets keys, and may be merged with others, at worst with
 /// all. Where memory for that is refused, it is left undone, and the use is in the set all the same. When 256 uses or more are
 /// inserted at once (`insert_all`), the new ones are merged with the last run in the same way; fewer are not taken at once. There
 /// are at most 64 runs. `compact` merges all runs but the first, so that a walk has two to look at, or three.

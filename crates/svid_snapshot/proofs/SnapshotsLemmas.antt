@@ -31,7 +31,7 @@ seen has u sees r (b ∷ bs) h =
       | inr later ↦ inr (or_right (has (batch_text b)) (list_any has (map batch_text bs)) later)
     ]
 
--- what is seen in a row is seen behind others
+-- what is seen in a list is also seen after others
 seen_behind : (has : List ℕ → Bool) (front row : List (List ℕ)) → list_any has row ≡ true → list_any has (front ++ row) ≡ true
 seen_behind has [] row found = found
 seen_behind has (p ∷ front) row found = or_right (has p) (list_any has (front ++ row)) (seen_behind has front row found)

@@ -60,7 +60,7 @@ pub record IsUseKindFault (bytes : List ℕ) (offset : ℕ) : Type 0 where
   pub no_withdrawal : kind ≢ 1
   pub at : offset ≡ 17 + 65 * length uses
 
--- a summary can stand in this version
+-- this version has summaries
 abbrev pub HasSummaries : Version → Type 0
 HasSummaries One = ⊥
 HasSummaries Two = Unit {0}
