@@ -8,19 +8,19 @@ shown_next : (line : List ℕ) (left byte : ℕ) (rest : List ℕ) → line ++ s
 unfolding shown_from
 shown_next line left byte rest = append_assoc line (shown left byte) (shown_from (left_after left byte) rest)
 
--- a line that got what it has for one byte more ends as before
+-- a line that got the output for one more byte ends as before
 pub shown_more : (bytes line new all : List ℕ) (i left after : ℕ) → i < length bytes
     → new ≡ line ++ shown left (get_or bytes i 0) → after ≡ left_after left (get_or bytes i 0)
     → line ++ shown_from left (drop i bytes) ≡ all → new ++ shown_from after (drop (i + 1) bytes) ≡ all
 shown_more bytes line new all i left after within pushed then_left before =
     rw (pushed, then_left) (shown_next line left (get_or bytes i 0) (drop (i + 1) bytes) ∙ ap (λ bs. line ++ shown_from left bs) (sym (drop_more bytes i 0 within)) ∙ before)
 
--- a line that got what it has for all bytes is whole
+-- a line that got the output for all bytes is whole
 pub shown_all : (bytes line all : List ℕ) (i left : ℕ) → length bytes ≤ i → line ++ shown_from left (drop i bytes) ≡ all → line ≡ all
 unfolding shown_from
 shown_all bytes line all i left end before = sym (append-nil line) ∙ ap (λ bs. line ++ shown_from left bs) (sym (drop_all i bytes end)) ∙ before
 
--- a line hides tokens with more bytes to show, too
+-- a line that may show more bytes also hides tokens
 more_than : (of : Bool) (n m : ℕ) (rest : List ℕ) → n ≤ m → ((a b : ℕ) → a ≤ b → hides_tokens a rest ≡ true → hides_tokens b rest ≡ true)
     → (if of then nat_lt 0 n && hides_tokens (n - 1) rest else hides_tokens most_of_token rest) ≡ true
     → (if of then nat_lt 0 m && hides_tokens (m - 1) rest else hides_tokens most_of_token rest) ≡ true
@@ -34,12 +34,12 @@ unfolding hides_tokens
 hides_more n m [] le hides = refl
 hides_more n m (byte ∷ rest) le hides = more_than (is_of_token byte) n m rest le (λ a b within. hides_more a b rest within) hides
 
--- a byte that no token has, and what hides tokens behind it
+-- a byte that no token has, followed by bytes that hide tokens
 hides_other : (left byte : ℕ) (rest : List ℕ) → is_of_token byte ≡ false → hides_tokens most_of_token rest ≡ true → hides_tokens left (byte ∷ rest) ≡ true
 unfolding hides_tokens
 hides_other left byte rest other hides = rw other hides
 
--- a byte that a token has, where so many may be shown, and what hides tokens behind it
+-- a byte that a token has, where so many may be shown, followed by bytes that hide tokens
 hides_one : (some : Bool) (left byte : ℕ) (rest : List ℕ) → is_of_token byte ≡ true → nat_lt 0 left ≡ some
     → hides_tokens (left - 1) rest ≡ true → hides_tokens left ((if some then byte ∷ [] else []) ++ rest) ≡ true
 unfolding hides_tokens
@@ -102,7 +102,7 @@ no_control byte of =
     (no_control_at byte 46 (omega arith) (omega arith))
     of
 
--- what the line has for one byte, and behind it one line, is one line
+-- the output for one byte, followed by one line, is one line
 one_first : (of some ends controls : Bool) (byte : ℕ) (rest : List ℕ) → (of ≡ true → is_control byte ≡ false) → is_control byte ≡ controls → is_one_line rest ≡ true
     → is_one_line ((if of then if some then byte ∷ [] else [] else if ends then codes "; " else if controls then [] else byte ∷ []) ++ rest) ≡ true
 unfolding is_one_line

@@ -1,4 +1,4 @@
--- What the program writes on standard error: the line of a failure, and the sentence that belongs to it.
+-- What the program writes on standard error: the line of a failure, and the sentence for it.
 use Rattle.std.specs.Prelude.{ℕ, List, [], ◌∷◌, ◌++◌, ◌==◌, ◌&&◌, not, if◌then◌else◌, codes, Option, None, Some}
 use Rattle.svid_keys.specs.declared.bundle_fault.BundleFault.{BundleFault}
 use Rattle.svid_keys.specs.declared.bundle_fault.BundleFault.TheVariants as bundles
@@ -15,23 +15,23 @@ use Rattle.svid_cli.specs.declared.sentence.Sentence.{Sentence}
 use Rattle.svid_cli.specs.declared.sentence.Sentence.TheVariants as says
 use Rattle.svid_cli.specs.declared.sentence.Words.{Words}
 
--- the sentence of a message that is bad
+-- the sentence for a bad message
 abbrev pub message_sentence : ℕ → ℕ → Reason → Sentence
 message_sentence message offset reason = says.Message (record { message = message; offset = offset; reason = reason })
 
--- the sentence of the first message of an input whose first four bytes are not those of a message, by the first of them
+-- the sentence for an input whose first message does not begin with the four bytes of one, by the first of them
 abbrev pub magic_sentence : Option ℕ → ℕ → ℕ → Sentence
 magic_sentence (Some byte) message offset = if (message == 1) && not (byte == 74) then says.NotJsr (record { 0 = byte }) else message_sentence message offset wire.Magic
 magic_sentence None message offset = message_sentence message offset wire.Magic
 
--- the sentence of bundles that are refused
+-- the sentence for bundles that are refused
 abbrev pub bundles_sentence : BundleFault → Sentence
 bundles_sentence bundles.NotObject = says.BundlesNotObject
 bundles_sentence (bundles.Domain index) = says.BundlesDomain index
 bundles_sentence (bundles.Keys index) = says.BundlesKeys index
 bundles_sentence bundles.OutOfMemory = says.OutOfMemory
 
--- the sentence of a fault of an engine, and of the first byte of the input that it is about, where that is known
+-- the sentence for a fault of an engine, by the first byte of its input, where that is known
 abbrev pub tool_sentence : ToolFault → Option ℕ → Sentence
 tool_sentence (tool.Wire input message offset wire.Magic) first = magic_sentence first message offset
 tool_sentence (tool.Wire input message offset reason) first = message_sentence message offset reason
@@ -43,7 +43,7 @@ tool_sentence (tool.TooMuch input) first = says.TooLong
 tool_sentence tool.Write first = says.CannotWrite
 tool_sentence tool.OutOfMemory first = says.OutOfMemory
 
--- the sentence of a failure
+-- the sentence for a failure
 abbrev pub sentence_of : Failure → Sentence
 sentence_of (failure.Tool fault first) = tool_sentence fault first
 sentence_of (failure.CannotOpen name) = says.CannotOpen
@@ -60,7 +60,7 @@ tool_input (tool.Read input) = input
 tool_input (tool.TooMuch input) = input
 tool_input _ = 0
 
--- that of a failure
+-- the same for a failure
 abbrev pub input_of : Failure → ℕ
 input_of (failure.Tool fault first) = tool_input fault
 input_of failure.Unnamed = 1
@@ -72,7 +72,7 @@ failure_status (failure.Tool fault first) = status_of fault
 failure_status failure.Unnamed = 1
 failure_status _ = 2
 
--- the line of a file that could not be opened, without its line end
+-- the line for a file that could not be opened, without its line end
 abbrev pub unopened_line : List ℕ → List ℕ
 unopened_line name = codes "svid: cannot open " ++ name
 
@@ -83,11 +83,11 @@ failure_line (failure.CannotOpen name) = unopened_line name.items
 failure_line failure.Unnamed = codes "svid: bundles: Unnamed"
 failure_line failure.BadValidatorId = codes "svid: bad place"
 
--- the line of a sentence that is asked for
+-- the line of a sentence, where one was requested
 abbrev pub words_line : Option Words → List ℕ
 words_line (Some words) = sentence_text words.sentence words.input.now ++ 10 ∷ []
 words_line None = []
 
--- all that is written: the line, and behind it the sentence where it is asked for
+-- the whole output: the line, followed by the sentence where one was requested
 abbrev pub written : Failure → Option Words → List ℕ
 written failure words = failure_line failure ++ 10 ∷ words_line words

@@ -1,8 +1,8 @@
--- The first byte of what is read.
+-- The first byte of an input.
 use Rattle.std.specs.Prelude.{ℕ, List, Option, None, Some}
 use Rattle.std.specs.List.{slice_get}
 
--- the first byte of an input, when these bytes came behind those of which it was the first
+-- the first byte of an input after these bytes came, by the first byte before them
 abbrev pub first_after : Option ℕ → List ℕ → Option ℕ
 first_after (Some byte) piece = Some byte
 first_after None piece = slice_get piece 0

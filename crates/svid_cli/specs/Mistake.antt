@@ -5,16 +5,16 @@ use Rattle.std.specs.Prelude.{◌≡◌, ℕ, Bool, true, not, List, [], ◌∷�
 abbrev pub is_control : ℕ → Bool
 is_control byte = nat_lt byte 32 || (byte == 127)
 
--- a byte that a token has: of base64url (RFC 4648, section 5), or a dot (RFC 7515, section 3.1)
+-- a byte that a token may have: of base64url (RFC 4648, section 5), or a dot (RFC 7515, section 3.1)
 abbrev pub is_of_token : ℕ → Bool
 is_of_token byte = (nat_le 48 byte && nat_le byte 57) || (nat_le 65 byte && nat_le byte 90) || (nat_le 97 byte && nat_le byte 122) || (byte == 45) || (byte == 95) || (byte == 46)
 
--- how many bytes of a token are shown: as many as its header has at least
+-- how many bytes of a token are shown: no more than its header has at least
 abbrev pub most_of_token : ℕ
 most_of_token = 20
 
--- what the line has for a byte, where so many bytes of a token may still be shown: nothing for a control character, but for a line end what
--- separates two things
+-- what the line has for a byte, where so many bytes of a token may still be shown: nothing for a control character, except that a
+-- line end becomes a separator
 abbrev pub shown : ℕ → ℕ → List ℕ
 shown left byte =
     if is_of_token byte then if nat_lt 0 left then byte ∷ [] else []
@@ -22,7 +22,7 @@ shown left byte =
     else if is_control byte then []
     else byte ∷ []
 
--- how many may be shown behind it
+-- how many may be shown after it
 abbrev pub left_after : ℕ → ℕ → ℕ
 left_after left byte =
     if is_of_token byte then left - 1
@@ -34,7 +34,7 @@ unfoldable pub shown_from : ℕ → List ℕ → List ℕ
 shown_from left [] = []
 shown_from left (byte ∷ rest) = shown left byte ++ shown_from (left_after left byte) rest
 
--- a line has no more than so many bytes of a token in a row first, and no more than `most_of_token` anywhere behind these
+-- a line begins with at most so many bytes of a token in a row, and has at most `most_of_token` in a row anywhere after these
 unfoldable pub hides_tokens : ℕ → List ℕ → Bool
 hides_tokens left [] = true
 hides_tokens left (byte ∷ rest) = if is_of_token byte then nat_lt 0 left && hides_tokens (left - 1) rest else hides_tokens most_of_token rest

@@ -1,4 +1,4 @@
--- What --explain says of a failure: the text of each sentence.
+-- The text of each sentence of --explain.
 use Rattle.std.specs.Prelude.{ℕ, List, ◌++◌, codes}
 use Rattle.std.specs.Fmt.{decimal}
 use Rattle.svid_wire.specs.declared.reason.Reason.{Reason}
@@ -9,7 +9,7 @@ use Rattle.svid_cli.specs.declared.sentence.Sentence.{Sentence}
 use Rattle.svid_cli.specs.declared.sentence.Sentence.TheVariants as says
 use Rattle.svid_cli.specs.declared.sentence.TableFault.{TableFault}
 
--- what is wrong with a message, and what is due there
+-- what is wrong with a message, and what belongs there
 abbrev pub reason_words : Reason → List ℕ
 -- lists:begin reasons (written by tools/lists from lists/statuses.toml)
 reason_words wire.Magic = codes "the first four bytes are those of no version, and due is 4A 53 52, which is JSR, and then 02 or 01"
@@ -38,7 +38,7 @@ table_fault_text fault = codes "a line is neither empty nor a question. It is li
 
 -- lists:end
 
--- the text of a sentence over the input that is called so
+-- the text of a sentence about the input with this name
 abbrev pub sentence_text : Sentence → List ℕ → List ℕ
 -- lists:begin sentences (written by tools/lists from lists/faults.toml)
 sentence_text (says.NotJsr byte) input = input ++ (codes " is no message of svid: byte 0 is " ++ (hex_text byte.0 ++ codes ", where JSR is due. Name a file that svid wrote."))

@@ -7,7 +7,7 @@ use Rattle.svid_documents.specs.declared.document_fault.DocumentFault.TheVariant
 use Rattle.svid_keys.specs.declared.bundle_fault.BundleFault.{BundleFault}
 use Rattle.svid_keys.specs.declared.bundle_fault.BundleFault.TheVariants as bundles
 
--- a fault of a document as one of bundles. (the bundle of one trust domain is never without a name, nor in an earlier document)
+-- a fault of a document as one of bundles (the bundle of one trust domain always has a name, and no earlier document has it)
 abbrev pub bundle_fault : DocumentFault → BundleFault
 bundle_fault document.NotObject = bundles.NotObject
 bundle_fault document.Unnamed = bundles.NotObject

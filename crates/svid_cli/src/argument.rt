@@ -6,7 +6,7 @@ use std::alloc::{AllocError, Global};
 pub struct Argument {
     /// Its name, without the two dashes.
     pub name: &'static str,
-    /// An earlier name, which help does not have.
+    /// An earlier name, which help does not show.
     pub alias: Option<&'static str>,
     /// What help calls its value, where it has one.
     pub value: &'static str,
@@ -16,7 +16,7 @@ pub struct Argument {
 }
 
 impl Argument {
-    /// The argument as clap has it.
+    /// The argument for clap.
     pub fn to_clap<'a>(&self, alloc: Global) -> Result<Arg<'a>, AllocError> {
         let mut arg = Arg::new(alloc, self.name)
             .value_name(self.value)

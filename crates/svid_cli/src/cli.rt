@@ -1,4 +1,4 @@
-//! The command line: which command is asked for, and what it reads.
+//! The command line: which command to run, and on which files.
 
 use crate::commands::{command, help_of};
 use crate::failure::{Failure, tool_input};
@@ -23,7 +23,7 @@ use svid_lines::{CheckSetting, run_candidates, run_check, run_id};
 use svid_share::{ToolFault, read_input, run_answer, run_merge, run_report, run_summary};
 use svid_wire::Counted;
 
-// A mistake on the command line is one line on standard error.
+// Writes a mistake on the command line as one line on standard error.
 fn mistake(rt: &HostRuntime, error: &Error, words: &[String]) -> Result<u8, Failure> {
     let text = error.to_string(rt.alloc())?;
     let mut line = one_line(rt.alloc(), text.as_str(), help_of(words))?;
@@ -34,7 +34,7 @@ fn mistake(rt: &HostRuntime, error: &Error, words: &[String]) -> Result<u8, Fail
     }
 }
 
-// A call for help is answered on standard output.
+// Answers a call for help on standard output.
 fn usage(rt: &HostRuntime, error: &Error, words: &[String]) -> Result<u8, Failure> {
     if error.kind() == ErrorKind::OutOfMemory {
         return Err(Failure::from(ToolFault::OutOfMemory));
@@ -53,13 +53,13 @@ fn status_of(accepted: bool) -> u8 {
     if accepted { 0 } else { 1 }
 }
 
-// A file that gets none of the numbers 0, 1 and 2, also where a standard stream is closed: the number
-// of a copy is always beyond them, and the first one is closed again. So a closed stream stays closed.
+// A file that gets none of the numbers 0, 1 and 2, even where a standard stream is closed: the number of a copy is always
+// greater, and the first one is closed again. So a closed stream stays closed.
 fn open_beyond_streams(rt: &HostRuntime, path: &str) -> io::Result<File> {
     File::open(rt, path)?.try_clone()
 }
 
-// The file of this name. A name that is not UTF-8 is none that can be opened.
+// The file of this name. A name that is not UTF-8 cannot be opened.
 fn open<'a>(rt: &'a HostRuntime, name: &str) -> Result<Input<'a>, Failure> {
     let bytes = bytes_of_text(rt.alloc(), name)?;
     let file = match str::from_utf8(&bytes) {
@@ -72,7 +72,7 @@ fn open<'a>(rt: &'a HostRuntime, name: &str) -> Result<Input<'a>, Failure> {
     }
 }
 
-// The file of this name, which gets the record.
+// The file of this name, for the record.
 fn open_kept<'a>(rt: &'a HostRuntime, name: &str) -> Result<Kept<'a>, Failure> {
     let bytes = bytes_of_text(rt.alloc(), name)?;
     let Ok(path) = str::from_utf8(&bytes) else {
@@ -87,7 +87,7 @@ fn open_kept<'a>(rt: &'a HostRuntime, name: &str) -> Result<Kept<'a>, Failure> {
     }
 }
 
-// The validator ID that a word is: 32 hexadecimal digits.
+// The validator ID in a word: 32 hexadecimal digits.
 fn validator_id_of(alloc: Global, word: &str) -> Result<[u8; 16], Failure> {
     let digits = bytes_of_text(alloc, word)?;
     match <[u8; 16]>::from_hex(digits.as_slice()) {
@@ -96,7 +96,7 @@ fn validator_id_of(alloc: Global, word: &str) -> Result<[u8; 16], Failure> {
     }
 }
 
-// The audiences that words are. One that is not UTF-8 is no audience of any token, and is left out.
+// The audiences in these words. One that is not UTF-8 is no audience of any token, and is left out.
 fn audiences(alloc: Global, words: &[&str]) -> Result<Vec<String>, Failure> {
     let mut own = Vec::new(alloc);
     for word in words {
@@ -111,7 +111,7 @@ fn standard_input(rt: &HostRuntime) -> Input<'_> {
     Input::new(rt, Stream::Stdin(rt.stdin()))
 }
 
-// Why an engine gave up that read these inputs, of which the first has that number.
+// Why an engine gave up that read these inputs. The first of them has that number.
 fn failure_of(fault: ToolFault, inputs: &[Input<'_>], number: usize) -> Failure {
     let first = match tool_input(fault).checked_sub(number) {
         Some(index) => match inputs.get(index) {
@@ -141,7 +141,7 @@ fn open_all<'a>(rt: &'a HostRuntime, names: &[&str]) -> Result<Vec<Input<'a>>, F
     Ok(inputs)
 }
 
-// The name that a word is. One that is not UTF-8 is no trust domain name.
+// The trust domain name in a word. One that is not UTF-8 is none.
 fn domain_of(alloc: Global, word: &str) -> Result<String, Failure> {
     match String::from_utf8(bytes_of_text(alloc, word)?) {
         Ok(domain) => Ok(domain),
@@ -154,8 +154,8 @@ fn open_bundles<'a>(rt: &'a HostRuntime, matches: &ArgMatches<'_>) -> Result<Inp
     open(rt, matches.get_str("bundles").unwrap_or(""))
 }
 
-// The trust bundles: those of the file, or of the one trust domain that is named, whose bundle the file has. This reads the
-// file, so all others are open by then.
+// The trust bundles: those of the file or, where a trust domain is named, the bundle of this one, which the file has. This reads
+// the file, so all others are open by then.
 fn trusted<'a>(
     rt: &'a HostRuntime,
     matches: &ArgMatches<'_>,
@@ -173,7 +173,7 @@ fn trusted<'a>(
     }
 }
 
-// Why an engine gave up that read these bundles: they may be the bundle of one trust domain, which nobody named.
+// Why an engine gave up that read these bundles: they may be the bundle of one trust domain, whose name is missing.
 fn refused(rt: &HostRuntime, bundles: &Input<'_>, failure: Failure) -> Failure {
     let Failure::Tool {
         fault: ToolFault::Bundles(BundleFault::Domain(_) | BundleFault::Keys(_)),
@@ -287,7 +287,7 @@ fn check_setting(rt: &HostRuntime, matches: &ArgMatches<'_>) -> Result<CheckSett
     })
 }
 
-// Lets the file that was to get the record be as it was.
+// Leaves the file for the record as it was.
 fn discard(kept: &mut Option<Kept<'_>>) {
     if let Some(kept) = kept {
         kept.discard();
@@ -346,7 +346,7 @@ fn dispatch(rt: &HostRuntime, matches: &ArgMatches<'_>) -> Result<u8, Failure> {
     }
 }
 
-// The file with this number of those that were named, of which the first has the other one.
+// The file with this number among those on the command line. The first one has the number `first`.
 fn named<'a>(names: Option<&[&'a str]>, number: usize, first: usize) -> Option<&'a str> {
     let index = number.checked_sub(first)?;
     names?.get(index).copied()
@@ -365,14 +365,14 @@ fn name_of_input<'a>(matches: &ArgMatches<'a>, number: usize) -> Option<&'a str>
     }
 }
 
-// What the input with this number is called: a file by its name, unless memory is refused for that.
+// The name of the input with this number in messages: a file by its name, unless memory is refused for that.
 fn input_text(alloc: Global, matches: &ArgMatches<'_>, number: usize) -> Option<String> {
     let name = name_of_input(matches, number).unwrap_or("standard input");
     String::from_utf8(bytes_of_text(alloc, name).ok()?).ok()
 }
 
-// Writes the line of a failure on standard error, and what it says in words where that is asked for. (there is nowhere
-// left to tell that standard error can't be written)
+// Writes the line of a failure on standard error, and its sentence where one was requested. (There is no way to report that
+// standard error can't be written.)
 fn tell(rt: &HostRuntime, failure: &Failure, is_explained: bool, input: Option<&str>) {
     let words = if is_explained {
         Some(Words {
@@ -385,13 +385,13 @@ fn tell(rt: &HostRuntime, failure: &Failure, is_explained: bool, input: Option<&
     let _ = failure.tell(words, &mut rt.stderr());
 }
 
-// The exit status of a failure before a command begins, after it is told.
+// Reports a failure before a command begins, and returns the exit status.
 fn failed(rt: &HostRuntime, failure: Failure, is_explained: bool) -> u8 {
     tell(rt, &failure, is_explained, None);
     failure.status()
 }
 
-// The exit status of the command, after which its failure is told.
+// Reports the failure of the command, if it failed, and returns the exit status.
 fn answered(rt: &HostRuntime, matches: &ArgMatches<'_>, is_explained: bool) -> u8 {
     match dispatch(rt, matches) {
         Ok(status) => status,
@@ -408,7 +408,7 @@ fn answered(rt: &HostRuntime, matches: &ArgMatches<'_>, is_explained: bool) -> u
     }
 }
 
-// Whether the environment asks for words: SVID_EXPLAIN is 1.
+// Whether the environment requests sentences: SVID_EXPLAIN is 1.
 fn is_asked_by<R: Env>(rt: &R) -> bool {
     let mut room = [0; 1];
     match rt.var("SVID_EXPLAIN", &mut room) {
@@ -417,8 +417,7 @@ fn is_asked_by<R: Env>(rt: &R) -> bool {
     }
 }
 
-// Whether the command line asks for them. (it is looked through here and not by clap, which answers no matches beside
-// a call for help that can't be written)
+// Whether the command line requests them. (This looks at the words itself: clap returns no matches when help can't be written.)
 fn is_asked_in(words: &[String]) -> bool {
     for word in words {
         match word.as_str() {
@@ -430,7 +429,7 @@ fn is_asked_in(words: &[String]) -> bool {
     false
 }
 
-/// Runs the command that the words of the command line ask for, and answers the exit status.
+/// Runs the command on the command line, and returns the exit status.
 pub fn run(rt: &HostRuntime) -> u8 {
     let alloc = rt.alloc();
     let is_asked = is_asked_by(rt);

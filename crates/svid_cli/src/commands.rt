@@ -1,4 +1,4 @@
-//! The commands and their arguments, with what help says of each.
+//! The commands and their arguments, with the text of help for each.
 
 use crate::argument::Argument;
 use crate::form::Form;
@@ -28,7 +28,7 @@ const FILES: Argument = Argument {
     help: "Files of messages; standard input if you name none",
 };
 
-// The moment to which a record is raised.
+// The moment to which a record is advanced.
 const RAISED_TO: Argument = Argument {
     name: "now",
     alias: None,
@@ -217,7 +217,7 @@ static COMMANDS: [Subcommand; 8] = [
     },
 ];
 
-/// The program as clap has it.
+/// The program for clap.
 pub fn command<'a>(alloc: Global) -> Result<Command<'a>, AllocError> {
     let mut svid = Command::new(alloc, "svid")
         .bin_name("svid")?
@@ -234,8 +234,7 @@ pub fn command<'a>(alloc: Global) -> Result<Command<'a>, AllocError> {
     Ok(svid)
 }
 
-/// The call for help that these words of a command line are near: that of the command that they name, or else that of
-/// the program.
+/// The help that is nearest to these words of a command line: that of the command that they name, or else that of the program.
 pub fn help_of(words: &[String]) -> &'static str {
     for word in words {
         for subcommand in &COMMANDS {

@@ -16,7 +16,7 @@ pub enum Failure {
     /// An engine gave up.
     Tool {
         fault: ToolFault,
-        /// The first byte of the input that the fault is about, where it is known.
+        /// The first byte of the input at fault, where it is known.
         first: Option<u8>,
     },
     /// A file with this name could not be opened.
@@ -39,7 +39,7 @@ fn message_sentence(message: usize, offset: usize, reason: Reason) -> Sentence
     }
 }
 
-// The sentence of a message whose first four bytes are not those of one.
+// The sentence for a message whose first four bytes are not those of one.
 fn magic_sentence(first: Option<u8>, message: usize, offset: usize) -> Sentence
     ensures { result ≡ magic_sentence first message offset }
 {
@@ -122,7 +122,7 @@ impl Failure {
         }
     }
 
-    /// What it says in words.
+    /// The sentence for it.
     pub fn sentence(&self) -> Sentence
         ensures { result ≡ sentence_of self.now }
     {
@@ -159,7 +159,7 @@ impl Failure {
         }
     }
 
-    /// Writes the line, and behind it these words, where there are any.
+    /// Writes the line, followed by these words, where there are any.
     pub fn tell<W: Write>(&self, words: Option<Words<'_>>, to: &mut W) -> io::Result<()>
         ensures { OnOk result (Appends (W.contents to.old) (W.contents to.new) (written self.now words.entry)) }
     {

@@ -1,4 +1,4 @@
-//! What the program reads.
+//! The inputs of the program.
 ghost use Rattle.std.specs.Prelude.{◌≡◌, None, take};
 ghost use Rattle.std.specs.Io.{ReadsAtMost};
 ghost use Rattle.svid_cli.specs.Input.{first_after};
@@ -9,7 +9,7 @@ use std::time::Duration;
 use std::{io, thread};
 use svid_wire::{Source, Stopped};
 
-/// Where bytes come from: standard input, a file, or what the program made of one.
+/// Where bytes come from: standard input, a file, or bytes that the program made from one.
 #[derive(Drop)]
 pub enum Stream {
     Stdin(Stdin),
@@ -17,8 +17,7 @@ pub enum Stream {
     Made(Cursor<Vec<u8>>),
 }
 
-/// What the program reads. Where it has no bytes yet and would not wait for them, since it is non-blocking, the
-/// program looks again a hundred times a second.
+/// An input of the program. Where it is non-blocking and has no bytes yet, the program looks again a hundred times a second.
 #[derive(Drop)]
 pub struct Input<'a> {
     rt: &'a HostRuntime,
@@ -27,7 +26,7 @@ pub struct Input<'a> {
     faults: u64,
 }
 
-// Waits for a source that is not ready, or passes on what it answered.
+// Waits for a source that is not ready, or passes on its result.
 fn wait_for<R: Read>(rt: &HostRuntime, from: &mut R, room: &mut [u8]) -> io::Result<usize>
     ensures bound { ReadsAtMost result room.new }
 {
@@ -42,7 +41,7 @@ fn wait_for<R: Read>(rt: &HostRuntime, from: &mut R, room: &mut [u8]) -> io::Res
     Err(io::Error::from(ErrorKind::WouldBlock))
 }
 
-// The first byte of an input, when these bytes came behind those of which it was the first.
+// The first byte of an input after these bytes came, by the first byte before them.
 fn first_after(first: Option<u8>, piece: &[u8]) -> Option<u8>
     ensures { result ≡ first_after first piece.now }
 {
@@ -53,7 +52,7 @@ fn first_after(first: Option<u8>, piece: &[u8]) -> Option<u8>
 }
 
 impl<'a> Input<'a> {
-    /// Of which nothing is read yet.
+    /// An input before its first byte.
     pub fn new(rt: &'a HostRuntime, stream: Stream) -> Input<'a> {
         Input {
             rt,
@@ -63,14 +62,14 @@ impl<'a> Input<'a> {
         }
     }
 
-    /// The first byte, once one is read.
+    /// The first byte, once one was read.
     pub fn first(&self) -> Option<u8>
         ensures { result ≡ self.now.first }
     {
         self.first
     }
 
-    /// The bytes of what the program made.
+    /// The bytes that the program made.
     pub fn made(&self) -> &[u8] {
         match &self.stream {
             Stream::Made(bytes) => bytes.get_ref(),

@@ -11,17 +11,17 @@ use svid_replay::{Record, UseStore};
 use svid_share::{ToolFault, put_record};
 use svid_wire::{Sink, Stopped};
 
-// How many names beside a file are tried: each stands for a run that was killed while it wrote.
+// How many names beside a file are tried: one is taken for each run that was killed while it wrote.
 const NAMES: u32 = 1000;
 
-// A new file beside one.
+// A new file beside another.
 #[derive(Drop)]
 struct Beside {
     name: String,
     file: File,
 }
 
-// A regular file that is to be replaced.
+// A regular file to replace.
 #[derive(Drop)]
 struct Replaced {
     path: PathBuf,
@@ -31,8 +31,8 @@ struct Replaced {
     beside: Option<Beside>,
 }
 
-/// Where the record goes. A regular file is replaced: the record is written to a new file beside it, which
-/// then takes its name. Anything else, as a pipe, is written to.
+/// Where the record goes. A regular file is replaced: the record is written to a new file beside it, which then takes its name.
+/// Anything else, such as a pipe, is written to.
 #[derive(Drop)]
 pub struct Kept<'a> {
     rt: &'a HostRuntime,
@@ -41,7 +41,7 @@ pub struct Kept<'a> {
     faults: u64,
 }
 
-// The file of this name, and whether it had to be made. What is in it stays.
+// The file of this name, and whether it had to be made. Its content stays.
 fn open_or_make(rt: &HostRuntime, path: &str) -> io::Result<(File, bool)> {
     match OpenOptions::new().write(true).open(rt, path) {
         Ok(file) => Ok((file, false)),
@@ -63,7 +63,7 @@ fn make_beside(rt: &HostRuntime, path: &str) -> io::Result<Beside> {
             .open(rt, name.as_str())
         {
             Ok(file) => {
-                // (as for the other files: no standard stream that is closed gets its number)
+                // (as for the other files: none gets the number of a closed standard stream)
                 let file = file.try_clone()?;
                 return Ok(Beside { name, file });
             }
@@ -107,7 +107,7 @@ impl Replaced {
         placed
     }
 
-    // Removes what this run made. (there is nobody to tell that it can't be)
+    // Removes what this run made. (There is no way to report that it can't.)
     fn discard(&mut self, rt: &HostRuntime) {
         if let Some(beside) = self.beside.take() {
             let _ = fs::remove_file(rt, beside.name.as_str());
@@ -119,10 +119,10 @@ impl Replaced {
 }
 
 impl<'a> Kept<'a> {
-    /// Opens the file of this name, or makes an empty one. What is in it stays.
+    /// Opens the file of this name, or makes an empty one. Its content stays.
     pub fn open(rt: &'a HostRuntime, path: &str) -> io::Result<Kept<'a>> {
         let (opened, made) = open_or_make(rt, path)?;
-        // (as for the other files: no standard stream that is closed gets its number)
+        // (as for the other files: none gets the number of a closed standard stream)
         let file = opened.try_clone()?;
         let about = file.metadata()?;
         let replaced = if about.is_file() {

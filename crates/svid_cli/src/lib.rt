@@ -1,4 +1,4 @@
-//! The command line of the program `svid`: it reads the words, opens what is named there, and hands both to an engine of
+//! The command line of the program `svid`: it reads the words, opens the files that they name, and hands both to an engine of
 //! `svid_lines` or `svid_share`.
 #![tactic(auto)]
 

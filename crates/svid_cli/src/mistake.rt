@@ -1,4 +1,4 @@
-//! A mistake on the command line, told in one line.
+//! A mistake on the command line, in one line.
 ghost use Rattle.std.specs.Prelude.{◌≡◌, ◌++◌, IfOk, true};
 ghost use Rattle.svid_cli.specs.Mistake.{HasWords, hides_tokens, is_of_token, is_one_line, left_after, mistake_text, most_of_token, shown, shown_from};
 
@@ -8,7 +8,7 @@ use std::alloc::{AllocError, Global};
 // How many bytes of a token are shown.
 const MOST_OF_TOKEN: u32 = 20;
 
-// What a line of the parser's text says, without the word that stands in front of it.
+// The content of a line of the parser's text, without the word before it.
 fn said(line: &str) -> &str {
     let line = line.trim();
     match line.strip_prefix("error: ") {
@@ -17,12 +17,12 @@ fn said(line: &str) -> &str {
     }
 }
 
-// Whether only usage is left of the parser's text.
+// Whether the rest of the parser's text is only usage.
 fn is_usage(said: &str) -> bool {
     said.starts_with("Usage: ") || said.starts_with("For more information")
 }
 
-// What stands between these words and the next ones.
+// The separator between these words and the next ones.
 fn between(told: &str) -> &'static str {
     if told.is_empty() {
         ""
@@ -33,7 +33,7 @@ fn between(told: &str) -> &'static str {
     }
 }
 
-// What the parser says before the usage, one thing behind the other.
+// The parser's text before the usage, joined to one line.
 fn joined(alloc: Global, text: &str) -> Result<String, AllocError> {
     let mut told = String::new(alloc);
     for line in text.lines() {
@@ -56,7 +56,7 @@ fn is_of_token(byte: u8) -> bool
     matches!(byte, b'0'..=b'9' | b'A'..=b'Z' | b'a'..=b'z' | b'-' | b'_' | b'.')
 }
 
-// Puts what the line has for a byte, where so many bytes of a token may still be shown.
+// Appends what the line has for a byte, where so many bytes of a token may still be shown.
 fn push_shown(line: &mut Vec<u8>, left: u32, byte: u8) -> Result<(), AllocError>
     ensures { IfOk result (λ _. line.new.items ≡ line.old.items ++ shown left byte) }
 {
@@ -72,7 +72,7 @@ fn push_shown(line: &mut Vec<u8>, left: u32, byte: u8) -> Result<(), AllocError>
     Ok(())
 }
 
-// How many bytes of a token may be shown behind this one.
+// How many bytes of a token may be shown after this one.
 fn left_after(left: u32, byte: u8) -> u32
     ensures { result ≡ left_after left byte }
 {
@@ -98,7 +98,7 @@ fn shown_of(alloc: Global, bytes: &[u8]) -> Result<Vec<u8>, AllocError>
     Ok(line)
 }
 
-// The line's bytes as they come: what is wrong, and which help to ask for.
+// The line's bytes before any are hidden: what is wrong, and which help to ask for.
 fn whole(alloc: Global, told: &[u8], help: &str) -> Result<Vec<u8>, AllocError>
     ensures { IfOk result (λ line. line.items ≡ mistake_text told.now help.now) }
 {
@@ -111,9 +111,9 @@ fn whole(alloc: Global, told: &[u8], help: &str) -> Result<Vec<u8>, AllocError>
     Ok(line)
 }
 
-/// What the parser says of a mistake in several lines, as one: `svid: `, what is wrong, the nearest name where there is one, and
-/// which help to ask for. It has no control character of ASCII, so no word of the command line adds a line to it, or commands a
-/// terminal. Of a token it has no more than 20 bytes.
+/// The parser's lines about a mistake, as one: `svid: `, what is wrong, the nearest name where there is one, and which help to
+/// ask for. It has no control character of ASCII, so no word of the command line adds a line to it, or commands a terminal. Of a
+/// token it has no more than 20 bytes.
 pub fn one_line(alloc: Global, text: &str, help: &str) -> Result<Vec<u8>, AllocError>
     ensures words { IfOk result (λ line. HasWords help.now line.items) }
     ensures one { IfOk result (λ line. is_one_line line.items ≡ true) }

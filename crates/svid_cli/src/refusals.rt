@@ -1,4 +1,4 @@
-//! Why tokens are refused, in the order in which a check looks for it, as `svid refusals` prints it.
+//! Why tokens are refused, in the order of the checks, as `svid refusals` prints it.
 
 // lists:begin refusals (written by tools/lists from lists/refusals.toml)
 

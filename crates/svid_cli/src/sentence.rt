@@ -57,7 +57,7 @@ pub enum Sentence {
     OutOfMemory,
 }
 
-/// A sentence, with what its input is called.
+/// A sentence, with the name of its input.
 #[derive(Clone, Copy)]
 pub struct Words<'a> {
     pub sentence: Sentence,
@@ -85,7 +85,7 @@ impl fmt::Display for HexByte {
     }
 }
 
-// What is wrong with a message, and what is due there.
+// What is wrong with a message, and what belongs there.
 fn reason_words(reason: Reason) -> &'static str
     ensures { result.now ≡ reason_words reason }
 {

@@ -13,7 +13,7 @@ pub struct Subcommand {
 }
 
 impl Subcommand {
-    /// The command as clap has it.
+    /// The command for clap.
     pub fn to_clap<'a>(&self, alloc: Global) -> Result<Command<'a>, AllocError> {
         let mut command = Command::new(alloc, self.name)
             .about(self.about)

@@ -1,4 +1,4 @@
-//! The bundle of one trust domain, as SPIRE prints it, made an object of trust domains.
+//! The bundle of one trust domain, as SPIRE prints it, turned into an object of trust domains.
 ghost use Rattle.std.specs.Prelude.{◌≡◌, IfErr, IfOk};
 ghost use Rattle.svid_documents.specs.Join.{IsJoined};
 ghost use Rattle.svid_cli.specs.TrustDomain.{IsNoBundleOf, bundle_fault, only};
@@ -18,7 +18,7 @@ fn bundle_fault(fault: DocumentFault) -> BundleFault
     }
 }
 
-/// An object of trust domains that has the bundle of one.
+/// An object of trust domains with the bundle of one.
 pub fn bundles_of(alloc: Global, domain: &str, text: &[u8]) -> Result<Vec<u8>, BundleFault>
     ensures ok { IfOk result (λ bundles. IsJoined (only domain.now text.now) bundles.items) }
     ensures fault { IfErr result (IsNoBundleOf domain.now text.now) }

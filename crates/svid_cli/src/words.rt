@@ -17,7 +17,7 @@ pub fn text_of_bytes(alloc: Global, bytes: &[u8]) -> Result<String, AllocError>
     Ok(text)
 }
 
-/// The bytes that `text_of_bytes` made this text of. A character that it never makes is left out.
+/// The bytes from which `text_of_bytes` made this text. Leaves out a character that it never makes.
 pub fn bytes_of_text(alloc: Global, text: &str) -> Result<Vec<u8>, AllocError> {
     let mut bytes = Vec::new(alloc);
     for character in text.chars() {
@@ -28,7 +28,7 @@ pub fn bytes_of_text(alloc: Global, text: &str) -> Result<Vec<u8>, AllocError> {
     Ok(bytes)
 }
 
-// The word at this index, or `None` behind the last one.
+// The word at this index, or `None` after the last one.
 fn word<R: Env>(rt: &R, alloc: Global, index: usize) -> Result<Option<String>, AllocError> {
     for power in 8..32u32 {
         let mut room = vec![in alloc; 0u8; 1usize << power]?;

@@ -1,4 +1,4 @@
--- What is read of a file that a crash left.
+-- The payloads that are read of a file that a crash left.
 use Rattle.std.proofs.Common.{◌≡◌, ◌⊎◌, inl, inr, ℕ, ◌+◌, ◌*◌, ◌^◌, ◌<◌, List, [], ◌∷◌, ◌++◌, length, drop, refl, sym, ◌∙◌, ap, subst, arith, append_assoc}
 use Rattle.std.specs.List.{AllByRecursion}
 use Rattle.std.proofs.lemmas.List.{drop_at, append-nil}
@@ -6,7 +6,7 @@ use Rattle.svid_journal.specs.Frames.{frame_of, frames_of, IsPayload, BeginsWith
 use Rattle.svid_journal.specs.Reading.{HasLater}
 use Rattle.svid_journal.proofs.FramesLemmas.{cells_of, same_frames, length-frame_in}
 
--- of two ways to read bytes as frames, one that goes on as long as there are frames goes as far as the other, and then on through its rest
+-- of two readings of the same bytes, one that goes on as long as there are frames has the frames of the other, and then those of its rest
 pub record GoesOn (title : List ℕ) (number : ℕ) (ps qs : List (List ℕ)) (x y : List ℕ) : Type 0 where
   pub more : List (List ℕ)
   pub first : qs ≡ ps ++ more
@@ -29,11 +29,11 @@ goes_on title number (p ∷ ps) (q ∷ qs) x y fp fq e none =
       each = further.each;
     }
 
--- how a file goes on behind frames that stand in front
+-- the rest of a file after its first frames
 pub on_behind : (title file tail rest : List ℕ) (front payloads : List (List ℕ)) → AllByRecursion IsPayload front → file ≡ frames_of title 1 front ++ tail → IsReading title file payloads rest → GoesOn title 1 front payloads tail rest
 on_behind title file tail rest front payloads fits kept reading = goes_on title 1 front payloads tail rest fits reading.each (sym kept ∙ reading.whole) reading.ended
 
--- the frame that stands behind the damage
+-- the frame after the damage
 later_stands : (title broken lost next tail rest : List ℕ) (number : ℕ) (after : List (List ℕ)) → number + 1 < 2 ^ 64 → IsPayload next → length broken ≡ length (frame_of title number lost) → rest ≡ broken ++ (frames_of title (number + 1) (next ∷ after) ++ tail) → HasLater title number rest
 later_stands title broken lost next tail rest number after high fits long is =
     let frame = frame_of title (number + 1) next in
@@ -55,7 +55,7 @@ later_stands title broken lost next tail rest number after high fits long is =
       },
     )
 
--- Damage of a frame that has another behind it is seen, or a frame of its number stands there.
+-- Damage of a frame before another is seen, or a frame of its number is there.
 pub damage_seen : (title broken lost next tail rest : List ℕ) (before after payloads : List (List ℕ)) → AllByRecursion IsPayload before → IsPayload next → 2 + length before < 2 ^ 64 → length broken ≡ length (frame_of title (1 + length before) lost)
     → IsReading title (frames_of title 1 before ++ (broken ++ (frames_of title (2 + length before) (next ∷ after) ++ tail))) payloads rest
     → ((payloads ≡ before) × HasLater title (1 + length before) rest)

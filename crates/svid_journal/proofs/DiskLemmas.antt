@@ -12,13 +12,13 @@ use Rattle.svid_journal.specs.History.Event.{Begin, Answer, Piece, Put, Grow, Sy
 use Rattle.svid_journal.specs.Promises.{CrashesMayCome}
 use Rattle.svid_journal.proofs.HistoryLemmas.{unless_both}
 
--- the front of a longer row
+-- the first bytes of a longer list
 take_front : (n : ℕ) (xs ys : List ℕ) → (zs : List ℕ) × (take n (xs ++ ys) ≡ take n xs ++ zs)
 take_front zero xs ys = ([], refl)
 take_front (suc n) [] ys = (take (suc n) ys, refl)
 take_front (suc n) (x ∷ xs) ys = let more = take_front n xs ys in (more.0, λ i. x ∷ more.1 i)
 
--- what is seen of a file may be left of it
+-- a crash may leave what is seen of a file
 abbrev IsPlainFile : File → Type 0
 IsPlainFile f = MayLeave f f.seen
 
@@ -39,7 +39,7 @@ plain_forced true f plain = cond_both f.spoiled f (record { seen = f.seen; kept 
 plain_empty : IsPlainFile empty_file
 plain_empty = ([], refl)
 
--- a name may stand for what it stands for
+-- after a crash a name may refer to what it refers to now
 abbrev IsPlainName : {A : Type 0} → Name A → Type 0
 IsPlainName name = IsOneOf name.may name.now
 

@@ -29,7 +29,7 @@ wants_next Renaming = false
 wants_next Publishing = false
 wants_next Removing = false
 
--- what the numbers of a folder are between calls
+-- the numbers of a folder between calls
 record Fits (f : Folder) : Type 0 where
   newest : f.newest < 2 ^ 62
   oldest : f.oldest ≤ 2 ^ 62
@@ -39,7 +39,7 @@ record Fits (f : Folder) : Type 0 where
   flying : f.flying ≤ 2 ^ 25
   pieces : f.pieces < 2 ^ 62
   still : (f.flying ≡ 0) ⊎ (is_starting f.step ≡ false)
-  -- there is room for the frame that flies, and for the next journal
+  -- there is room for the frame in flight, and for the next journal
   room : (f.flying ≡ 0) ⊎ ((f.count + 1 < 2 ^ 62) × (f.end + f.flying < 2 ^ 62))
   next : (f.ended ≡ true) ⊎ ((wants_next f.step ≡ false) ⊎ (f.newest + 1 < 2 ^ 62))
 

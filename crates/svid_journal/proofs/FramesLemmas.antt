@@ -1,4 +1,4 @@
--- A frame is known by its bytes.
+-- A frame is determined by its bytes.
 use Rattle.std.proofs.Common.{◌≡◌, ◌≢◌, ℕ, ◌+◌, ◌-◌, ◌*◌, ◌/◌, ◌%◌, ◌^◌, ◌<◌, List, [], ◌∷◌, ◌++◌, length, take, drop, refl, sym, ◌∙◌, ap, arith, append_assoc, length-append, drop-drop}
 use Rattle.std.specs.List.{AllByRecursion}
 use Rattle.std.specs.Int.{to_be_bytes, from_be_bytes, w32, w64}
@@ -28,7 +28,7 @@ same_code m n fm fn e = sym (from_be_bytes-to_be_bytes_4 m fm) ∙ ap (from_be_b
 pub same_number : (m n : ℕ) → m < 2 ^ 64 → n < 2 ^ 64 → to_be_bytes w64 m ≡ to_be_bytes w64 n → m ≡ n
 same_number m n fm fn e = sym (from_be_bytes-to_be_bytes_8 m fm) ∙ ap (from_be_bytes w64) e ∙ from_be_bytes-to_be_bytes_8 n fn
 
--- two heads that are one state one length
+-- two equal heads give the same length
 same_heads_length : (v : ℕ) (title : List ℕ) (number : ℕ) (p q : List ℕ) → v < 256 → IsPayload p → IsPayload q → head_of v title number p ≡ head_of v title number q → length p ≡ length q
 unfolding head_of numbers_of
 same_heads_length v title number p q fv fp fq e =
@@ -37,7 +37,7 @@ same_heads_length v title number p q fv fp fq e =
     let same = same_code (v * 16777216 + length p) (v * 16777216 + length q) (omega arith) (omega arith) codes.1 in
     omega arith
 
--- frames that begin the same bytes are one, and so is what stands behind them
+-- frames at the start of the same bytes are equal, and so are the bytes after them
 pub same_frames : (v : ℕ) (title : List ℕ) (number : ℕ) (p q x y : List ℕ) → v < 256 → IsPayload p → IsPayload q → frame_in v title number p ++ x ≡ frame_in v title number q ++ y → (p ≡ q) × (x ≡ y)
 unfolding frame_in
 same_frames v title number p q x y fv fp fq e =
@@ -69,7 +69,7 @@ unfolding frame_in
 frame_len-is v title number payload =
     omega (arith, length-append (head_of v title number payload) (payload ++ filler (gap (length payload))), length-append payload (filler (gap (length payload))), length-head_of v title number payload, length-replicate {A = ℕ} (gap (length payload)) 255)
 
--- what a frame begins with
+-- the head of a frame
 pub is_head : (v : ℕ) (title : List ℕ) (number : ℕ) (payload bytes behind : List ℕ) → bytes ≡ frame_in v title number payload ++ behind → take 32 bytes ≡ head_of v title number payload
 unfolding frame_in
 is_head v title number payload bytes behind stands =
@@ -83,9 +83,9 @@ head_front v title number payload bytes behind stands =
     let body = payload ++ filler (gap (length payload)) in
     ap (take 20) (stands ∙ append_assoc (tag ++ numbers) body behind ∙ append_assoc tag numbers (body ++ behind)) ∙ take_at tag (numbers ++ (body ++ behind)) 20 (length-tag_of (sealed v title number payload))
 
--- What the parts of bytes tell of a frame in front of them.
+-- What follows from parts of bytes about a frame at their start.
 
--- what stands in front of a body, as a head, is the head of the frame
+-- the bytes before a body, if they are a head, are the head of the frame
 parts : (v : ℕ) (title : List ℕ) (number : ℕ) (bytes stated body payload rest : List ℕ) → bytes ≡ stated ++ body → length stated ≡ 32 → bytes ≡ frame_in v title number payload ++ rest → (stated ≡ head_of v title number payload) × (body ≡ payload ++ (filler (gap (length payload)) ++ rest))
 unfolding frame_in
 parts v title number bytes stated body payload rest split long stands =
@@ -94,7 +94,7 @@ parts v title number bytes stated body payload rest split long stands =
     let both = same_parts stated head body ((payload ++ behind) ++ rest) (long ∙ sym (length-head_of v title number payload)) (sym split ∙ stands ∙ append_assoc head (payload ++ behind) rest) in
     (both.0, both.1 ∙ append_assoc payload behind rest)
 
--- a head states its format and the length of its payload
+-- a head gives its format and the length of its payload
 pub stated_code : (v : ℕ) (title : List ℕ) (number code : ℕ) (stated payload : List ℕ) → v < 256 → code < 2 ^ 32 → IsPayload payload → to_be_bytes w32 code ≡ drop 28 stated → stated ≡ head_of v title number payload → v * 16777216 + length payload ≡ code
 unfolding head_of numbers_of
 stated_code v title number code stated payload low fits bears states is =
@@ -107,7 +107,7 @@ stated_code v title number code stated payload low fits bears states is =
     ap (drop 28) (is ∙ sym (append_assoc tag numbers there)) ∙ drop_at front there 28 long in
     same_code (v * 16777216 + length payload) code (omega arith) fits (sym (states ∙ back))
 
--- a head states the number of its frame
+-- a head gives the number of its frame
 pub stated_number : (v : ℕ) (title : List ℕ) (number later : ℕ) (stated payload : List ℕ) → number < 2 ^ 64 → later < 2 ^ 64 → to_be_bytes w64 number ≡ take 8 (drop 20 stated) → stated ≡ head_of v title later payload → later ≡ number
 unfolding head_of numbers_of
 stated_number v title number later stated payload fits fitting states is =
@@ -150,7 +150,7 @@ whole_frame v title number len bytes stated body found rest split cut size is =
     let there : body ≡ (found ++ filled) ++ rest = cut ∙ ap (λ (n : ℕ). found ++ (filler (gap n) ++ rest)) (sym size) ∙ sym (append_assoc found filled rest) in
     split ∙ ap (λ (x : List ℕ). x ++ body) is ∙ ap (λ (x : List ℕ). head ++ x) there ∙ sym (append_assoc head (found ++ filled) rest)
 
--- a body that is cut at the length of its payload and behind its filler
+-- a body that is cut at the length of its payload and after its filler
 pub cut_some : (len count filled : ℕ) (body payload behind missing rest expected : List ℕ) → count ≡ filled → payload ≡ take len body → behind ≡ drop len body → missing ≡ take count behind → rest ≡ drop count behind → expected ≡ filler count → missing ≡ expected → body ≡ payload ++ (filler filled ++ rest)
 cut_some len count filled body payload behind missing rest expected count-is payload-is behind-is missing-is rest-is expected-is same =
     let back : behind ≡ filler filled ++ rest =
@@ -164,7 +164,7 @@ cut_none len count filled body behind missing expected payload rest count-is beh
     ∙ take_at (filler count) rest count (length-replicate {A = ℕ} count 255) ∙ sym expected-is
     )
 
--- a head made of its pieces
+-- a head from its pieces
 pub pieces_fill : (v : ℕ) (title numbers payload digest tag mid whole : List ℕ) (number : ℕ) → numbers ≡ numbers_of v number payload → digest ≡ sha256 (v ∷ (title ++ (numbers ++ payload))) → tag ≡ take 20 digest → take (0 + length tag) mid ≡ tag → take (20 + length numbers) whole ≡ take 20 mid ++ numbers → length whole ≡ 32
     → whole ≡ head_of v title number payload
 unfolding head_of sealed tag_of
@@ -179,7 +179,7 @@ pieces_fill v title numbers payload digest tag mid whole number numbers-is diges
 
 -- Frames one after the other.
 
--- one frame more
+-- one more frame
 pub frames_of-push : (title : List ℕ) (number : ℕ) (payloads : List (List ℕ)) (payload : List ℕ) → frames_of title number (payloads ++ payload ∷ []) ≡ frames_of title number payloads ++ frame_of title (number + length payloads) payload
 frames_of-push title number [] payload = append-nil (frame_of title number payload) ∙ ap (λ (n : ℕ). frame_of title n payload) (omega arith)
 frames_of-push title number (p ∷ ps) payload =
@@ -193,7 +193,7 @@ frames_of-append title number (p ∷ ps) qs =
     ∙ sym (append_assoc (frame_of title number p) (frames_of title (number + 1) ps) (frames_of title (number + 1 + length ps) qs))
     ∙ ap (λ (n : ℕ). (frame_of title number p ++ frames_of title (number + 1) ps) ++ frames_of title n qs) (omega arith)
 
--- one frame more that is read
+-- one more frame that is read
 pub one_more : (title bytes rest payload behind : List ℕ) (payloads : List (List ℕ)) (number : ℕ) → bytes ≡ frames_of title 1 payloads ++ rest → number ≡ 1 + length payloads → rest ≡ frame_of title number payload ++ behind → bytes ≡ frames_of title 1 (payloads ++ payload ∷ []) ++ behind
 one_more title bytes rest payload behind payloads number whole is stands =
     whole ∙ ap (λ (x : List ℕ). frames_of title 1 payloads ++ x) stands ∙ sym (append_assoc (frames_of title 1 payloads) (frame_of title number payload) behind)
@@ -206,14 +206,14 @@ each_push (p ∷ ps) payload each bears = (each.0, each_push ps payload each.1 b
 pub longer : (title : List ℕ) (payloads : List (List ℕ)) (payload : List ℕ) → length (frames_of title 1 (payloads ++ payload ∷ [])) ≡ length (frames_of title 1 payloads) + length (frame_of title (1 + length payloads) payload)
 longer title payloads payload = ap length (frames_of-push title 1 payloads payload) ∙ length-append (frames_of title 1 payloads) (frame_of title (1 + length payloads) payload)
 
--- a piece that is put behind what is done
+-- a piece after those that are done
 pub put_behind : (done piece rest old new : List ℕ) (at : ℕ) → at ≡ length done → old ≡ done ++ rest → new ≡ take at old ++ (piece ++ drop (at + length piece) old) → new ≡ (done ++ piece) ++ drop (length piece) rest
 put_behind done piece rest old new at offset is put =
     let front : take at old ≡ done = (λ i. take (offset i) (is i)) ∙ take-append_seam done rest in
     let back : drop (at + length piece) old ≡ drop (length piece) rest = (λ i. drop (offset i + length piece) (is i)) ∙ drop-append-add done rest (length piece) in
     put ∙ (λ i. front i ++ (piece ++ back i)) ∙ sym (append_assoc done piece (drop (length piece) rest))
 
--- a head, a payload and filler that are put one behind the other are a frame
+-- a head, a payload and filler, one after the other, are a frame
 pub frame_put : (v : ℕ) (title : List ℕ) (number : ℕ) (payload head filled room one two three : List ℕ) (at : ℕ) → head ≡ head_of v title number payload → filled ≡ filler (gap (length payload)) → at ≡ 32 + length payload
     → one ≡ take 0 room ++ (head ++ drop (0 + length head) room) → two ≡ take 32 one ++ (payload ++ drop (32 + length payload) one) → three ≡ take at two ++ (filled ++ drop (at + length filled) two)
     → three ≡ frame_in v title number payload ++ drop (frame_len (length payload)) room
@@ -230,6 +230,6 @@ frame_put v title number payload head filled room one two three at heads fills_u
     let frames : (head ++ payload) ++ filled ≡ head_of v title number payload ++ (payload ++ filler (gap (length payload))) = append_assoc head payload filled ∙ (λ i. heads i ++ (payload ++ fills_up i)) in
     third_done ∙ (λ i. frames i ++ rests i)
 
--- the number that bytes are of
+-- the number in these bytes
 pub number_of_bytes : (n : ℕ) (bytes : List ℕ) → n < 2 ^ 64 → to_be_bytes w64 n ≡ bytes → n ≡ from_be_bytes w64 bytes
 number_of_bytes n bytes fits is = sym (from_be_bytes-to_be_bytes_8 n fits) ∙ ap (from_be_bytes w64) is

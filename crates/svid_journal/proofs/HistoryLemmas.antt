@@ -54,7 +54,7 @@ pub record Front (title : List ℕ) (payloads : Payloads) (bytes : List ℕ) : T
   pub rest : List ℕ
   pub is : bytes ≡ frames_of title 1 payloads ++ rest
 
--- with more behind
+-- with more bytes after them
 Front-more : (title : List ℕ) (payloads : Payloads) (bytes more : List ℕ) → Front title payloads bytes → Front title payloads (bytes ++ more)
 Front-more title payloads bytes more f = record { rest = f.rest ++ more; is = ap (λ (x : List ℕ). x ++ more) f.is ∙ append_assoc (frames_of title 1 payloads) f.rest more }
 
@@ -64,7 +64,7 @@ Front-first title ps qs bytes f =
     let back = frames_of title (1 + length ps) qs in
     record { rest = back ++ f.rest; is = f.is ∙ ap (λ (x : List ℕ). x ++ f.rest) (frames_of-append title 1 ps qs) ∙ append_assoc (frames_of title 1 ps) back f.rest }
 
--- cut behind them
+-- cut after them
 Front-cut : (title : List ℕ) (payloads : Payloads) (bytes : List ℕ) (at : ℕ) → length (frames_of title 1 payloads) ≤ at → Front title payloads bytes → Front title payloads (take at bytes)
 Front-cut title payloads bytes at far f =
     let frames = frames_of title 1 payloads in
@@ -75,7 +75,7 @@ Front-cut title payloads bytes at far f =
       is = (λ i. take (there i) (f.is i)) ∙ take-add (length frames) more (frames ++ f.rest) ∙ (λ i. take_at frames f.rest (length frames) refl i ++ take more (drop_at frames f.rest (length frames) refl i));
     }
 
--- cut just behind them
+-- cut right after them
 Front-exact : (title : List ℕ) (payloads : Payloads) (bytes : List ℕ) → Front title payloads bytes → take (length (frames_of title 1 payloads)) bytes ≡ frames_of title 1 payloads
 Front-exact title payloads bytes f = ap (take (length (frames_of title 1 payloads))) f.is ∙ take_at (frames_of title 1 payloads) f.rest (length (frames_of title 1 payloads)) refl
 
@@ -86,7 +86,7 @@ Front-left title payloads f bytes left front = at f.whole left
     at true is = subst (Front title payloads) (sym is) front
     at false is = subst (Front title payloads) (sym is.1) (Front-more title payloads f.kept is.0 front)
 
--- what is left of a file of which all is on the disk
+-- what is left of a file that is whole on the disk
 pub whole_left : (f : File) (bytes : List ℕ) → f.whole ≡ true → MayLeave f bytes → bytes ≡ f.kept
 whole_left f bytes whole left = subst (λ (b : Bool). MatchBool b (bytes ≡ f.kept) ((rest : List ℕ) × (bytes ≡ f.kept ++ rest))) whole left
 
@@ -139,7 +139,7 @@ in_order f fit going =
     let far : gap_in f ≡ gap_of f.step = ap (λ (b : Bool). cond b 0 (gap_of f.step)) going in
     subst (λ (n : ℕ). f.oldest + n ≤ f.newest + 1) far (leb-true (f.oldest + gap_in f) (f.newest + 1) (and_right (a && b) c to_c))
 
--- a frame flies only where a journal grows
+-- a frame is in flight only where a journal grows
 last_fits : (f : Folder) → is_fit f ≡ true → (f.flying == 0 || not (is_starting f.step)) ≡ true
 last_fits f fit =
     and_right (nat_lt f.newest (2 ^ 62) && nat_le f.oldest (2 ^ 62) && nat_le (f.oldest + gap_in f) (f.newest + 1) && nat_lt f.count (2 ^ 62) && nat_lt f.end (2 ^ 62) && nat_le f.flying (2 ^ 25) && nat_lt f.pieces (2 ^ 62)) (f.flying == 0 || not (is_starting f.step)) fit
@@ -248,7 +248,7 @@ module _ (has : List ℕ → Bool) (t : Titles) where
   abbrev IsHeld : Disk → ℕ → Payloads → Type 0
   IsHeld d home log = AllGood d.snapshot ⊎ (((k : ℕ) × (k < home) × HasUse (t.journal k) (d.journals k)) ⊎ (list_any has log ≡ true))
 
-  -- a snapshot that is written may leave out the use only if the journal that grows has it
+  -- a snapshot may leave out the use only if the journal that grows has it
   abbrev IsDue : Payloads → Payloads → Payloads → Type 0
   IsDue payloads log acknowledged = list_any has acknowledged ≡ true → (list_any has payloads ≡ true) ⊎ (list_any has log ≡ true)
 
@@ -405,7 +405,7 @@ module _ (has : List ℕ → Bool) (t : Titles) where
   nothing_logged : (title : List ℕ) → IsLogged title [] empty_file
   nothing_logged title = record { each = tt; kept = record { rest = []; is = refl }; seen = record { rest = []; is = refl } }
 
-  -- at one number there is another journal, with another log
+  -- at one number the journal is replaced, and its log
   logged_put : (journals : ℕ → Journal) (n : ℕ) (j : Journal) (logs later : ℕ → Payloads) → ((k : ℕ) → IsLogged (t.journal k) (logs k) (journals k).file) → ((k : ℕ) → (k ≡ n → ⊥) → later k ≡ logs k) → IsLogged (t.journal n) (later n) j.file → (k : ℕ) → IsLogged (t.journal k) (later k) (put journals n j k).file
   logged_put journals n j logs later old others new k =
       elim (cases_Bool (k == n)) [
@@ -421,7 +421,7 @@ module _ (has : List ℕ → Bool) (t : Titles) where
   abbrev moved_to : World → (ℕ → Payloads) → Folder → Disk → Payloads → Payloads → World
   moved_to w logs f d parts texts = record { folder = f; disk = d; home = w.home; log = w.log; logs = logs; flying = w.flying; parts = parts; acknowledged = w.acknowledged; memory = w.memory; noted = w.noted; texts = texts }
 
-  -- a disk on which the journals of before and the snapshot are the same
+  -- a disk on which the earlier journals and the snapshot are the same
   moved_with : (w : World) (logs : ℕ → Payloads) (f : Folder) (d : Disk) (parts texts : Payloads) → IsSound w → w.folder.ended ≡ false → ((k : ℕ) → k ≤ w.home → d.journals k ≡ w.disk.journals k) → d.snapshot ≡ w.disk.snapshot → ((k : ℕ) → IsLogged (t.journal k) (logs k) (d.journals k).file) → logs w.home ≡ w.log
       → (IsUp w → StepFact f.step (moved_to w logs f d parts texts)) → IsSound (moved_to w logs f d parts texts)
   moved_with w logs f d parts texts h going same snap logged this fact =
@@ -445,7 +445,7 @@ module _ (has : List ℕ → Bool) (t : Titles) where
   moved w f d parts texts h going same snap fact =
       moved_with w w.logs f d parts texts h going (λ k below. same k) snap (λ k. subst (λ (j : Journal). IsLogged (t.journal k) (w.logs k) j.file) (sym (same k)) (h.logged k)) h.this fact
 
-  -- what the journal that grows has, where it is the same
+  -- the content of the journal that grows, where it is the same
   regrown : (newest count end flies home : ℕ) (i j : Journal) (log flying : Payloads) → j ≡ i → IsGrowing newest count end flies home i log flying → IsGrowing newest count end flies home j log flying
   regrown newest count end flies home i j log flying same g = subst (λ (x : Journal). IsGrowing newest count end flies home x log flying) (sym same) g
 
@@ -539,7 +539,7 @@ module _ (has : List ℕ → Bool) (t : Titles) where
         };
       }
 
-  -- the call that is due answers
+  -- the call that is due returns
   answers : (step : Step) (ok : Bool) (w : World) → IsSound (staged step w) → w.folder.ended ≡ false → w.folder.oldest + gap_of step ≤ w.folder.newest + 1 → (ok && is_writing step) ≡ false → IsSound (after_answer (staged step w) ok)
   answers Idle true w h going order mark = h
   answers Idle false w h going order mark = h
@@ -664,7 +664,7 @@ module _ (has : List ℕ → Bool) (t : Titles) where
 
   -- A piece of a snapshot.
 
-  -- the file beside with one piece more
+  -- the file beside with one more piece
   more_seen : (f : File) (parts : Payloads) (payload : List ℕ) → f.seen ≡ frames_of t.snapshot 1 parts → (written (length (frames_of t.snapshot 1 parts)) (frame_of t.snapshot (1 + length parts) payload) f).seen ≡ frames_of t.snapshot 1 (parts ++ payload ∷ [])
   more_seen f parts payload seen =
       let frames = frames_of t.snapshot 1 parts in
@@ -772,7 +772,7 @@ module _ (has : List ℕ → Bool) (t : Titles) where
         texts = texts;
       }
 
-  -- what was due stays due as the log grows
+  -- what was due is still due when the log grows
   stage_on_file : (step : Step) (w : World) (logs : ℕ → Payloads) (count end flies : ℕ) (f : File → File) (log flying acknowledged memory texts : Payloads) → ((k : ℕ) → (k ≡ w.home → ⊥) → logs k ≡ w.logs k) → w.home ≡ w.folder.newest → is_starting step ≡ false → Growing (rewritten_to w logs count end flies f log flying acknowledged memory texts)
       → ((payloads : Payloads) → IsDue payloads w.log w.acknowledged → IsDue payloads log acknowledged) → StepFact step w → StepFact step (rewritten_to w logs count end flies f log flying acknowledged memory texts)
   stage_on_file Idle w logs count end flies f log flying acknowledged memory texts others is grows g due h = g
@@ -789,7 +789,7 @@ module _ (has : List ℕ → Bool) (t : Titles) where
   stage_on_file Removing w logs count end flies f log flying acknowledged memory texts others is grows g due h =
       let s = h.1.synced in (g, record { file = h.1.file; only = h.1.only; synced = record { payloads = s.payloads; each = s.each; whole = s.whole; kept = s.kept; seen = s.seen; due = due s.payloads s.due } })
 
-  -- what is asked of the new file and the new numbers
+  -- the premises of the new file and the new numbers
   record IsRewrite (w : World) (logs : ℕ → Payloads) (count end flies : ℕ) (f : File → File) (log flying acknowledged memory : Payloads) : Type 0 where
     others : (k : ℕ) → (k ≡ w.home → ⊥) → logs k ≡ w.logs k
     this : logs w.home ≡ log
@@ -833,7 +833,7 @@ module _ (has : List ℕ → Bool) (t : Titles) where
         };
       }
 
-  -- behind the frames of the log, the next frame
+  -- the next frame, after the frames of the log
   seen_next : (title : List ℕ) (log flying : Payloads) (payload seen behind : List ℕ) → Front title (log ++ flying) seen → Front title (log ++ payload ∷ []) (take (length (frames_of title 1 log)) seen ++ (frame_of title (1 + length log) payload ++ behind))
   seen_next title log flying payload seen behind front =
       let frames = frames_of title 1 log in
@@ -962,7 +962,7 @@ module _ (has : List ℕ → Bool) (t : Titles) where
       ⊎_elim (λ before. held_more d newest log flying (held before)) (λ now. inr (inr (list_any-append has log flying ∙ or_right (list_any has log) (list_any has flying) now)))
       (or_cases (list_any has acknowledged) (list_any has flying) (sym (list_any-append has acknowledged flying) ∙ a))
 
-  -- one frame flies where its length is told
+  -- one frame is in flight where its length is given
   one_flies : (title : List ℕ) (number flies : ℕ) (flying : Payloads) → flies ≡ length (frames_of title number flying) → length flying ≤ 1 → (flies == 0) ≡ false → length flying ≡ 1
   one_flies title number flies [] long one some = absurd (true≢false (sym (eq-eqb flies 0 long) ∙ some))
   one_flies title number flies (p ∷ []) long one some = refl
@@ -1072,7 +1072,7 @@ module _ (has : List ℕ → Bool) (t : Titles) where
         };
       }
 
-  -- what is read of bytes that begin with frames
+  -- the payloads that are read of bytes that begin with frames
   read_front : (title : List ℕ) (payloads : Payloads) (bytes : List ℕ) → AllByRecursion IsPayload payloads → Front title payloads bytes → list_any has payloads ≡ true → IsReadIn has title bytes
   read_front title payloads bytes each front holds found rest reading =
       let on = on_behind title bytes front.rest rest payloads found each front.is reading in
@@ -1170,7 +1170,7 @@ module _ (has : List ℕ → Bool) (t : Titles) where
         up = λ e. absurd (true≢false e);
       }
 
-  -- of each journal, what was acknowledged since it was made is left in front
+  -- of each journal, the payloads that were acknowledged since it was made are left at the start
   pub journal_left : (w : World) → IsSound w → (o : Outcome) → IsLeft w.disk o → (k : ℕ) → AllByRecursion IsPayload (w.logs k) × Front (t.journal k) (w.logs k) (o.bytes k)
   journal_left w h o (inl left) k = let l = h.logged k in (l.each, Front-left (t.journal k) (w.logs k) (w.disk.journals k).file (o.bytes k) (left.journals k) l.kept)
   journal_left w h o (inr is) k = let l = h.logged k in (l.each, subst (λ (x : Outcome). Front (t.journal k) (w.logs k) (x.bytes k)) (sym is) l.seen)

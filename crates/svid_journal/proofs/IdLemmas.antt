@@ -11,7 +11,7 @@ use Rattle.svid_journal.specs.History.Event.{Begin, Answer, Piece, Put, Grow, Sy
 use Rattle.svid_journal.specs.Promises.{IdIsRead}
 use Rattle.svid_journal.proofs.HistoryLemmas.{IsOneOf-push, IsOneOf-cases, IsOneOf-only, whole_left, unless_both, is_begin, is_due, is_answer, is_piece, is_landed, is_closed}
 
--- the file that a name stands for was synced
+-- the file of a name was synced
 abbrev IsOnDisk : Option File → Type 0
 IsOnDisk None = Unit {0}
 IsOnDisk (Some f) = (f.whole ≡ true) × (f.kept ≡ f.seen)
@@ -73,7 +73,7 @@ module _ (text : List ℕ) where
   goes name ended later step next home acknowledged h going same =
       record { among = h.among; each = h.each; sure = h.sure; starts = λ on starting. h.starts (going on) (sym (same on) ∙ starting); grown = λ on growing. h.grown (going on) (sym (same on) ∙ growing); some = h.some }
 
-  -- the folder is synced, and no start goes on
+  -- the folder is synced, and no start is under way
   syncs : (ok : Bool) (name : Name (Option File)) (ended later : Bool) (step next : Step) (home : ℕ) (acknowledged : List (List ℕ)) → IsHeld name ended step home acknowledged → (later ≡ false → (is_starting next ≡ false) × (0 < home)) → IsHeld (named ok name) later next home acknowledged
   syncs ok name ended later step next home acknowledged h up =
       record {
@@ -104,7 +104,7 @@ module _ (text : List ℕ) where
   abbrev staged : Step → World → World
   staged step w = record { folder = at_step w.folder step; disk = w.disk; home = w.home; log = w.log; logs = w.logs; flying = w.flying; parts = w.parts; acknowledged = w.acknowledged; memory = w.memory; noted = w.noted; texts = w.texts }
 
-  -- the call that is due answers
+  -- the call that is due returns
   answers : (step : Step) (ok : Bool) (w : World) → Held (staged step w) → w.folder.ended ≡ false → is_idle step ≡ false → Held (after_answer (staged step w) ok)
   answers Idle ok w h going due = absurd (true≢false due)
   answers Starting true w h going due = goes w.disk.id.name w.folder.ended w.folder.ended Starting Entering w.home w.acknowledged h (λ on. on) (λ on. refl)

@@ -1,4 +1,4 @@
--- The position of a member in its log, in front of messages.
+-- The position of a member in its log, before messages.
 use Rattle.std.proofs.Common.{◌≡◌, ◌≢◌, ℕ, ◌+◌, ◌<◌, List, [], ◌∷◌, ◌++◌, length, take, drop, refl, sym, ◌∙◌, ap, subst, arith, append_assoc, length-append}
 use Rattle.std.specs.Int.{to_be_bytes, w64}
 use Rattle.std.proofs.lemmas.List.{take_at, length-drop, append-nil, take-append-drop}
@@ -37,7 +37,7 @@ position_put p room passed begun deaf one two three four long passed-is begun-is
     filled p room one two three four long first (subst (λ (x : List ℕ). two ≡ take 4 one ++ (x ++ drop (4 + length x) one)) passed-is second) (subst (λ (x : List ℕ). three ≡ take 12 two ++ (x ++ drop (12 + length x) two)) begun-is third)
     (subst (λ (x : List ℕ). four ≡ take 20 three ++ (x ++ drop (20 + length x) three)) deaf-is fourth)
 
--- a payload that is cut behind each piece of a position
+-- a payload that is cut after each piece of a position
 pub position_cut : (p : LogPosition) (payload text messages magic numbers passed more begun deaf : List ℕ) → text ≡ take 28 payload → messages ≡ drop 28 payload → magic ≡ take 4 text → numbers ≡ drop 4 text → passed ≡ take 8 numbers → more ≡ drop 8 numbers → begun ≡ take 8 more → deaf ≡ drop 8 more
     → magic ≡ position_magic → to_be_bytes w64 p.passed ≡ passed → to_be_bytes w64 p.begun ≡ begun → to_be_bytes w64 p.deaf ≡ deaf → payload ≡ position_text p ++ messages
 unfolding position_text
@@ -50,7 +50,7 @@ position_cut p payload text messages magic numbers passed more begun deaf text-i
 pub none_in_few : (payload : List ℕ) → length payload < 28 → BeginsWithNoPosition payload
 none_in_few payload few p messages is = omega (arith, few, ap length is, length-append (position_text p) messages, length-position_text p)
 
--- what a position begins with stands first
+-- the first bytes of a position come first
 magic_first : (p : LogPosition) (messages : List ℕ) → take 4 (position_text p ++ messages) ≡ position_magic
 unfolding position_text
 magic_first p messages = refl

@@ -25,7 +25,7 @@ use Rattle.svid_journal.proofs.HistoryLemmas.{unless_both, is_due, is_unflown, F
 
 -- Nothing else is read.
 
--- a frame that stands where all is as it was written has the tag of one of the texts
+-- a frame in bytes that are as they were written has the tag of one of the texts
 record HasTag (title : List ℕ) (number : ℕ) (texts : List (List ℕ)) (payload : List ℕ) : Type 0 where
   text : List ℕ
   written : Among texts text
@@ -41,12 +41,12 @@ torn_is_as_written texts title number bytes (inl short) payload behind fits stan
 torn_is_as_written texts title number bytes (inr (inl zeros)) payload behind fits stands = absurd (zeros_begin_none 2 title number bytes (omega arith, omega arith) zeros payload behind fits stands)
 torn_is_as_written texts title number bytes (inr (inr filled)) payload behind fits stands = absurd (filler_begins_none 2 title number bytes (omega arith, omega arith) filled payload behind fits stands)
 
--- a text that is sealed under a title is none of another file
+-- a text that is sealed under a title belongs to no other file
 another : (title text : List ℕ) (number : ℕ) (payload : List ℕ) → length title ≡ 31 → IsOfAnother title text → sealed 2 title number payload ≢ text
 unfolding sealed
 another title text number payload long other e = other (ap (λ (x : List ℕ). take 31 (drop 1 x)) (sym e) ∙ take_at title (numbers_of 2 number payload ++ payload) 31 long)
 
--- a text that is the sealed one is one of this file
+-- a text that equals the sealed one belongs to this file
 in_texts : (title sealed_one : List ℕ) (others texts : List (List ℕ)) → ((text : List ℕ) → IsOfAnother title text → sealed_one ≢ text) → AllByRecursion (IsOfAnother title) others → Among (others ++ texts) sealed_one → Among texts sealed_one
 in_texts title one [] texts apart all among = among
 in_texts title one (o ∷ others) texts apart all (inl is) = absurd (apart o all.0 (sym is))
@@ -89,7 +89,7 @@ nothing_else_is_read folder long events bytes =
 
 -- Damage.
 
--- the bytes of a journal behind a frame of it that was changed
+-- the bytes of a journal after a frame that was changed
 back_is : (title bytes broken lost next : List ℕ) (before after : List (List ℕ)) → length broken ≡ length (frame_of title (1 + length before) lost) → (f : Front title (before ++ lost ∷ next ∷ after) bytes) → drop (length (frames_of title 1 before) + length broken) bytes ≡ frames_of title (2 + length before) (next ∷ after) ++ f.rest
 back_is title bytes broken lost next before after long f =
     let front = frames_of title 1 before in
@@ -125,7 +125,7 @@ journals_are_read has t events allowed o left k payloads rest reading =
 
 -- The end.
 
--- an event leaves the end, and acknowledges nothing
+-- an event leaves the folder ended, and acknowledges nothing
 record StaysEnded (w v : World) : Type 0 where
   over : v.folder.ended ≡ true
   none : v.acknowledged ≡ w.acknowledged
@@ -157,7 +157,7 @@ ended_acknowledges_nothing t (e ∷ events) w over is =
 taken : (fault : Option Fault) (v w : World) → fault ≡ None → unless fault v w ≡ v
 taken fault v w none = ap (λ (f : Option Fault). unless f v w) none
 
--- what the failure of the call that is due does
+-- the folder after the call that is due failed
 fails : (step : Step) (f : Folder) → is_idle step ≡ false → given_up step f ≡ cond (is_starting step || is_folder_sync (due_at step f)) (ended f) (at_step f Idle)
 fails Idle f due = absurd (true≢false due)
 fails Starting f due = refl
@@ -333,7 +333,7 @@ example_ends : (t : Titles) → history t (example t) fresh ≡ w12 t
 example_ends t =
     ap (history t (drop 1 (example t))) (makes_1 t) ∙ ap (history t (drop 2 (example t))) (makes_2 t) ∙ ap (history t (drop 3 (example t))) (makes_3 t) ∙ ap (history t (drop 4 (example t))) (makes_4 t) ∙ ap (history t (drop 5 (example t))) (starts_1 t) ∙ ap (history t (drop 6 (example t))) (starts_2 t) ∙ ap (history t (drop 7 (example t))) (starts_3 t) ∙ ap (history t (drop 8 (example t))) (e1 t) ∙ ap (history t (drop 9 (example t))) (e2 t) ∙ ap (history t (drop 10 (example t))) (e3 t) ∙ ap (history t (drop 11 (example t))) (e4 t) ∙ ap (history t (drop 12 (example t))) (e5 t) ∙ ap (history t (drop 13 (example t))) (e6 t) ∙ ap (history t (drop 14 (example t))) (e7 t) ∙ ap (history t (drop 15 (example t))) (e8 t) ∙ ap (history t (drop 16 (example t))) (e9 t) ∙ ap (history t (drop 17 (example t))) (e10 t) ∙ ap (history t (drop 18 (example t))) (e11 t) ∙ e12 t
 
--- of a folder without journals and a snapshot nothing is read
+-- nothing is read of a folder without journals and a snapshot
 nothing_read : (has : List ℕ → Bool) (t : Titles) → IsRead has t (as_seen (i4 t).disk) → ⊥
 nothing_read has t (inl (bytes, there, found)) = cc
 nothing_read has t (inr (k, here, found)) = false≢true here

@@ -1,4 +1,4 @@
--- What a reader has read.
+-- The payloads that a reader has read.
 use Rattle.std.proofs.Common.{◌≡◌, inl, inr, ℕ, zero, suc, ◌+◌, ◌-◌, ◌*◌, ◌/◌, ◌^◌, ◌<◌, ◌≤◌, Bool, true, false, cond, List, [], ◌∷◌, ◌++◌, length, take, drop, replicate, refl, sym, ◌∙◌, ap, arith, append_assoc, length-append, length-drop}
 use Rattle.std.specs.Prelude.{◌==◌, ◌≢◌, ◌&&◌, nat_lt, nat_le}
 use Rattle.std.specs.Int.{to_be_bytes, from_be_bytes, w32, w64}
@@ -14,7 +14,7 @@ use Rattle.svid_journal.specs.declared.reader.Next.TheVariants.{Payload, End, Te
 use Rattle.svid_journal.specs.Reading.{number_in, format_in, len_in, states_later, later_cells, crowd, IsCrowded, BeginsLater, HasOther, IsFit, GoesOn, Stops, IsNext, HasRead, ReadsOn, ends_marked}
 use Rattle.svid_journal.proofs.FramesLemmas.{length-tag_of, length-frame_in, frame_len-is, is_head, stated_number, one_more, each_push, longer}
 
--- a head tells its format
+-- a head gives its format
 pub head_code : (v : ℕ) (title : List ℕ) (number : ℕ) (payload stated : List ℕ) → stated ≡ head_of v title number payload → to_be_bytes w32 (v * 16777216 + length payload) ≡ drop 28 stated
 unfolding head_of numbers_of
 head_code v title number payload stated is =
@@ -25,7 +25,7 @@ head_code v title number payload stated is =
     let long : length front ≡ 28 = length-append tag numbers ∙ ap (λ n. n + 8) (length-tag_of (sealed v title number payload)) in
     sym (ap (drop 28) (is ∙ sym (append_assoc tag numbers there)) ∙ drop_at front there 28 long)
 
--- no frame stands where the format and the length of a head are zeros, or filler
+-- there is no frame where the format and the length of a head are zeros, or filler
 pub zeros_begin_none : (v : ℕ) (title : List ℕ) (number : ℕ) (bytes : List ℕ) → IsFormat v → drop 28 (take 32 bytes) ≡ replicate 4 0 → BeginsWithNone v title number bytes
 zeros_begin_none v title number bytes format zeros payload rest bears stands =
     let code = head_code v title number payload (take 32 bytes) (is_head v title number payload bytes rest stands) ∙ zeros in
@@ -36,13 +36,13 @@ filler_begins_none v title number bytes format filled payload rest bears stands 
     let code = head_code v title number payload (take 32 bytes) (is_head v title number payload bytes rest stands) ∙ filled in
     omega (arith, format.1, bears, sym (from_be_bytes-to_be_bytes_4 (v * 16777216 + length payload) (omega (arith, format.1, bears))) ∙ ap (from_be_bytes w32) code)
 
--- the format that a head states is that of the frame
+-- the format in a head is that of the frame
 pub format_is : (v format : ℕ) (title : List ℕ) (number : ℕ) (payload rest head bytes : List ℕ) → v < 256 → IsPayload payload → ((code : ℕ) → code < 2 ^ 32 → to_be_bytes w32 code ≡ drop 28 head → format ≡ code / 16777216) → head ≡ take 32 bytes → bytes ≡ frame_in v title number payload ++ rest → format ≡ v
 format_is v format title number payload rest head bytes low bears states head-is stands =
     let is = states (v * 16777216 + length payload) (omega (arith, low, bears)) (head_code v title number payload head (head-is ∙ is_head v title number payload bytes rest stands)) in
     omega (arith, is, bears)
 
--- the number that a head states is that of the frame
+-- the number in a head is that of the frame
 pub later_is : (title : List ℕ) (number cell stated : ℕ) (head bytes : List ℕ) → head ≡ take 32 bytes → to_be_bytes w64 stated ≡ take 8 (drop 20 head) → stated < 2 ^ 64 → (b : BeginsLater title number cell bytes) → b.later ≡ stated
 later_is title number cell stated head bytes head-is states fits b = stated_number b.format title stated b.later head b.payload fits b.fits states (head-is ∙ is_head b.format title b.later b.payload bytes b.rest b.stands)
 
@@ -55,7 +55,7 @@ no_later_frame title number cell stated format head bytes head-is states fits fo
 pub too_short : (v : ℕ) (title : List ℕ) (number : ℕ) (payload rest bytes : List ℕ) → length bytes < 32 → bytes ≡ frame_in v title number payload ++ rest → ⊥
 too_short v title number payload rest bytes short stands = omega (arith, short, ap length stands, length-append (frame_in v title number payload) rest, length-frame_in v title number payload)
 
--- no frame stands where less than a head is left
+-- there is no frame where less than a head is left
 pub none_behind : (title : List ℕ) (number cell end : ℕ) (bytes : List ℕ) → end ≤ cell → length (drop (8 * end) bytes) < 32 → BeginsLater title number cell (drop (8 * cell) bytes) → ⊥
 none_behind title number cell end bytes behind short b =
     too_short b.format title b.later b.payload b.rest (drop (8 * cell) bytes) (omega (arith, behind, short, length-drop (8 * cell) bytes, length-drop (8 * end) bytes)) b.stands
@@ -102,7 +102,7 @@ crowd_rises number bytes cell (suc more) =
     let next : cell + suc more ≡ (cell + more) + 1 = omega arith in
     omega (arith, crowd_rises number bytes cell more, ap (crowd number bytes) next, crowd_next number bytes (cell + more))
 
--- a crowd of the first cells is one of all
+-- a crowd in the first cells is a crowd in all
 pub crowded_before : (number : ℕ) (bytes : List ℕ) (cell : ℕ) → cell ≤ length bytes / 8 → length bytes < crowd number bytes cell → IsCrowded number bytes
 crowded_before number bytes cell below many =
     let more = length bytes / 8 - cell in
@@ -119,7 +119,7 @@ ends_marked-push [] p = refl
 ends_marked-push (q ∷ []) p = refl
 ends_marked-push (q ∷ r ∷ ps) p = ends_marked-push (r ∷ ps) p
 
--- what stands at the offset of a reader
+-- the bytes at the offset of a reader
 pub behind_read : (r : Reader) (t : Title) (bytes : List ℕ) (payloads : List (List ℕ)) (rest : List ℕ) → HasRead r t bytes payloads rest → drop r.at bytes ≡ rest
 behind_read r t bytes payloads rest h = (λ i. drop (h.at i) (h.whole i)) ∙ drop_at (frames_of (bytes_of t) 1 payloads) rest (length (frames_of (bytes_of t) 1 payloads)) refl
 
@@ -151,7 +151,7 @@ unfit r t bytes payloads rest none h =
       | inr high ↦ omega (arith, high, h.count)
     ]
 
--- a reader that goes on reads what stands there
+-- a reader that goes on reads what is there
 pub reads_on : (next : Next) (t : Title) (old new : Reader) (bytes : List ℕ) → IsNext next t old new bytes → (payloads : List (List ℕ)) (rest : List ℕ) → HasRead old t bytes payloads rest → ReadsOn next t new bytes payloads rest
 reads_on (Payload p) t old new bytes is payloads rest h = (is.behind, read_one old new t bytes p.now payloads rest is h)
 reads_on End t old new bytes is payloads rest h = all_read old new t bytes payloads rest is.0 h

@@ -1,28 +1,28 @@
--- A disk with one folder of journals and a snapshot, as POSIX promises it: what each call does, and what a crash may leave. Names, lengths
--- and blocks come to the disk by themselves, each on its own, in any order; only a sync says what is there.
+-- A disk with one folder of journals and a snapshot, as POSIX promises it: what each call does, and what a crash may leave.
+-- Names, lengths and blocks reach the disk by themselves, each on its own, in any order; only a sync makes sure of them.
 use Rattle.std.specs.Prelude.{◌≡◌, ◌⊎◌, ◌==◌, ◌||◌, ℕ, ◌+◌, Bool, true, false, not, if◌then◌else◌, List, [], ◌∷◌, ◌++◌, length, take, drop, Option, Some, None, MatchBool}
 
 -- a file
 pub record File : Type 0 where
   -- what a read returns
   pub seen : List ℕ
-  -- what a crash leaves begins with this
+  -- a crash leaves at least these first bytes
   pub kept : List ℕ
-  -- and there is nothing behind it
+  -- and nothing after them
   pub whole : Bool
-  -- a sync failed: no later one tells what is on the disk
+  -- a sync failed: a later one does not show what is on the disk
   pub spoiled : Bool
 
 -- a file that was just made
 abbrev pub empty_file : File
 empty_file = record { seen = []; kept = []; whole = false; spoiled = false }
 
--- A write: from this offset on there is what landed, the bytes themselves where it succeeded. Until a sync, a crash may leave anything from
--- there on
+-- A write: from this offset on the file has the bytes that landed, which are those of the write where it succeeded. Until a sync,
+-- a crash may leave anything from there on
 abbrev pub written : ℕ → List ℕ → File → File
 written at landed f = record { seen = take at f.seen ++ (landed ++ drop (at + length landed) f.seen); kept = take at f.kept; whole = false; spoiled = f.spoiled }
 
--- a sync, and whether it succeeded
+-- the file after a sync, which succeeded or failed
 abbrev pub forced : Bool → File → File
 forced true f = if f.spoiled then f else record { seen = f.seen; kept = f.seen; whole = true; spoiled = false }
 forced false f = record { seen = f.seen; kept = f.kept; whole = f.whole; spoiled = true }
@@ -31,14 +31,14 @@ forced false f = record { seen = f.seen; kept = f.kept; whole = f.whole; spoiled
 abbrev pub MayLeave : File → List ℕ → Type 0
 MayLeave f bytes = MatchBool f.whole (bytes ≡ f.kept) ((rest : List ℕ) × (bytes ≡ f.kept ++ rest))
 
--- a name: what it stands for, and what it may stand for after a crash
+-- a name: what it refers to, and what it may refer to after a crash
 pub record Name (A : Type 0) : Type 0 where
   pub now : A
   pub may : List A
-  -- a sync of the folder failed: of what was done to this name before, no later one tells
+  -- a sync of the folder failed: a later one does not make sure of earlier changes of this name
   pub stuck : Bool
 
--- a name that stands for one thing
+-- a name that refers to one thing
 abbrev pub settled : {A : Type 0} → A → Name A
 settled a = record { now = a; may = a ∷ []; stuck = false }
 
@@ -46,13 +46,13 @@ settled a = record { now = a; may = a ∷ []; stuck = false }
 abbrev pub leads : {A : Type 0} → A → Name A → Name A
 leads a name = record { now = a; may = name.may ++ a ∷ []; stuck = false }
 
--- it may stand for one thing
+-- it may refer to one thing only
 abbrev pub is_sure : {A : Type 0} → List A → Bool
 is_sure [] = false
 is_sure (a ∷ []) = true
 is_sure (a ∷ b ∷ more) = false
 
--- a sync of the folder
+-- the name after a sync of the folder
 abbrev pub named : {A : Type 0} → Bool → Name A → Name A
 named true name = if name.stuck then name else settled name.now
 named false name = record { now = name.now; may = name.may; stuck = name.stuck || not (is_sure name.may) }
@@ -62,7 +62,7 @@ pub record Journal : Type 0 where
   pub file : File
   pub here : Name Bool
 
--- a file that is replaced whole: its name, and the file that is written beside it
+-- a file that is replaced as a whole: its name, and the file that is written beside it
 pub record Kept : Type 0 where
   pub name : Name (Option File)
   pub beside : File
@@ -74,11 +74,11 @@ pub record Disk : Type 0 where
   pub beside : File
   pub id : Kept
 
--- at this number there is another
+-- the value at this number is replaced
 abbrev pub put : {A : Type 0} → (ℕ → A) → ℕ → A → ℕ → A
 put f k a n = if n == k then a else f n
 
--- The calls. One that fails but a write or a sync does nothing.
+-- The calls. One that fails does nothing, unless it is a write or a sync.
 
 -- make an empty journal
 abbrev pub create_journal : ℕ → Disk → Disk
@@ -99,7 +99,7 @@ sync_journal k ok d = on_file k (forced ok) d
 abbrev pub remove_journal : ℕ → Disk → Disk
 remove_journal k d = record { journals = put d.journals k (record { file = (d.journals k).file; here = leads false (d.journals k).here }); snapshot = d.snapshot; beside = d.beside; id = d.id }
 
--- Write a piece of the file beside, which has so many pieces. The first piece makes the file anew.
+-- Write a piece of the file beside, which has so many pieces. The first piece creates the file, or empties it.
 abbrev pub write_piece : ℕ → ℕ → List ℕ → Disk → Disk
 write_piece pieces at landed d = record { journals = d.journals; snapshot = d.snapshot; beside = written at landed (if pieces == 0 then empty_file else d.beside); id = d.id }
 
@@ -127,7 +127,7 @@ sync_id ok d = record { journals = d.journals; snapshot = d.snapshot; beside = d
 abbrev pub rename_id : Disk → Disk
 rename_id d = record { journals = d.journals; snapshot = d.snapshot; beside = d.beside; id = record { name = leads (Some d.id.beside) d.id.name; beside = d.id.beside } }
 
--- what is there after a crash
+-- what a crash leaves
 pub record Outcome : Type 0 where
   pub here : ℕ → Bool
   pub bytes : ℕ → List ℕ
@@ -136,7 +136,7 @@ pub record Outcome : Type 0 where
   pub id : Option (List ℕ)
   pub id_beside : List ℕ
 
--- one of them is this
+-- this is one of them
 abbrev pub IsOneOf : {A : Type 0} → List A → A → Type 0
 IsOneOf [] a = ⊥
 IsOneOf (b ∷ bs) a = (b ≡ a) ⊎ IsOneOf bs a
@@ -148,7 +148,7 @@ MayLeaveFile None (Some bytes) = ⊥
 MayLeaveFile (Some f) None = ⊥
 MayLeaveFile (Some f) (Some bytes) = MayLeave f bytes
 
--- a crash may leave this: each name as it may be, and each file as it may be
+-- a crash may leave this: each name and each file in a state that it may have
 pub record IsOutcome (d : Disk) (o : Outcome) : Type 0 where
   pub names : (k : ℕ) → IsOneOf (d.journals k).here.may (o.here k)
   pub journals : (k : ℕ) → MayLeave (d.journals k).file (o.bytes k)
@@ -157,7 +157,7 @@ pub record IsOutcome (d : Disk) (o : Outcome) : Type 0 where
   pub id : (there : Option File) × IsOneOf d.id.name.may there × MayLeaveFile there o.id
   pub id_beside : MayLeave d.id.beside o.id_beside
 
--- a file of which all is on the disk
+-- a file that is whole on the disk
 abbrev pub at_rest : List ℕ → File
 at_rest bytes = record { seen = bytes; kept = bytes; whole = true; spoiled = false }
 
@@ -173,7 +173,7 @@ abbrev pub option_seen : Option File → Option (List ℕ)
 option_seen None = None
 option_seen (Some f) = Some f.seen
 
--- what is there for who reads it now
+-- what a read finds now
 abbrev pub as_seen : Disk → Outcome
 as_seen d = record { here = λ k. (d.journals k).here.now; bytes = λ k. (d.journals k).file.seen; snapshot = option_seen d.snapshot.now; beside = d.beside.seen; id = option_seen d.id.name.now; id_beside = d.id.beside.seen }
 

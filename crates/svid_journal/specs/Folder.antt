@@ -1,4 +1,4 @@
--- A folder of a snapshot and journals: which call of the system is due in it, and what each answer does.
+-- A folder of a snapshot and journals: which call of the system is due in it, and what each result of a call does.
 use Rattle.std.specs.Prelude.{◌==◌, ◌&&◌, ◌||◌, ℕ, ◌+◌, ◌<◌, ◌≤◌, ◌^◌, Bool, true, false, not, nat_lt, nat_le, if◌then◌else◌, List, [], ◌∷◌, Option, Some, None, Result, Ok, Err}
 use Rattle.svid_journal.specs.declared.step.Step.{Step}
 use Rattle.svid_journal.specs.declared.step.Step.TheVariants.{Idle, Starting, Entering, Creating, Naming, Writing, Ending, Syncing, Renaming, Publishing, Removing}
@@ -70,7 +70,7 @@ is_writing Renaming = false
 is_writing Publishing = false
 is_writing Removing = false
 
--- how far the number behind the newest journal is from that of the oldest, at least
+-- the least difference between the number after the newest journal and that of the oldest
 abbrev pub gap_of : Step → ℕ
 gap_of Idle = 1
 gap_of Starting = 0
@@ -124,7 +124,7 @@ is_fit f =
     nat_lt f.newest (2 ^ 62) && nat_le f.oldest (2 ^ 62) && nat_le (f.oldest + gap_in f) (f.newest + 1) && nat_lt f.count (2 ^ 62) && nat_lt f.end (2 ^ 62) && nat_le f.flying (2 ^ 25) && nat_lt f.pieces (2 ^ 62)
     && (f.flying == 0 || not (is_starting f.step))
 
--- no number is near the end of 64 bits
+-- all numbers are far from 2^64
 pub record IsSmall (f : Folder) : Type 0 where
   pub newest : f.newest < 2 ^ 62
   pub oldest : f.oldest ≤ 2 ^ 62
@@ -168,12 +168,12 @@ piece_fault f len = first_row (ready_rows f ((NotWriting, not (is_writing f.step
 abbrev pub open_fault : ℕ → ℕ → Option Fault
 open_fault oldest newest = first_row ((Full, nat_le (2 ^ 62) (newest + 1)) ∷ (Unfit, nat_lt (newest + 1) oldest) ∷ [])
 
--- why no frame of so many bytes of payload is put into so much room: the fault that is due, or else the room is too short
+-- why a frame with so many bytes of payload does not go into so much room: the fault that is due, or else the room is too short
 abbrev pub room_fault : Option Fault → ℕ → ℕ → Option Fault
 room_fault (Some fault) len room = Some fault
 room_fault None len room = first_row ((TooShort (frame_len len), nat_lt room (frame_len len)) ∷ [])
 
--- the call that is due, or why none is told
+-- the call that is due, or why there is none
 abbrev pub due : Folder → Option Fault → Result Call Fault
 due f None = Ok (due_at f.step f)
 due f (Some fault) = Err fault
@@ -192,7 +192,7 @@ at_step f step = record { step = step; oldest = f.oldest; newest = f.newest; end
 abbrev pub begun : Folder → Folder
 begun f = at_step f Creating
 
--- nobody knows what the disk holds
+-- the content of the disk is unknown
 abbrev pub ended : Folder → Folder
 ended f = record { step = Idle; oldest = f.oldest; newest = f.newest; ended = true; count = f.count; end = f.end; flying = 0; pieces = f.pieces }
 
@@ -205,7 +205,7 @@ abbrev pub removed : Folder → Folder
 removed f =
     record { step = if nat_le f.newest (f.oldest + 1) then Idle else f.step; oldest = f.oldest + 1; newest = f.newest; ended = f.ended; count = f.count; end = f.end; flying = f.flying; pieces = f.pieces }
 
--- the call that was due succeeded
+-- the folder after the call that was due succeeded
 abbrev pub gone_on : Step → Folder → Folder
 gone_on Idle f = f
 gone_on Starting f = at_step f Entering
@@ -219,7 +219,7 @@ gone_on Renaming f = at_step f Publishing
 gone_on Publishing f = at_step f Removing
 gone_on Removing f = removed f
 
--- it failed
+-- the folder after it failed
 abbrev pub given_up : Step → Folder → Folder
 given_up Idle f = at_step f Idle
 given_up Starting f = ended f
@@ -236,7 +236,7 @@ given_up Removing f = at_step f Idle
 abbrev pub answered : Folder → Bool → Folder
 answered f ok = if ok then gone_on f.step f else given_up f.step f
 
--- a frame was handed out, of a payload of so many bytes
+-- a frame with a payload of so many bytes was handed out
 abbrev pub flown : Folder → ℕ → Folder
 flown f len = record { step = f.step; oldest = f.oldest; newest = f.newest; ended = f.ended; count = f.count; end = f.end; flying = frame_len len; pieces = f.pieces }
 
@@ -253,14 +253,14 @@ abbrev pub pieced : Folder → ℕ → Folder
 pieced f len =
     record { step = if len == 0 then Ending else f.step; oldest = f.oldest; newest = f.newest; ended = f.ended; count = f.count; end = f.end; flying = f.flying; pieces = f.pieces + 1 }
 
--- what the files of a folder are
+-- the titles of the files of a folder
 abbrev pub journal_title : Folder → List ℕ → Title
 journal_title f folder = record { file = Journal f.newest; folder = folder }
 
 abbrev pub snapshot_title : List ℕ → Title
 snapshot_title folder = record { file = Snapshot; folder = folder }
 
--- the numbers of a folder as they are kept
+-- the numbers of a folder as callers keep them
 abbrev pub bool_number : Bool → ℕ
 bool_number false = 0
 bool_number true = 1

@@ -4,11 +4,11 @@ use Rattle.std.specs.Int.{to_be_bytes, w32, w64}
 use Rattle.std.specs.List.{AllByRecursion}
 use Rattle.sha2.specs.Sha256.{sha256}
 
--- what a frame can bear
+-- a payload that fits into a frame
 abbrev pub IsPayload : List ℕ → Type 0
 IsPayload payload = length payload < 2 ^ 24
 
--- the numbers of formats; no zeros and no filler state one
+-- the numbers of formats; zeros and filler give no such number
 abbrev pub IsFormat : ℕ → Type 0
 IsFormat format = (0 < format) × (format < 255)
 
@@ -16,11 +16,12 @@ IsFormat format = (0 < format) × (format < 255)
 unfoldable pub tag_of : List ℕ → List ℕ
 tag_of text = take 20 (sha256 text)
 
--- the number of a frame in its file, its format (1 byte), and the length of its payload (3), each with the greatest byte first
+-- the number of a frame in its file, its format (1 byte), and the length of its payload (3), each with the most significant byte
+-- first
 unfoldable pub numbers_of : ℕ → ℕ → List ℕ → List ℕ
 numbers_of format number payload = to_be_bytes w64 number ++ to_be_bytes w32 (format * 16777216 + length payload)
 
--- what a tag is taken of: the format, the title of the file, the numbers of the frame, and its payload
+-- the bytes that a tag is computed from: the format, the title of the file, the numbers of the frame, and its payload
 unfoldable pub sealed : ℕ → List ℕ → ℕ → List ℕ → List ℕ
 sealed format title number payload = format ∷ (title ++ (numbers_of format number payload ++ payload))
 
@@ -28,7 +29,7 @@ sealed format title number payload = format ∷ (title ++ (numbers_of format num
 unfoldable pub head_of : ℕ → List ℕ → ℕ → List ℕ → List ℕ
 head_of format title number payload = tag_of (sealed format title number payload) ++ numbers_of format number payload
 
--- how many bytes are missing behind so many up to a multiple of 8
+-- how many bytes are missing after so many up to a multiple of 8
 unfoldable pub gap : ℕ → ℕ
 gap count = (8 - count % 8) % 8
 
@@ -44,7 +45,7 @@ frame_in format title number payload = head_of format title number payload ++ (p
 abbrev pub frame_of : List ℕ → ℕ → List ℕ → List ℕ
 frame_of title number payload = frame_in 2 title number payload
 
--- how long the frame of so many bytes is
+-- how long the frame of so many bytes of payload is
 abbrev pub frame_len : ℕ → ℕ
 frame_len count = 32 + (count + gap count)
 
@@ -53,7 +54,7 @@ abbrev pub frames_of : List ℕ → ℕ → List (List ℕ) → List ℕ
 frames_of title number [] = []
 frames_of title number (payload ∷ payloads) = frame_of title number payload ++ frames_of title (number + 1) payloads
 
--- bytes that begin with no frame of this format and number
+-- the bytes do not begin with a frame of this format and number
 abbrev pub BeginsWithNone : ℕ → List ℕ → ℕ → List ℕ → Type 0
 BeginsWithNone format title number bytes = (payload rest : List ℕ) → IsPayload payload → bytes ≢ frame_in format title number payload ++ rest
 

@@ -1,4 +1,5 @@
--- What happens to a folder: appends, switches, failures, crashes and starts. The program's part is that of `Folder`, the disk's that of `Disk`.
+-- The history of a folder: appends, switches, failures, crashes and starts. The program does what `Folder` says, the disk what
+-- `Disk` says.
 use Rattle.std.specs.Prelude.{◌≡◌, ◌⊎◌, ℕ, ◌+◌, ◌/◌, ◌%◌, ◌≤◌, nat_lt, not, Bool, true, false, if◌then◌else◌, List, [], ◌∷◌, ◌++◌, length, Option, Some, None}
 use Rattle.std.specs.List.{list_any}
 use Rattle.svid_journal.specs.declared.step.Step.{Step}
@@ -14,7 +15,7 @@ use Rattle.svid_journal.specs.Frames.{sealed, frame_of, frames_of, IsReading}
 use Rattle.svid_journal.specs.Folder.{ready_rows, first_row, is_starting, begin_fault, answer_fault, put_fault, landed_fault, piece_fault, open_fault, opened, begun, answered, given_up, due_at, flown, landed, lost, ended, pieced}
 use Rattle.svid_journal.specs.Disk.{write_id, sync_id, rename_id, Disk, Outcome, IsOutcome, as_seen, empty_file, settled, put, create_journal, write_journal, sync_journal, remove_journal, write_piece, sync_beside, rename_beside, sync_folder, after_crash}
 
--- the titles of a folder's files, and what the file with its ID holds
+-- the titles of a folder's files, and the content of the file with its ID
 pub record Titles : Type 0 where
   pub id : List ℕ
   pub journal : ℕ → List ℕ
@@ -28,7 +29,7 @@ abbrev pub id_text : List ℕ → List ℕ
 id_text [] = 10 ∷ []
 id_text (b ∷ bytes) = hex_digit (b / 16) ∷ hex_digit (b % 16) ∷ id_text bytes
 
--- those that the program gives them
+-- the titles that the program gives
 abbrev pub titles_of : List ℕ → Titles
 titles_of folder = record { id = id_text folder; journal = λ k. bytes_of (record { file = Journal k; folder = folder }); snapshot = bytes_of (record { file = Snapshot; folder = folder }) }
 
@@ -39,17 +40,17 @@ pub record World : Type 0 where
   pub home : ℕ
   -- the payloads of that journal that were acknowledged
   pub log : List (List ℕ)
-  -- those of each journal, since it was made
+  -- the acknowledged payloads of each journal, since it was made
   pub logs : ℕ → List (List ℕ)
-  -- one that was written behind them, and not synced
+  -- a payload that was written after them, and not synced
   pub flying : List (List ℕ)
   -- the payloads of a snapshot that were written so far
   pub parts : List (List ℕ)
-  -- all that were ever acknowledged
+  -- all payloads that were ever acknowledged
   pub acknowledged : List (List ℕ)
-  -- what the record in memory has, as payloads
+  -- the content of the record in memory, as payloads
   pub memory : List (List ℕ)
-  -- what it had when the journal that grows began
+  -- its content when the journal that grows began
   pub noted : List (List ℕ)
   -- all texts that were ever sealed in frames
   pub texts : List (List ℕ)
@@ -58,18 +59,18 @@ pub record World : Type 0 where
 pub data Event : Type 0 where
   -- a new journal and a new snapshot begin
   Begin : Event
-  -- the call that is due answers
+  -- the call that is due returns
   Answer : (ok : Bool) → Event
   -- a piece of a snapshot is written; where that fails, this landed, and the call that is due fails
   Piece : (payload : List ℕ) (ok : Bool) (landed : List ℕ) → Event
-  -- the record takes a payload, and it is written behind the journal that grows; where that fails, this landed
+  -- the record takes a payload, and it is appended to the journal that grows; where that fails, this landed
   Put : (payload : List ℕ) (ok : Bool) (landed : List ℕ) → Event
   -- the journal that grows is made longer, from this offset on; this landed
   Grow : (offset : ℕ) (landed : List ℕ) → Event
-  -- the journal that grows is synced behind a frame
+  -- the journal that grows is synced after a frame
   Sync : (ok : Bool) → Event
-  -- Where no program has the folder open, the file with the ID is made: a text is written beside it, of which this landed if it fails. That
-  -- file is synced, then renamed, and then the folder is synced
+  -- Where no program has the folder open, the file with the ID is made: a text is written beside it; if that fails, this landed.
+  -- Then that file is synced, then renamed, and then the folder is synced
   WriteId : (text : List ℕ) (ok : Bool) (landed : List ℕ) → Event
   SyncId : (ok : Bool) → Event
   RenameId : Event
@@ -79,7 +80,7 @@ pub data Event : Type 0 where
   -- a start: a new record takes what is read of the folder, whose journals have these numbers
   Start : (oldest newest : ℕ) (read : List (List ℕ)) → Event
 
--- what a call does to the disk
+-- the disk after a call
 abbrev pub called : Call → Bool → Disk → Disk
 called Nothing ok d = d
 called (CreateJournal k) ok d = if ok then create_journal k d else d
@@ -89,7 +90,7 @@ called SyncSnapshot ok d = sync_beside ok d
 called RenameSnapshot ok d = if ok then rename_beside d else d
 called (RemoveJournal k) ok d = if ok then remove_journal k d else d
 
--- a journal that is made has no payloads
+-- a new journal has no payloads
 abbrev pub logs_of : Call → Bool → (ℕ → List (List ℕ)) → ℕ → List (List ℕ)
 logs_of (CreateJournal k) ok logs = if ok then put logs k [] else logs
 logs_of Nothing ok logs = logs
@@ -99,7 +100,7 @@ logs_of SyncSnapshot ok logs = logs
 logs_of RenameSnapshot ok logs = logs
 logs_of (RemoveJournal k) ok logs = logs
 
--- the next journal grows behind a step that succeeds
+-- the next journal grows after a step that succeeds
 abbrev pub grows_next : Step → Bool → Bool
 grows_next Entering ok = ok
 grows_next Naming ok = ok
@@ -113,7 +114,7 @@ grows_next Renaming ok = false
 grows_next Publishing ok = false
 grows_next Removing ok = false
 
--- the call that is due answered
+-- the call that is due returned
 abbrev pub after_answer : World → Bool → World
 after_answer w ok =
     let next = grows_next w.folder.step ok in
@@ -131,7 +132,7 @@ after_answer w ok =
       texts = w.texts;
     }
 
--- a piece of a snapshot was handed out, and its write answered
+-- a piece of a snapshot was handed out, and its write returned
 abbrev pub after_piece : Titles → World → List ℕ → Bool → List ℕ → World
 after_piece t w payload ok landed =
     record {
@@ -186,7 +187,7 @@ after_sync w ok =
       texts = w.texts;
     }
 
--- the program is gone, and with it the record
+-- the program has ended, and with it the record
 abbrev pub after_end : World → Folder → Disk → List (List ℕ) → World
 after_end w folder disk memory =
     record { folder = folder; disk = disk; home = w.home; log = w.log; logs = w.logs; flying = []; parts = []; acknowledged = w.acknowledged; memory = memory; noted = []; texts = w.texts }
@@ -209,7 +210,7 @@ abbrev pub with_disk : World → Disk → World
 with_disk w disk =
     record { folder = w.folder; disk = disk; home = w.home; log = w.log; logs = w.logs; flying = w.flying; parts = w.parts; acknowledged = w.acknowledged; memory = w.memory; noted = w.noted; texts = w.texts }
 
--- what happens next
+-- the folder after an event
 abbrev pub happens : Titles → World → Event → World
 happens t w Begin = unless (begin_fault w.folder) (record { folder = begun w.folder; disk = w.disk; home = w.home; log = w.log; logs = w.logs; flying = w.flying; parts = w.parts; acknowledged = w.acknowledged; memory = w.memory; noted = w.noted; texts = w.texts }) w
 happens t w (Answer ok) = unless (answer_fault w.folder ok) (after_answer w ok) w
@@ -224,7 +225,7 @@ happens t w (NameId ok) = unless (id_fault w.folder) (with_disk w (sync_folder o
 happens t w (Crash left) = after_end w (ended w.folder) (after_crash left) []
 happens t w (Start oldest newest read) = after_end w (opened oldest newest) w.disk read
 
--- a whole history
+-- the folder after a whole history
 abbrev pub history : Titles → List Event → World → World
 history t [] w = w
 history t (e ∷ events) w = history t events (happens t w e)
@@ -250,19 +251,19 @@ fresh =
       texts = [];
     }
 
--- Of one use: `has` tells whether a payload holds it. It is one that has not expired, so a record that has it keeps it.
+-- The view of one use: `has` says whether a payload has it. The use has not expired, so a record that has it keeps it.
 
--- whatever is read of these bytes, the use is in it
+-- the use is in whatever is read of these bytes
 abbrev pub IsReadIn : (List ℕ → Bool) → List ℕ → List ℕ → Type 0
 IsReadIn has title bytes = (payloads : List (List ℕ)) (rest : List ℕ) → IsReading title bytes payloads rest → list_any has payloads ≡ true
 
--- of what is left the use is read: in the snapshot, or in a journal that is there
+-- the use is read from what is left: in the snapshot, or in a journal that is there
 abbrev pub IsRead : (List ℕ → Bool) → Titles → Outcome → Type 0
 IsRead has t o = ((bytes : List ℕ) × (o.snapshot ≡ Some bytes) × IsReadIn has t.snapshot bytes) ⊎ ((k : ℕ) × (o.here k ≡ true) × IsReadIn has (t.journal k) (o.bytes k))
 
--- What the program's callers and the system see to. A mark ends a snapshot only if its pieces have the use where the record had it as the
--- journal that grows began. A journal is made longer behind what was written. A crash leaves what it may. At a start the numbers are those
--- of the journals that are there, and the record takes the use if it is read of the folder.
+-- What the program's callers and the system ensure. A mark ends a snapshot only if its pieces have the use where the record had
+-- it when the journal that grows began. A journal is made longer only after what was written. A crash leaves what it may. At a
+-- start the numbers are those of the journals that are there, and the record takes the use if it is read of the folder.
 abbrev pub IsAllowed : (List ℕ → Bool) → Titles → World → Event → Type 0
 IsAllowed has t w Begin = Unit {0}
 IsAllowed has t w (Answer ok) = Unit {0}
@@ -281,8 +282,9 @@ abbrev pub AreAllowed : (List ℕ → Bool) → Titles → List Event → World 
 AreAllowed has t [] w = Unit {0}
 AreAllowed has t (e ∷ events) w = IsAllowed has t w e × AreAllowed has t events (happens t w e)
 
--- What the making of the file with the ID sees to. A file is renamed to it only if all of it is on the disk, and only if there is none, or
--- one of the same text. A start reads the ID first. No sync of the folder failed since that file was made, unless a crash came since.
+-- What the code that makes the file with the ID ensures. A file is renamed to it only if it is whole on the disk, and only if
+-- there is none, or one with the same text. A start reads the ID first. No sync of the folder has failed since that file was
+-- made, unless a crash came after it.
 abbrev pub IsIdAllowed : Titles → World → Event → Type 0
 IsIdAllowed t w Begin = Unit {0}
 IsIdAllowed t w (Answer ok) = Unit {0}

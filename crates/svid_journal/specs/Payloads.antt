@@ -1,4 +1,4 @@
--- What a payload bears: messages, or the position of a member in its log, and then messages.
+-- The content of a payload: messages, or the position of a member in its log followed by messages.
 use Rattle.std.specs.Prelude.{◌≡◌, ◌≢◌, ◌<◌, ◌^◌, ℕ, List, [], ◌∷◌, ◌++◌, codes, take}
 use Rattle.std.specs.Int.{to_be_bytes, w64}
 use Rattle.svid_journal.specs.declared.log_position.LogPosition.{LogPosition}
@@ -7,11 +7,11 @@ use Rattle.svid_journal.specs.declared.log_position.LogPosition.{LogPosition}
 abbrev pub position_magic : List ℕ
 position_magic = 74 ∷ 83 ∷ 76 ∷ 1 ∷ []
 
--- 28 bytes: what a position begins with, and its three numbers, each with the greatest byte first
+-- 28 bytes: the first four of a position, and its three numbers, each with the most significant byte first
 unfoldable pub position_text : LogPosition → List ℕ
 position_text p = position_magic ++ (to_be_bytes w64 p.passed ++ (to_be_bytes w64 p.begun ++ to_be_bytes w64 p.deaf))
 
--- no position stands in front
+-- the bytes do not begin with a position
 abbrev pub BeginsWithNoPosition : List ℕ → Type 0
 BeginsWithNoPosition payload = (p : LogPosition) (messages : List ℕ) → payload ≢ position_text p ++ messages
 
@@ -19,7 +19,7 @@ BeginsWithNoPosition payload = (p : LogPosition) (messages : List ℕ) → paylo
 abbrev pub IsIndex : LogPosition → Type 0
 IsIndex p = (p.passed < 2 ^ 64) × (p.begun < 2 ^ 64) × (p.deaf < 2 ^ 64)
 
--- What is written is read back: a payload begins with one position, and the same messages stand behind it.
+-- A position that is written is read back: the payload begins with this position only, and the same messages follow it.
 abbrev pub PositionsAreReadBack : Type 0
 PositionsAreReadBack = (p q : LogPosition) (messages others : List ℕ) → IsIndex p → IsIndex q → position_text p ++ messages ≡ position_text q ++ others → (p ≡ q) × (messages ≡ others)
 

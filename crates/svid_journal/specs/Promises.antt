@@ -15,13 +15,13 @@ use Rattle.svid_journal.specs.History.Event.{Begin, Answer, Piece, Put, Grow, Sy
 abbrev pub AcknowledgedIsRead : Type 0
 AcknowledgedIsRead = (has : List ℕ → Bool) (t : Titles) (events : List Event) → AreAllowed has t events fresh → list_any has (history t events fresh).acknowledged ≡ true → (o : Outcome) → IsLeft (history t events fresh).disk o → IsRead has t o
 
--- Nothing is acknowledged before a first journal grew. Since then the file with the ID is there, whole, whatever is left: so each frame can be
--- read under the title that it was sealed with.
+-- Nothing is acknowledged before a first journal grew. From then on the file with the ID is there, whole, after any crash: so
+-- each frame can be read under the title with which it was sealed.
 abbrev pub IdIsRead : Type 0
 IdIsRead =
     (t : Titles) (events : List Event) → IsIdKept t events fresh → (((history t events fresh).acknowledged ≡ []) ⊎ (0 < (history t events fresh).home)) × (0 < (history t events fresh).home → (o : Outcome) → IsLeft (history t events fresh).disk o → o.id ≡ Some t.id)
 
--- What was acknowledged of a journal since it was made is read of it first, in order, whatever is left.
+-- A journal's acknowledged payloads, since it was made, are the first that are read of it, in order, after any crash.
 abbrev pub JournalsAreRead : Type 0
 JournalsAreRead =
     (has : List ℕ → Bool) (t : Titles) (events : List Event) → AreAllowed has t events fresh → (o : Outcome) → IsLeft (history t events fresh).disk o
@@ -38,21 +38,21 @@ Among (t ∷ texts) text = (t ≡ text) ⊎ Among texts text
 abbrev pub IsOfAnother : List ℕ → List ℕ → Type 0
 IsOfAnother title text = take 31 (drop 1 text) ≢ title
 
--- Where a whole frame of this number stands, its tag is that of one of these texts. So it is where there is no whole frame: of filler, of
--- zeros, of a head that was cut off.
+-- Where there is a whole frame of this number, its tag is that of one of these texts. This also holds where there is no whole
+-- frame: in filler, zeros, or a head that was cut off.
 abbrev pub IsAsWritten : List (List ℕ) → List ℕ → ℕ → List ℕ → Type 0
 IsAsWritten texts title number bytes = (payload behind : List ℕ) → IsPayload payload → bytes ≡ frame_of title number payload ++ behind → (text : List ℕ) × Among texts text × (take 20 bytes ≡ tag_of text)
 
--- so it is wherever a reader of the file looks for the next frame
+-- the same wherever a reader of the file looks for the next frame
 abbrev pub MakesUpNoTag : List (List ℕ) → List ℕ → List ℕ → Type 0
 MakesUpNoTag texts title bytes = (payloads : List (List ℕ)) (rest : List ℕ) → AllByRecursion IsPayload payloads → bytes ≡ frames_of title 1 payloads ++ rest → IsAsWritten texts title (1 + length payloads) rest
 
--- No head was written whole here: too few bytes are there for one, or the last four are zeros, as in a page that was never written and where
--- a head was cut off, or filler.
+-- No whole head was written here: there are too few bytes for one, or its last four are zeros, as in a page that was never
+-- written and in a head that was cut off, or filler.
 abbrev pub IsNoHead : List ℕ → Type 0
 IsNoHead bytes = (length bytes < 32) ⊎ ((drop 28 (take 32 bytes) ≡ replicate 4 0) ⊎ (drop 28 (take 32 bytes) ≡ filler 4))
 
--- There nothing is made up.
+-- There no tag is made up.
 abbrev pub TornIsAsWritten : Type 0
 TornIsAsWritten = (texts : List (List ℕ)) (title : List ℕ) (number : ℕ) (bytes : List ℕ) → IsNoHead bytes → IsAsWritten texts title number bytes
 
@@ -63,13 +63,13 @@ pub record IsClash (texts : List (List ℕ)) (title : List ℕ) (number : ℕ) (
   pub differs : sealed 2 title number payload ≢ text
   pub one_tag : tag_of (sealed 2 title number payload) ≡ tag_of text
 
--- each payload was appended to this file, at its offset, or two texts have one tag
+-- each payload was appended to this file with its number, or two texts have one tag
 abbrev pub EachAppended : List (List ℕ) → List (List ℕ) → List ℕ → ℕ → List (List ℕ) → Type 0
 EachAppended texts others title number [] = Unit {0}
 EachAppended texts others title number (p ∷ payloads) = (Among texts (sealed 2 title number p) ⊎ IsClash (others ++ texts) title number p) × EachAppended texts others title (number + 1) payloads
 
--- Of a file in which the whole frames have no tags but of texts that this program sealed, and of others with other titles, only what this
--- program appended to it is read.
+-- If the whole frames of a file have only tags of texts that this program sealed, and of others with other titles, then only what
+-- this program appended to the file is read.
 abbrev pub OnlyAppended : World → List ℕ → List ℕ → Type 0
 OnlyAppended w title bytes =
     (others : List (List ℕ)) → AllByRecursion (IsOfAnother title) others → MakesUpNoTag (others ++ w.texts) title bytes → (payloads : List (List ℕ)) (rest : List ℕ) → IsReading title bytes payloads rest → EachAppended w.texts others title 1 payloads
@@ -79,8 +79,8 @@ NothingElseIsRead =
     (folder : List ℕ) → length folder ≡ 16 → (events : List Event) (bytes : List ℕ)
     → ((k : ℕ) → OnlyAppended (history (titles_of folder) events fresh) ((titles_of folder).journal k) bytes) × OnlyAppended (history (titles_of folder) events fresh) (titles_of folder).snapshot bytes
 
--- Of each journal, whatever is left: where the bytes of an acknowledged frame that another acknowledged one stands behind were changed,
--- reading stops there, and finds a later frame; or a frame of its number stands there.
+-- For each journal, after any crash: where the bytes of an acknowledged frame were changed, and another acknowledged one follows
+-- it, reading stops there and finds a later frame; or a frame of its number is there.
 abbrev pub DamageIsSeen : Type 0
 DamageIsSeen =
     (has : List ℕ → Bool) (t : Titles) (events : List Event) → AreAllowed has t events fresh → (o : Outcome) → IsLeft (history t events fresh).disk o
@@ -109,8 +109,8 @@ IsNoStart (Start oldest newest read) = ⊥
 abbrev pub EndedAcknowledgesNothing : Type 0
 EndedAcknowledgesNothing = (t : Titles) (events : List Event) (w : World) → w.folder.ended ≡ true → AllByRecursion IsNoStart events → (history t events w).acknowledged ≡ w.acknowledged
 
--- Which failures end a folder: that of a sync of the journal that grows, that of a sync of the folder, and that of a start. Another one, as of
--- a sync of the file beside the snapshot, ends the switch alone, and one of a write ends nothing.
+-- Which failures end a folder: that of a sync of the journal that grows, that of a sync of the folder, and that of a start. Any
+-- other, such as a failed sync of the file beside the snapshot, only ends the switch, and a failed write ends nothing.
 
 abbrev pub is_folder_sync : Call → Bool
 is_folder_sync Nothing = false
@@ -130,8 +130,8 @@ pub record EndsByFailures (t : Titles) (w : World) : Type 0 where
 abbrev pub FailuresEnd : Type 0
 FailuresEnd = (t : Titles) (w : World) → EndsByFailures t w
 
--- The numbers of a folder stay those of a folder: no call answers that they are not, whatever happened before. Each start has numbers that it
--- takes.
+-- The numbers of a folder stay those of a folder: no call reports that they are not, whatever happened before. Each start has
+-- numbers that it takes.
 abbrev pub StartsFit : Event → Type 0
 StartsFit Begin = Unit {0}
 StartsFit (Answer ok) = Unit {0}
@@ -149,12 +149,12 @@ StartsFit (Start oldest newest read) = open_fault oldest newest ≡ None
 abbrev pub NumbersStayFit : Type 0
 NumbersStayFit = (t : Titles) (events : List Event) → AllByRecursion StartsFit events → is_fit (history t events fresh).folder ≡ true
 
--- A crash may come at any time, and leave what is there for who reads it.
+-- A crash may come at any time, and leave what a read finds now.
 abbrev pub CrashesMayCome : Type 0
 CrashesMayCome = (t : Titles) (events : List Event) → IsOutcome (history t events fresh).disk (as_seen (history t events fresh).disk)
 
--- The premises can be met: a first start makes the file with the ID and a journal, a payload is appended and acknowledged, and a new journal and a snapshot that has it
--- take the offset of the old journal.
+-- The premises can be met: a first start makes the file with the ID and a journal, a payload is appended and acknowledged, and a
+-- new journal and a snapshot that has it replace the old journal.
 abbrev pub example : Titles → List Event
 example t =
     WriteId t.id true [] ∷ SyncId true ∷ RenameId ∷ NameId true ∷ Start 1 0 [] ∷ Answer true ∷ Answer true ∷ Put (7 ∷ []) true [] ∷ Sync true ∷ Begin ∷ Answer true ∷ Answer true ∷ Piece (7 ∷ []) true [] ∷ Piece [] true [] ∷ Answer true ∷ Answer true ∷ Answer true ∷ Answer true ∷ Answer true ∷ []

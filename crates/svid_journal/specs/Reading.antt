@@ -1,4 +1,4 @@
--- What is read of the bytes of a file, and where reading stops.
+-- What a reader finds in the bytes of a file, and where it stops.
 use Rattle.std.specs.Prelude.{◌≡◌, ◌≢◌, ◌⊎◌, ◌==◌, ◌&&◌, ℕ, zero, suc, ◌+◌, ◌-◌, ◌*◌, ◌/◌, ◌%◌, ◌^◌, ◌<◌, ◌≤◌, nat_lt, nat_le, if◌then◌else◌, Bool, true, false, List, [], ◌∷◌, ◌++◌, length, take, drop}
 use Rattle.std.specs.Int.{from_be_bytes, w32, w64}
 use Rattle.std.specs.List.{AllByRecursion, list_all}
@@ -11,8 +11,8 @@ use Rattle.svid_journal.specs.declared.reader.Next.TheVariants.{Payload, End, Te
 use Rattle.svid_journal.specs.Titles.{bytes_of}
 use Rattle.svid_journal.specs.Frames.{frame_in, frame_of, frames_of, frame_len, IsFormat, IsPayload, BeginsWithNone, IsReading}
 
--- bytes that begin with a frame, of any format, that may stand so many cells of 8 bytes behind the offset of the frame of this number: each
--- frame between takes four cells at least
+-- bytes that begin with a frame, of any format, that may be so many cells of 8 bytes after the offset of the frame of this
+-- number: each frame between takes at least four cells
 pub record BeginsLater (title : List ℕ) (number cell : ℕ) (bytes : List ℕ) : Type 0 where
   pub format : ℕ
   pub later : ℕ
@@ -25,11 +25,11 @@ pub record BeginsLater (title : List ℕ) (number cell : ℕ) (bytes : List ℕ)
   pub bears : IsPayload payload
   pub stands : bytes ≡ frame_in format title later payload ++ rest
 
--- such a frame stands at a multiple of 8
+-- there is such a frame at a multiple of 8
 abbrev pub HasLater : List ℕ → ℕ → List ℕ → Type 0
 HasLater title number bytes = (cell : ℕ) × BeginsLater title number cell (drop (8 * cell) bytes)
 
--- the number, the format and the length of a payload that a head states
+-- the number, the format and the length of a payload in a head
 abbrev pub number_in : List ℕ → ℕ
 number_in head = from_be_bytes w64 (take 8 (drop 20 head))
 
@@ -39,24 +39,25 @@ format_in head = from_be_bytes w32 (drop 28 head) / 16777216
 abbrev pub len_in : List ℕ → ℕ
 len_in head = from_be_bytes w32 (drop 28 head) % 16777216
 
--- a head states a frame that may stand so many cells of 8 bytes behind the offset of the frame of this number, where there are so many bytes
+-- a head announces a frame that may be so many cells of 8 bytes after the offset of the frame of this number, where there are so
+-- many bytes
 abbrev pub states_later : ℕ → ℕ → List ℕ → ℕ → Bool
 states_later number cell head room = nat_lt number (number_in head) && nat_le (number_in head - number) (cell / 4) && nat_lt 0 (format_in head) && nat_lt (format_in head) 255 && nat_le (frame_len (len_in head)) room
 
--- how many cells the frame takes that the bytes begin with, as their head states it, where it may be a later one; else 0
+-- how many cells the frame at the start of these bytes takes by its head, where it may be a later one; else 0
 unfoldable pub later_cells : ℕ → ℕ → List ℕ → ℕ
 later_cells number cell bytes = if states_later number cell (take 32 bytes) (length bytes) then frame_len (len_in (take 32 bytes)) / 8 else 0
 
--- how many cells all such frames take that begin in the first cells, so many of them
+-- how many cells all such frames take together that begin in so many of the first cells
 abbrev pub crowd : ℕ → List ℕ → ℕ → ℕ
 crowd number bytes zero = 0
 crowd number bytes (suc cells) = crowd number bytes cells + later_cells number cells (drop (8 * cells) bytes)
 
--- heads state so many later frames one over the other that they would take more than eight times the bytes: no program wrote that
+-- heads announce so many overlapping later frames that they would take more than eight times the bytes: no program wrote that
 abbrev pub IsCrowded : ℕ → List ℕ → Type 0
 IsCrowded number bytes = length bytes < crowd number bytes (length bytes / 8)
 
--- what stands there was not left by a write that was cut off
+-- the bytes there were not left by a write that was cut off
 abbrev pub IsBroken : List ℕ → ℕ → List ℕ → Type 0
 IsBroken title number bytes = IsCrowded number bytes ⊎ HasLater title number bytes
 
@@ -76,18 +77,18 @@ HasOther title number bytes = (format : ℕ) × IsOther title number bytes forma
 abbrev pub is_blank : List ℕ → Bool
 is_blank bytes = list_all (λ b. b == 0) bytes
 
--- Where no frame of the next number stands, and none of another format: a journal ends where nothing was written; a snapshot was written
--- whole, so it ends with its bytes, behind a mark.
+-- Neither a frame of the next number nor one of another format is here. A journal ends where nothing was written. A snapshot was
+-- written whole, so it ends with its bytes, after a mark.
 abbrev pub IsEnd : File → Bool → List ℕ → ℕ → List ℕ → Type 0
 IsEnd (Journal k) marked title number rest = (IsBroken title number rest → ⊥) × (is_blank rest ≡ true)
 IsEnd Snapshot marked title number rest = (rest ≡ []) × (marked ≡ true)
 
--- a write was cut off: only the journal that grew has that, at its end
+-- a write was cut off: only the journal that grew can have that, at its end
 abbrev pub IsTear : File → Bool → List ℕ → ℕ → List ℕ → Type 0
 IsTear (Journal k) marked title number rest = (IsBroken title number rest → ⊥) × (is_blank rest ≡ false)
 IsTear Snapshot marked title number rest = ⊥
 
--- what was synced has changed: a frame is written only after the one before it was synced, and a snapshot is synced whole
+-- bytes that were synced have changed: a frame is written only after the one before it was synced, and a snapshot is synced whole
 abbrev pub IsDamage : File → Bool → List ℕ → ℕ → List ℕ → Type 0
 IsDamage (Journal k) marked title number rest = IsBroken title number rest
 IsDamage Snapshot marked title number rest = rest ≡ [] → marked ≡ true → ⊥
@@ -96,11 +97,11 @@ IsDamage Snapshot marked title number rest = rest ≡ [] → marked ≡ true →
 abbrev pub IsFit : Reader → List ℕ → Type 0
 IsFit r bytes = (r.count < 2 ^ 62) × (r.at ≤ length bytes)
 
--- the same reader behind one payload more
+-- the same reader after one payload more
 abbrev pub read_on : Reader → List ℕ → Reader
 read_on r payload = record { count = 1 + r.count; at = r.at + frame_len (length payload); marked = length payload == 0 }
 
--- a frame stands there
+-- there is a frame
 pub record GoesOn (t : Title) (old new : Reader) (bytes payload : List ℕ) : Type 0 where
   pub fit : IsFit old bytes
   pub behind : List ℕ
@@ -108,13 +109,13 @@ pub record GoesOn (t : Title) (old new : Reader) (bytes payload : List ℕ) : Ty
   pub stands : drop old.at bytes ≡ frame_of (bytes_of t) (1 + old.count) payload ++ behind
   pub moved : new ≡ read_on old payload
 
--- none stands there
+-- there is no frame
 pub record Stops (t : Title) (old new : Reader) (bytes : List ℕ) : Type 0 where
   pub fit : IsFit old bytes
   pub none : BeginsWithNone 2 (bytes_of t) (1 + old.count) (drop old.at bytes)
   pub same : new ≡ old
 
--- what a reader finds where no frame of the next number stands
+-- what a reader finds where there is no frame of the next number
 abbrev pub IsEnding : Next → Title → Reader → List ℕ → Type 0
 IsEnding (Payload p) t r rest = ⊥
 IsEnding End t r rest = (HasOther (bytes_of t) (1 + r.count) rest → ⊥) × IsEnd t.file r.marked (bytes_of t) (1 + r.count) rest
@@ -123,7 +124,7 @@ IsEnding Damage t r rest = (HasOther (bytes_of t) (1 + r.count) rest → ⊥) ×
 IsEnding (Other format) t r rest = IsOther (bytes_of t) (1 + r.count) rest format
 IsEnding Unfit t r rest = ⊥
 
--- what a reader answers
+-- what a reader returns
 abbrev pub IsNext : Next → Title → Reader → Reader → List ℕ → Type 0
 IsNext (Payload p) t old new bytes = GoesOn t old new bytes p.now
 IsNext End t old new bytes = Stops t old new bytes × IsEnding End t old (drop old.at bytes)
@@ -138,7 +139,7 @@ ends_marked [] = false
 ends_marked (p ∷ []) = length p == 0
 ends_marked (p ∷ q ∷ ps) = ends_marked (q ∷ ps)
 
--- a reader has read these payloads of a file, and this stands behind them
+-- a reader has read these payloads of a file, and this rest follows them
 pub record HasRead (r : Reader) (t : Title) (bytes : List ℕ) (payloads : List (List ℕ)) (rest : List ℕ) : Type 0 where
   pub whole : bytes ≡ frames_of (bytes_of t) 1 payloads ++ rest
   pub each : AllByRecursion IsPayload payloads
@@ -146,7 +147,7 @@ pub record HasRead (r : Reader) (t : Title) (bytes : List ℕ) (payloads : List 
   pub at : r.at ≡ length (frames_of (bytes_of t) 1 payloads)
   pub marked : r.marked ≡ ends_marked payloads
 
--- Where a reader is behind these payloads, it goes on behind one more, or these are all.
+-- A reader after these payloads reads one more, or these are all.
 abbrev pub ReadsOn : Next → Title → Reader → List ℕ → List (List ℕ) → List ℕ → Type 0
 ReadsOn (Payload p) t new bytes payloads rest = (behind : List ℕ) × HasRead new t bytes (payloads ++ p.now ∷ []) behind
 ReadsOn End t new bytes payloads rest = IsReading (bytes_of t) bytes payloads rest

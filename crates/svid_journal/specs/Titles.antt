@@ -1,4 +1,4 @@
--- What a file of a state folder is: its title, which no file holds.
+-- The title of a file of a state folder, which no file holds.
 use Rattle.std.specs.Prelude.{◌≡◌, ◌<◌, ◌^◌, ℕ, List, ◌++◌, codes, length}
 use Rattle.std.specs.Int.{to_be_bytes, w64}
 use Rattle.svid_journal.specs.declared.title.File.{File}
@@ -15,7 +15,7 @@ abbrev pub number_of : File → ℕ
 number_of (Journal number) = number
 number_of Snapshot = 0
 
--- 31 bytes: the kind, the number with its greatest byte first, and the folder
+-- 31 bytes: the kind, the number with its most significant byte first, and the folder
 unfoldable pub bytes_of : Title → List ℕ
 bytes_of title = kind_of title.file ++ (to_be_bytes w64 (number_of title.file) ++ title.folder)
 
@@ -23,6 +23,6 @@ bytes_of title = kind_of title.file ++ (to_be_bytes w64 (number_of title.file) +
 abbrev pub IsInRange : Title → Type 0
 IsInRange title = (number_of title.file < 2 ^ 64) × (length title.folder ≡ 16)
 
--- files that are two have two titles
+-- two different files have different titles
 abbrev pub TitlesDiffer : Type 0
 TitlesDiffer = (one other : Title) → IsInRange one → IsInRange other → bytes_of one ≡ bytes_of other → one ≡ other

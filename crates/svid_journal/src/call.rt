@@ -1,9 +1,9 @@
 /// A call of the system.
 #[derive(Clone, Copy, Debug, PartialEq, Eq)]
 pub enum Call {
-    /// None is due.
+    /// No call is due.
     Nothing,
-    /// Make an empty journal of this number, a new file: one that has its name is removed first.
+    /// Make an empty journal of this number, a new file: a file that has its name is removed first.
     CreateJournal(u64),
     /// Sync the folder.
     SyncFolder,
@@ -13,6 +13,6 @@ pub enum Call {
     SyncSnapshot,
     /// Rename it over the snapshot.
     RenameSnapshot,
-    /// Remove the journal of this number. One that is not there is removed: that is a success.
+    /// Remove the journal of this number. If it is not there, that counts as a success.
     RemoveJournal(u64),
 }

@@ -6,7 +6,7 @@ pub enum Fault {
     /// The numbers are not those of a folder.
     #[error("these are not the numbers of a folder")]
     Unfit,
-    /// A sync failed: nobody knows what the disk holds until the next start.
+    /// A sync failed: what the disk holds is unknown until the next start.
     #[error("a sync failed: start anew")]
     Ended,
     /// No journal grows yet.
@@ -18,7 +18,7 @@ pub enum Fault {
     /// No call is due.
     #[error("no call is due")]
     NothingDue,
-    /// A frame was handed out, and is not synced.
+    /// A frame was handed out, and is not synced yet.
     #[error("a frame is not synced yet")]
     Flying,
     /// No frame was handed out.
@@ -30,10 +30,10 @@ pub enum Fault {
     /// The snapshot has no mark at its end.
     #[error("the snapshot has no mark at its end")]
     NoMark,
-    /// The payload is longer than a frame can bear.
+    /// The payload is longer than a frame can hold.
     #[error("a payload has more than 16777215 bytes")]
     TooLong,
-    /// A number has come to its end.
+    /// A number has reached its limit.
     #[error("a number of the folder has come to its end")]
     Full,
     /// The room is too short: the frame takes so many bytes.

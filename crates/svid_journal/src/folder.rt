@@ -9,15 +9,15 @@ use crate::frame::{MOST, MOST_PAYLOAD, frame_len, put_frame};
 use crate::step::Step;
 use crate::title::{File, Title};
 
-/// How a state folder stands: which journals it may have, what is due in it, and how far the journal that grows is written.
+/// The state of a state folder: which journals it may have, which call is due, and how much of the journal that grows is written.
 ///
-/// All is plain numbers, so a caller can keep them as it likes. Each call checks them, and answers a [`Fault`] if they are not those of a
-/// folder.
+/// All fields are plain numbers, so a caller can keep them in any form. Each call checks them, and returns a [`Fault`] if they
+/// are not those of a folder.
 #[derive(Clone, Copy, Debug, PartialEq, Eq)]
 pub struct Folder {
-    /// What is due.
+    /// The step whose call is due.
     pub step: Step,
-    /// No journal of a smaller number is there.
+    /// No journal has a smaller number.
     pub oldest: u64,
     /// The journal that grows; at a start, the greatest number that was found.
     pub newest: u64,
@@ -34,7 +34,8 @@ pub struct Folder {
 }
 
 impl Folder {
-    // How far the number behind the newest journal is from that of the oldest, at least. A start that ended may have made none.
+    // The least difference between the number after the newest journal and that of the oldest. A start that ended may have made
+    // no journal.
     fn gap(&self) -> u64
         ensures value { result ≡ gap_in self.now }
         ensures small { result ≤ 2 }
@@ -156,11 +157,11 @@ impl Folder {
         None
     }
 
-    /// A start, in a folder that was read: no journal of a number below `oldest` is there, and none above `newest`. In a folder without
-    /// journals these are 1 and 0.
+    /// A start, in a folder that was read: no journal has a number below `oldest` or above `newest`. In a folder without journals
+    /// these are 1 and 0.
     ///
-    /// The next journal is made first, and grows. `Unfit` if `oldest` is greater than the number behind `newest`, `Full` if that number is
-    /// 2^62 or more.
+    /// The next journal is made first, and grows. `Unfit` if `oldest` is greater than the number after `newest`, `Full` if that
+    /// number is 2^62 or more.
     pub fn open(oldest: u64, newest: u64) -> Result<Folder, Fault>
         ensures ok { IfOk result (λ f. (open_fault oldest newest ≡ None) × (f ≡ opened oldest newest)) }
         ensures err { IfErr result (λ e. open_fault oldest newest ≡ Some e) }
@@ -183,7 +184,7 @@ impl Folder {
         })
     }
 
-    /// Begins a new journal and a new snapshot. Refused as `Busy` while a call is due.
+    /// Begins a new journal and a new snapshot. `Busy` while a call is due.
     pub fn begin(&mut self) -> Result<(), Fault>
         ensures ok { OnOk result ((begin_fault self.old ≡ None) × (self.new ≡ begun self.old)) }
         ensures err { IfErr result (λ e. (begin_fault self.old ≡ Some e) × (self.new ≡ self.old)) }
@@ -195,7 +196,7 @@ impl Folder {
         Ok(())
     }
 
-    /// The call of the system that is due. The caller makes it, and tells by [`Folder::answer`] whether it succeeded.
+    /// The call of the system that is due. The caller makes it, and reports by [`Folder::answer`] whether it succeeded.
     pub fn due(&self) -> Result<Call, Fault>
         ensures { result ≡ due self.now (ready_fault self.now) }
     {
@@ -255,7 +256,7 @@ impl Folder {
         }
     }
 
-    // Nobody knows what the disk holds.
+    // The content of the disk is unknown from here on.
     fn end(&mut self)
         ensures { self.new ≡ ended self.old }
     {
@@ -273,10 +274,10 @@ impl Folder {
         }
     }
 
-    /// Tells that the call that was due succeeded, or failed.
+    /// Reports that the call that was due succeeded, or failed.
     ///
-    /// A sync of the folder that fails ends everything until the next start, and so does a start that gets no further. Any other call that
-    /// fails ends the switch alone, and [`Folder::begin`] begins it anew. `Flying` if the next journal would grow while a frame is not
+    /// If a sync of the folder fails, or the call of a start, everything ends until the next start. Any other call that fails
+    /// only ends the switch, and [`Folder::begin`] begins it again. `Flying` if the next journal would grow while a frame is not
     /// synced, `NoMark` if a snapshot is ended without a mark, `NothingDue` if no call was due.
     pub fn answer(&mut self, ok: bool) -> Result<(), Fault>
         ensures ok { OnOk result ((answer_fault self.old ok ≡ None) × (self.new ≡ answered self.old ok)) }
@@ -293,10 +294,11 @@ impl Folder {
         Ok(())
     }
 
-    /// Puts the frame of a payload first into `room`, and tells how long it is. It is to be written at `end` of the journal `newest`.
+    /// Puts the frame of a payload at the start of `room`, and returns its length. Write it at offset `end` of the journal
+    /// `newest`.
     ///
-    /// An empty payload is a mark. The next frame is handed out once this one is synced: [`Folder::synced`], [`Folder::unwritten`] and
-    /// [`Folder::failed`] tell what became of it. On a fault the room stays as it was. It takes no memory.
+    /// An empty payload is a mark. The next frame is handed out once the caller has reported the result of this one, by
+    /// [`Folder::synced`], [`Folder::unwritten`] or [`Folder::failed`]. On a fault the room stays as it was. It takes no memory.
     pub fn put(&mut self, room: &mut [u8], folder: [u8; 16], payload: &[u8]) -> Result<usize, Fault>
         ensures ok { IfOk result (λ len. (room_fault (put_fault self.old (length payload.now)) (length payload.now) (length room.old) ≡ None) × (len ≡ frame_len (length payload.now)) × (self.new ≡ flown self.old (length payload.now))) }
         ensures frame { OnOk result (room.new ≡ frame_of (bytes_of (journal_title self.old folder)) (1 + self.old.count) payload.now ++ drop (frame_len (length payload.now)) room.old) }
@@ -319,7 +321,7 @@ impl Folder {
         Ok(len)
     }
 
-    /// Tells that the frame was written and synced: it is acknowledged.
+    /// Reports that the frame was written and synced: it is acknowledged.
     pub fn synced(&mut self) -> Result<(), Fault>
         ensures ok { OnOk result ((landed_fault self.old ≡ None) × (self.new ≡ landed self.old)) }
         ensures err { IfErr result (λ e. (landed_fault self.old ≡ Some e) × (self.new ≡ self.old)) }
@@ -333,7 +335,7 @@ impl Folder {
         Ok(())
     }
 
-    /// Tells that the write of the frame failed. Nothing ends: the next frame goes to the same offset.
+    /// Reports that the write of the frame failed. Nothing ends: the next frame goes to the same offset.
     pub fn unwritten(&mut self) -> Result<(), Fault>
         ensures ok { OnOk result ((landed_fault self.old ≡ None) × (self.new ≡ lost self.old)) }
         ensures err { IfErr result (λ e. (landed_fault self.old ≡ Some e) × (self.new ≡ self.old)) }
@@ -345,7 +347,7 @@ impl Folder {
         Ok(())
     }
 
-    /// Tells that a sync of the journal that grows failed. Nothing is acknowledged any more, until the next start.
+    /// Reports that a sync of the journal that grows failed. Nothing is acknowledged until the next start.
     pub fn failed(&mut self) -> Result<(), Fault>
         ensures ok { OnOk result ((ready_fault self.old ≡ None) × (self.new ≡ ended self.old)) }
         ensures err { IfErr result (λ e. (ready_fault self.old ≡ Some e) × (self.new ≡ self.old)) }
@@ -357,7 +359,7 @@ impl Folder {
         Ok(())
     }
 
-    /// Puts the frame of the next piece of a snapshot first into `room`, and tells how long it is. It is to be written behind the ones
+    /// Puts the frame of the next piece of a snapshot at the start of `room`, and returns its length. Append it to the ones
     /// before it. An empty payload is the mark that ends the snapshot. On a fault the room stays as it was. It takes no memory.
     pub fn piece(
         &mut self,

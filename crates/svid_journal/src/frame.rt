@@ -11,10 +11,10 @@ use sha2::{Digest, Sha256};
 /// The format of the frames that this crate writes.
 pub const FORMAT: u8 = 2;
 
-/// How many bytes a payload has at most.
+/// The most bytes that a payload may have.
 pub const MOST_PAYLOAD: usize = 16_777_215;
 
-// No number of a folder gets so far.
+// The limit of a folder's numbers: none reaches it.
 pub(crate) const MOST: u64 = 4_611_686_018_427_387_904;
 
 const FILLER: [u8; 8] = [255; 8];
@@ -89,7 +89,7 @@ fn filler(count: usize) -> &'static [u8]
     FILLER.split_at(count).0
 }
 
-// Puts a piece at a offset of a room.
+// Puts a piece at an offset of a room.
 pub(crate) fn put_at(room: &mut [u8], at: usize, piece: &[u8])
     requires { at + length piece.now ≤ length room.old }
     ensures put { room.new ≡ take at room.old ++ (piece.now ++ drop (at + length piece.now) room.old) }
@@ -98,7 +98,7 @@ pub(crate) fn put_at(room: &mut [u8], at: usize, piece: &[u8])
     room[at..at + piece.len()].copy_from_slice(piece);
 }
 
-// Puts the frame of a payload first into a room that is long enough.
+// Puts the frame of a payload at the start of a room that is long enough.
 pub(crate) fn put_frame(room: &mut [u8], title: &Title, number: u64, payload: &[u8])
     requires bears { IsPayload payload.now }
     requires long { frame_len (length payload.now) ≤ length room.old }
@@ -125,7 +125,7 @@ fn u32_of(bytes: &[u8]) -> u32
     u32::from_be_bytes([bytes[0], bytes[1], bytes[2], bytes[3]])
 }
 
-// The number of 8 bytes, the greatest first.
+// The number with these 8 bytes, most significant first.
 pub(crate) fn u64_of(bytes: &[u8]) -> u64
     requires { length bytes.now ≡ 8 }
     ensures { to_be_bytes w64 result ≡ bytes.now }
@@ -142,7 +142,7 @@ fn stated_len(head: &[u8]) -> u32
     u32_of(head.split_at(28).1)
 }
 
-// The format that a head states.
+// The format in a head.
 pub(crate) fn stated_format(head: &[u8]) -> u8
     requires { length head.now ≡ 32 }
     ensures each { (code : ℕ) → code < 2 ^ 32 → to_be_bytes w32 code ≡ drop 28 head.now → result ≡ code / 16777216 }
@@ -151,7 +151,7 @@ pub(crate) fn stated_format(head: &[u8]) -> u8
     (stated_len(head) / 16_777_216) as u8
 }
 
-// The length of the payload that a head states.
+// The length of the payload in a head.
 pub(crate) fn stated_payload(head: &[u8]) -> usize
     requires { length head.now ≡ 32 }
     ensures value { result ≡ len_in head.now }
@@ -160,7 +160,7 @@ pub(crate) fn stated_payload(head: &[u8]) -> usize
     (stated_len(head) % 16_777_216) as usize
 }
 
-// The number that a head states.
+// The number in a head.
 pub(crate) fn stated_number(head: &[u8]) -> u64
     requires { length head.now ≡ 32 }
     ensures bytes { to_be_bytes w64 result ≡ take 8 (drop 20 head.now) }
@@ -187,7 +187,7 @@ fn split_body(len: usize, body: &[u8]) -> Option<(&[u8], &[u8])>
     }
 }
 
-// The payload of the frame of this format and number that the bytes begin with, and what stands behind it.
+// The payload of the frame of this format and number at the start of the bytes, and the bytes after the frame.
 pub(crate) fn first_frame<'a>(
     format: u8,
     title: &Title,

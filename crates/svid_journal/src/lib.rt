@@ -1,4 +1,4 @@
-//! What a crash leaves: the files of a state folder, and the order of the calls that write them.
+//! The files of a state folder, the order of the calls that write them, and what a crash leaves of them.
 #![tactic(auto)]
 
 mod call;

@@ -2,18 +2,18 @@ ghost use Rattle.std.specs.Prelude.{◌≡◌, ◌++◌, MatchOption};
 
 use crate::frame::{put_at, u64_of};
 
-// What the text of a position begins with: its kind, and the number of its version.
+// The first bytes of a position's text: its kind, and the number of its version.
 const MAGIC: [u8; 4] = *b"JSL\x01";
 
 /// How many bytes the text of a position has.
 pub const LOG_POSITION_LEN: usize = 28;
 
-/// Where a member of a group is in the group's log. A payload may begin with it, in front of its messages.
+/// Where a member of a group is in the group's log. A payload may begin with it, before its messages.
 #[derive(Clone, Copy, Debug, PartialEq, Eq)]
 pub struct LogPosition {
     /// The number of the last value that the member has read whole.
     pub passed: u64,
-    /// How many uses of the value behind that one it has read.
+    /// How many uses of the next value it has read.
     pub begun: u64,
     /// The moment before which it accepts nothing, in seconds.
     pub deaf: u64,
@@ -22,7 +22,7 @@ pub struct LogPosition {
 impl LogPosition {
     ghost use Rattle.svid_journal.specs.Payloads.{BeginsWithNoPosition, position_text};
 
-    /// The text of the position, which stands in front of a payload's messages.
+    /// The text of the position, to put before a payload's messages.
     pub fn text(&self) -> [u8; 28]
         ensures { result ≡ position_text self.now }
     {
@@ -35,7 +35,8 @@ impl LogPosition {
         text
     }
 
-    /// The position that a payload begins with, and the messages behind it. None if it begins with no position: then all of it is messages.
+    /// The position at the start of a payload, and the messages after it. None if it begins with no position: then all of it is
+    /// messages.
     pub fn split(payload: &[u8]) -> Option<(LogPosition, &[u8])>
         ensures { MatchOption result (BeginsWithNoPosition payload.now) (λ x. payload.now ≡ position_text x.0 ++ x.1.now) }
     {

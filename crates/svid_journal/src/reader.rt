@@ -7,17 +7,17 @@ use crate::frame::{
 };
 use crate::title::{File, Title};
 
-/// What stands at the offset of a reader.
+/// What is at the offset of a reader.
 #[derive(Clone, Copy, Debug, PartialEq, Eq)]
 pub enum Next<'a> {
     /// A frame with this payload. An empty one is a mark.
     Payload(&'a [u8]),
     /// The end: nothing was written here.
     End,
-    /// A write that was cut off: nobody was told that it is on the disk.
+    /// A write that was cut off: nobody got an acknowledgement that it is on the disk.
     Tear,
-    /// Damage: what was synced here, at [`Reader::at`], has changed. So is a journal whose rest has heads that state later frames over each
-    /// other, which would take more than eight times its bytes: no write leaves them.
+    /// Damage: bytes that were synced here, at [`Reader::at`], have changed. A journal is also damaged if heads in its rest
+    /// announce overlapping later frames that would take more than eight times its bytes: no write leaves them.
     Damage,
     /// A frame of this number in another format than [`FORMAT`](crate::FORMAT): this format.
     Other(u8),
@@ -25,7 +25,7 @@ pub enum Next<'a> {
     Unfit,
 }
 
-/// How far a file is read.
+/// How far a file was read.
 #[derive(Clone, Copy, Debug, PartialEq, Eq)]
 pub struct Reader {
     /// How many frames were read.
@@ -83,7 +83,7 @@ fn has_later(title: &Title, number: u64, bytes: &[u8]) -> bool
     false
 }
 
-// How many cells of 8 bytes the frame takes that the bytes begin with, as their head states it, where it may be a later one; else 0.
+// How many cells of 8 bytes the frame at the start of these bytes takes by its head, where it may be a later one; else 0.
 fn later_cells(number: u64, cell: u64, bytes: &[u8]) -> u64
     ensures value { result ≡ later_cells number cell bytes.now }
     ensures small { result < 2 ^ 25 }
@@ -100,7 +100,7 @@ fn later_cells(number: u64, cell: u64, bytes: &[u8]) -> u64
     }
 }
 
-// Whether heads state so many later frames, one over the other, that to look at each would take more than eight times the bytes.
+// Whether heads announce so many overlapping later frames that looking at each would take more than eight times the bytes.
 fn is_crowded(number: u64, bytes: &[u8]) -> bool
     ensures { IsTrue result ↔ IsCrowded number bytes.now }
 {
@@ -119,7 +119,7 @@ fn is_crowded(number: u64, bytes: &[u8]) -> bool
     false
 }
 
-// Whether no write that was cut off left this. The frames that are hashed would take eight times the bytes at most.
+// Whether a write that was cut off cannot have left this. The frames that are hashed take at most eight times the bytes.
 fn is_broken(title: &Title, number: u64, bytes: &[u8]) -> bool
     ensures { IsTrue result ↔ IsBroken (bytes_of title.now) number bytes.now }
 {
@@ -160,7 +160,7 @@ impl Reader {
         }
     }
 
-    // What stands where no frame of the next number does.
+    // What is here, where there is no frame of the next number.
     fn ending<'a>(&self, title: &Title, rest: &[u8]) -> Next<'a>
         requires { self.now.count < 2 ^ 62 }
         ensures { IsEnding result title.now self.now rest.now }
@@ -178,9 +178,9 @@ impl Reader {
         }
     }
 
-    /// Reads the next frame of a file, or tells why none stands there.
+    /// Reads the next frame of a file, or says why there is none.
     ///
-    /// `bytes` are those of the whole file. The reader goes on only behind a payload. It takes no memory.
+    /// `bytes` are those of the whole file. The reader moves on only past a payload. It takes no memory.
     pub fn next<'a>(&mut self, title: &Title, bytes: &'a [u8]) -> Next<'a>
         ensures next { IsNext result title.now self.old self.new bytes.now }
         ensures reads { (payloads : List (List ℕ)) (rest : List ℕ) → HasRead self.old title.now bytes.now payloads rest → ReadsOn result title.now self.new bytes.now payloads rest }

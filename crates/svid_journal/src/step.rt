@@ -1,7 +1,7 @@
-/// What a folder waits for.
+/// The step that a folder waits for.
 #[derive(Clone, Copy, Debug, PartialEq, Eq)]
 pub enum Step {
-    /// Nothing.
+    /// No step.
     Idle,
     /// At a start, an empty file: the next journal.
     Starting,
@@ -19,7 +19,7 @@ pub enum Step {
     Syncing,
     /// Its new name, that of the old snapshot.
     Renaming,
-    /// A sync of the folder: the old snapshot is gone.
+    /// A sync of the folder: then the old snapshot is gone.
     Publishing,
     /// The removal of the oldest journal.
     Removing,
@@ -40,7 +40,7 @@ impl Step {
         }
     }
 
-    // How far the number behind the newest journal is from that of the oldest, at least.
+    // The least difference between the number after the newest journal and that of the oldest.
     pub(crate) fn gap(self) -> u64
         ensures value { result ≡ gap_of self }
         ensures small { result ≤ 2 }
@@ -71,7 +71,7 @@ impl Step {
         }
     }
 
-    // The step of a number.
+    // The step with a number.
     pub(crate) fn of(number: u64) -> Option<Step>
         ensures some { IfSome result (λ step. number ≡ step_number step) }
         ensures none { IfNone result ((step : Step) → number ≢ step_number step) }

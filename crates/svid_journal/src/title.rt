@@ -7,12 +7,12 @@ pub enum File {
     Snapshot,
 }
 
-/// What a file is. No file holds its own title: who reads a file knows its name and its folder.
+/// The identity of a file. No file holds its own title: its reader knows its name and its folder.
 #[derive(Clone, Copy, Debug, PartialEq, Eq)]
 pub struct Title {
     /// Which file of its folder.
     pub file: File,
-    /// 16 bytes that tell the folder from each other one.
+    /// 16 bytes that distinguish the folder from every other one.
     pub folder: [u8; 16],
 }
 

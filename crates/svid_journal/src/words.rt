@@ -5,7 +5,8 @@ ghost use Rattle.svid_journal.specs.Folder.{words_of};
 use crate::folder::Folder;
 use crate::step::Step;
 
-/// How a caller keeps a [`Folder`]: eight numbers, in the order of its fields. The step counts from 0, and `ended` is 0 or 1.
+/// A form in which a caller can keep a [`Folder`]: eight numbers, in the order of its fields. The step counts from 0, and `ended`
+/// is 0 or 1.
 #[derive(Clone, Copy, Debug, PartialEq, Eq)]
 pub struct Words {
     /// The number of the step.
@@ -14,7 +15,7 @@ pub struct Words {
     pub oldest: u64,
     /// The number of the newest journal.
     pub newest: u64,
-    /// 1 after a sync that failed.
+    /// 1 after a failed sync.
     pub ended: u64,
     /// How many frames are synced.
     pub count: u64,
@@ -43,8 +44,8 @@ impl Words {
         }
     }
 
-    /// The folder that has these numbers, if there is one. Its calls answer [`Fault::Unfit`](crate::Fault::Unfit) where the numbers do not
-    /// fit each other.
+    /// The folder with these numbers, if there is one. Its calls return [`Fault::Unfit`](crate::Fault::Unfit) where the numbers
+    /// do not fit each other.
     pub fn folder(&self) -> Option<Folder>
         ensures some { IfSome result (λ f. self.now ≡ words_of f) }
         ensures none { IfNone result ((f : Folder) → self.now ≢ words_of f) }

@@ -25,7 +25,7 @@ unfolding lines_due
 refused_token bundles token refusal =
     refused_through refusal (reading_of token) (lines_due bundles token) (λ is. judged-Some _ (lines_if_said bundles (said_of token)) refusal (stops (token_rows token) (rows_if_said (keys_rows bundles) (said_of token)) refusal (judged-Err (first_row (token_rows token)) (said_of token) refusal is)))
 
--- of a good token, what it says is judged for its keys
+-- the content of a good token is judged for its keys
 keys_found : (bundles : List Bundle) (token : List ℕ) (t : Said) → reading_of token ≡ Ok (Some t)
     → (first_row (token_rows token ++ rows_if_said (keys_rows bundles) (said_of token)) ≡ first_row (keys_rows bundles t)) × (said_of token ≡ Some t)
 keys_found bundles token t is =
@@ -67,7 +67,7 @@ second_refused inputs given bundles read unread = inr (record { bundles = bundle
 pub first_wants : (inputs : Inputs) (kept : Type 0) (fault : ToolFault) → IsBundlesFault inputs.bundles fault → kept → fault ≡ tool.OutOfMemory → IsWanting inputs kept
 first_wants inputs kept fault why same is = inl (subst (IsBundlesFault inputs.bundles) is why, same)
 
--- memory was refused for what the second input gave
+-- memory was refused for the bytes of the second input
 pub second_wants : (inputs : Inputs) (kept : Type 0) (fault : ToolFault) (bundles : List Bundle) → AreBundlesRead inputs.bundles bundles → IsUnread 2 inputs.tokens fault → fault ≡ tool.OutOfMemory → IsWanting inputs kept
 second_wants inputs kept fault bundles read unread is = inr (record { bundles = bundles; bundles_read = read; why = inl (subst (IsUnread 2 inputs.tokens) is unread) })
 
@@ -75,7 +75,7 @@ second_wants inputs kept fault bundles read unread is = inr (record { bundles = 
 pub answer_wants : (inputs : Inputs) (kept : Type 0) (bundles : List Bundle) (text : List ℕ) → AreBundlesRead inputs.bundles bundles → IsRead inputs.tokens most_bytes text → IsWanting inputs kept
 answer_wants inputs kept bundles text first second = inr (record { bundles = bundles; bundles_read = first; why = inr (record { text = text; read = second }) })
 
--- no input is refused as a write is
+-- no input is refused with the fault of a write
 no_write : (inputs : Inputs) → AreRefused inputs tool.Write → ⊥
 no_write inputs (inl first) = not_write 1 inputs.bundles first
 no_write inputs (inr second) = not_write 2 inputs.tokens second.why

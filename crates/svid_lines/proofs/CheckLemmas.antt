@@ -33,7 +33,7 @@ begins_with inputs old new begun joins = record {
   is = joins.joins ∙ ap (λ r. join_all r (all_of joins.told)) begun ∙ joined_from_nothing (all_of joins.told);
 }
 
--- the inputs before the earlier records are none of these
+-- the earlier records have other numbers than the inputs before them
 pub numbered : (number before : ℕ) → number < 4 → behind_three (before + 1) ≡ number → ⊥
 numbered number before few is =
     let below : 4 ≤ before + 1 + 3 = omega arith in
@@ -52,7 +52,7 @@ of_input s number (tool.Table line) few why is = why.why
 of_input s number tool.Write few why is = is
 of_input s number tool.OutOfMemory few why is = is
 
--- a fault of an earlier record is none of the inputs before it
+-- a fault of an earlier record is not one of the inputs before it
 pub not_before : {R : Type 0} (s : Sources R) (number : ℕ) (fault : ToolFault) → number < 4 → IsEarlierFault s fault → IsOfInput number fault → ⊥
 not_before s number fault few earlier is = of_input s number earlier.own few earlier.why (subst (IsOfInput number) earlier.is is)
 
@@ -65,7 +65,7 @@ is_kept before mid after old kept s0 s1 s2 text all same counts keeps = record {
   keeps = keeps;
 }
 
--- a sink that took the whole text, and stopped when it was to keep it
+-- a sink that took the whole text, and stopped when it had to keep it
 pub is_unkept : (before mid after : Option (List ℕ)) (s0 s1 s2 : ℕ) (text : List ℕ)
     → TookAll (record { told_before = before; told_after = mid; stops_before = s0; stops_after = s1 }) text → after ≡ mid → s2 ≡ raised s1
     → IsUnkept (record { told_before = before; told_after = after; stops_before = s0; stops_after = s2 }) text
@@ -74,11 +74,11 @@ is_unkept before mid after s0 s1 s2 text all same counts = record {
   stopped = counts ∙ ap raised all.unstopped;
 }
 
--- tables with the same questions, in whatever order and however often, say the same
+-- tables with the same questions, in any order and any number of times, give the same answers
 pub same_says : (table questions : List (List ℕ)) → ((question : List ℕ) → is_among question table ≡ is_among question questions) → table_says table ≡ table_says questions
 same_says table questions same = λ i key alg input signature. same (question_of key alg input signature) i
 
--- what the checks come to is what is due to the inputs
+-- the outcome of the checks is what is due to the inputs
 pub comes_to : {R : Type 0} (given : CheckSetting) (inputs : CheckInputs R) (bundles : List Bundle) (table : List (List ℕ)) (tokens : List ℕ) (earlier : State) (outcome : Outcome)
     → AreBundlesRead inputs.bundles bundles → IsTableOf inputs.table table → IsRead inputs.tokens most_bytes tokens → IsEarlier (inputs_of inputs.earlier) earlier
     → outcome ≡ outcome_from (setting_under given bundles (table_says table)) given.now earlier (tokens_of (lines_of tokens))
@@ -142,7 +142,7 @@ own_not_write s tool.OutOfMemory why is = cc
 earlier_not_write : {R : Type 0} (s : Sources R) → IsEarlierFault s tool.Write → ⊥
 earlier_not_write s fault = own_not_write s fault.own fault.why fault.is
 
--- no input is refused as a write is
+-- no input is refused with the fault of a write
 no_write : {R : Type 0} (inputs : CheckInputs R) → IsOneRefused inputs tool.Write → ⊥
 no_write inputs (inl first) = not_write 1 inputs.bundles first
 no_write inputs (inr (inl second)) = not_write 2 inputs.table second.why

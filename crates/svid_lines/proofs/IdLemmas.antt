@@ -5,7 +5,7 @@ use Rattle.svid_id.specs.declared.id_fault.IdFault.{IdFault}
 use Rattle.svid_id.proofs.IdLemmas.{id_fault-IsId, id_parts-IsId}
 use Rattle.svid_lines.specs.Id.{parts_lines, refused_line, answer_of, id_answer}
 
--- what is answered where the text is an ID
+-- the answer where the text is an ID
 pub answer-IsId : (text : List ℕ) (id : IdParts) → IsId text id → (true ≡ is_id text) × (parts_lines id ≡ id_answer text)
 unfolding id_answer
 answer-IsId text id is = (
@@ -13,7 +13,7 @@ answer-IsId text id is = (
   sym (subst (λ (o : Option IdParts). answer_of o (id_fault text) ≡ parts_lines id) (sym (id_parts-IsId text id is)) refl),
 )
 
--- and where it has this fault
+-- the answer where it has this fault
 pub answer-fault : (text : List ℕ) (fault : IdFault) → id_fault text ≡ Some fault → (false ≡ is_id text) × (refused_line fault ≡ id_answer text)
 unfolding id_answer
 answer-fault text fault is = (

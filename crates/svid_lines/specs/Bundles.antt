@@ -14,13 +14,13 @@ pub record AreBundlesRead (input : Drawn) (bundles : List Bundle) : Type 0 where
   pub read : IsRead input most_bytes text
   pub are : bundles_in text ≡ Some bundles
 
--- the input was read, and its bytes are no bundles, for this fault
+-- the input was read, and its bytes are no bundles, with this fault
 pub record AreBundlesRefused (input : Drawn) (fault : BundleFault) : Type 0 where
   pub text : List ℕ
   pub read : IsRead input most_bytes text
   pub why : bundles_fault text ≡ Some fault
 
--- why the first input is refused: it is no bundles, it could not be read, or memory was refused for it
+-- why the first input is refused: its bytes are no bundles, it could not be read, or memory was refused for it
 abbrev pub IsBundlesFault : Drawn → ToolFault → Type 0
 IsBundlesFault input (tool.Bundles fault) = AreBundlesRefused input fault
 IsBundlesFault input tool.OutOfMemory = WantsMemoryFor 1 input

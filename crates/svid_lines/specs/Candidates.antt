@@ -21,7 +21,7 @@ use Rattle.svid_lines.specs.Shown.{shown_text}
 use Rattle.svid_share.specs.declared.tool_fault.ToolFault.{ToolFault}
 use Rattle.svid_share.specs.declared.tool_fault.ToolFault.TheVariants as tool
 
--- the first of some lines that is not empty, no bytes where each is empty
+-- the first of some lines that is not empty; no bytes where each is empty
 abbrev pub first_full : List (List ℕ) → List ℕ
 first_full lines = unwrap_or (find (λ line. nat_lt 0 (length line)) lines) []
 
@@ -33,7 +33,7 @@ first_token text = first_full (lines_of text)
 abbrev pub candidates_rows : List Bundle → List ℕ → List Row
 candidates_rows bundles token = token_rows token ++ rows_if_said (keys_rows bundles) (said_of token)
 
--- the line of a candidate: the question that it is asked, and its name as JSON that a terminal takes for text alone
+-- the line of a candidate: the question for it, and its name as JSON that a terminal reads as text only
 abbrev pub candidate_line : Said → KeyData → List ℕ
 candidate_line t key = encode_lower (question_of key t.alg t.input t.signature) ++ 32 ∷ shown_text (compact_text (string key.kid)) ++ 10 ∷ []
 
@@ -41,12 +41,12 @@ candidate_line t key = encode_lower (question_of key t.alg t.input t.signature) 
 abbrev pub lines_for : List Bundle → Said → List ℕ
 lines_for bundles t = flat_map (candidate_line t) (keys_for bundles t)
 
--- the lines for what is said, where it is said
+-- the lines for what a token says, where it says something
 abbrev pub lines_if_said : List Bundle → Option Said → List ℕ
 lines_if_said bundles None = []
 lines_if_said bundles (Some t) = lines_for bundles t
 
--- the answer that is due to a token: the lines of its candidates, or why there are none
+-- the answer for a token: the lines of its candidates, or why there are none
 unfoldable pub lines_due : List Bundle → List ℕ → Result (List ℕ) Refusal
 lines_due bundles token = judged (first_row (candidates_rows bundles token)) (lines_if_said bundles (said_of token))
 
@@ -55,7 +55,7 @@ abbrev pub accepts : Result (List ℕ) Refusal → Bool
 accepts (Ok lines) = true
 accepts (Err refusal) = false
 
--- what is printed: the lines of the candidates, or the one line of the refusal; nothing for want of memory
+-- the output: the lines of the candidates, or the one line of the refusal; nothing when out of memory
 abbrev pub printed : Result (List ℕ) Refusal → Option (List ℕ)
 printed (Ok lines) = Some lines
 printed (Err refusal) = refusal_line refusal
@@ -99,17 +99,17 @@ pub record IsSecondWanting (inputs : Inputs) : Type 0 where
   pub bundles_read : AreBundlesRead inputs.bundles bundles
   pub why : WantsMemoryFor 2 inputs.tokens
 
--- for what memory was refused: for the first input, and the second one is kept as it was; or for the second one
+-- memory was refused: for the first input, and the second one is as it was; or for the second one
 abbrev pub IsWanting : Inputs → Type 0 → Type 0
 IsWanting inputs tokens_kept = (WantsMemoryFor 1 inputs.bundles × tokens_kept) ⊎ IsSecondWanting inputs
 
--- why the inputs of the engine are refused; of want of memory `IsWanting` speaks
+-- why the inputs of the engine are refused; `IsWanting` covers out of memory
 abbrev pub AreRefused : Inputs → ToolFault → Type 0
 AreRefused inputs (tool.Bundles fault) = AreBundlesRefused inputs.bundles fault
 AreRefused inputs tool.OutOfMemory = Unit {0}
 AreRefused inputs given = IsUnread 1 inputs.bundles given ⊎ IsSecondRefused inputs given
 
--- when the engine gives up: since the sink stopped, or for one of its inputs
+-- when the engine gives up: the sink stopped, or an input was refused
 abbrev pub IsCandidatesFault : Inputs → Taken → ToolFault → Type 0
 IsCandidatesFault inputs out tool.Write = AreCandidatesCut inputs out
 IsCandidatesFault inputs out given = AreRefused inputs given

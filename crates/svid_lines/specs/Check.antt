@@ -1,4 +1,4 @@
--- What `svid check` writes of what it reads.
+-- What `svid check` writes for its inputs.
 use Rattle.std.specs.Prelude.{◌≡◌, ℕ, ◌+◌, ◌-◌, ◌^◌, min, Bool, List, [], map, string_bytes, Option, None, Some, ◌⊎◌}
 use Rattle.svid_keys.specs.Bundles.{Bundle}
 use Rattle.svid_keys.specs.Lines.{lines_of}
@@ -28,7 +28,7 @@ pub record CheckInputs (R : Type 0) : Type 0 where
   pub tokens : Drawn
   pub earlier : Sources R
 
--- what was done to a sink whose text is kept, what it kept before, and what it keeps then
+-- what was done to a sink whose text is kept, with what it kept before and after
 pub record Keeping : Type 0 where
   pub sink : Taken
   pub kept_before : Option (List ℕ)
@@ -39,11 +39,11 @@ pub record CheckOutputs : Type 0 where
   pub kept : Option Keeping
   pub out : Taken
 
--- that of such a sink, by its own words `told`, `stops` and `kept`
+-- the same for a sink, by its own definitions `told`, `stops` and `kept`
 abbrev pub keeping : {K : Type 0} → (K → Option (List ℕ)) → (K → ℕ) → (K → Option (List ℕ)) → K → K → Keeping
 keeping told stops kept old new = record { sink = taken told stops old new; kept_before = kept old; kept = kept new }
 
--- that of one that may not be there
+-- the same for a sink that may be missing
 abbrev pub keeping_if : {K : Type 0} → (K → Option (List ℕ)) → (K → ℕ) → (K → Option (List ℕ)) → Option K → Option K → Option Keeping
 keeping_if told stops kept (Some old) (Some new) = Some (keeping told stops kept old new)
 keeping_if told stops kept _ _ = None
@@ -61,39 +61,39 @@ pub record IsTableRefused (input : Drawn) (line : ℕ) : Type 0 where
   pub read : IsRead input most_bytes text
   pub why : table_fault text ≡ Some (table.Line line)
 
--- the input was read, its lines are good, and this is the list of its questions, in whatever order
+-- the input was read, its lines are good, and this is the list of its questions, in any order
 pub record IsTableOf (input : Drawn) (table : List (List ℕ)) : Type 0 where
   pub questions : List (List ℕ)
   pub read : IsTableRead input questions
   pub same : (question : List ℕ) → is_among question table ≡ is_among question questions
 
--- the record that the run begins with: what the batches of all earlier ones come to, a new one where there are none
+-- the record that the run begins with: the join of the batches of all earlier ones, or a new record where there are none
 pub record IsEarlier (inputs : List Drawn) (state : State) : Type 0 where
   pub told : List (List Message)
   pub whole : AreWhole inputs told
   pub is : state ≡ joined (all_of told)
 
--- what the inputs say
+-- the content of the inputs
 pub record Read : Type 0 where
   pub bundles : List Bundle
   pub questions : List (List ℕ)
   pub tokens : List ℕ
   pub earlier : State
 
--- all inputs were read, and say this
+-- all inputs were read, and this is their content
 pub record AreRead {R : Type 0} (inputs : CheckInputs R) (said : Read) : Type 0 where
   pub bundles : AreBundlesRead inputs.bundles said.bundles
   pub table : IsTableRead inputs.table said.questions
   pub tokens : IsRead inputs.tokens most_bytes said.tokens
   pub earlier : IsEarlier (inputs_of inputs.earlier) said.earlier
 
--- what a run comes to: whether all tokens are accepted, the text of the record after the last check, and a line for each
+-- the outcome of a run: whether all tokens are accepted, the text of the record after the last check, and a line for each
 pub record Outcome : Type 0 where
   pub accepted : Bool
   pub kept : List ℕ
   pub lines : List ℕ
 
--- what contracts see of it
+-- the outcome as contracts see it
 abbrev pub outcome_view : OutcomeMade → Outcome
 outcome_view made = record { accepted = made.accepted; kept = record_text made.validator.state; lines = string_bytes made.lines }
 
@@ -105,7 +105,7 @@ setting_under given bundles says = record { own = map string_bytes given.own.ite
 abbrev pub setting_for : CheckSetting → Read → Setting
 setting_for given said = setting_under given said.bundles (table_says said.questions)
 
--- what the checks of some tokens come to
+-- the outcome of the checks of some tokens
 abbrev pub outcome_from : Setting → ℕ → State → List (List ℕ) → Outcome
 outcome_from s now earlier tokens = record {
   accepted = are_accepted (judgements s now earlier tokens);
@@ -113,11 +113,11 @@ outcome_from s now earlier tokens = record {
   lines = judgement_lines (judgements s now earlier tokens);
 }
 
--- what the run comes to: the verdicts on the lines of its tokens that are not empty, in their order
+-- the outcome of the run: the verdicts on those lines of its tokens that are not empty, in their order
 abbrev pub outcome_of : CheckSetting → Read → Outcome
 outcome_of given said = outcome_from (setting_for given said) given.now said.earlier (tokens_of (lines_of said.tokens))
 
--- all inputs were read, and the run comes to this
+-- all inputs were read, and this is the outcome of the run
 pub record IsOutcome {R : Type 0} (given : CheckSetting) (inputs : CheckInputs R) (outcome : Outcome) : Type 0 where
   pub said : Read
   pub read : AreRead inputs said
@@ -128,44 +128,45 @@ pub record IsKept (keeping : Keeping) (text : List ℕ) : Type 0 where
   pub all : TookAll keeping.sink text
   pub keeps : keeping.kept ≡ keeping.sink.told_after
 
--- the sink took the whole text, and stopped when it was to keep it
+-- the sink took the whole text, and stopped when it had to keep it
 pub record IsUnkept (sink : Taken) (text : List ℕ) : Type 0 where
   pub gained : Appends sink.told_before sink.told_after text
   pub stopped : sink.stops_after ≡ raised sink.stops_before
 
--- the sink stopped, when it had taken a part of the text or when it was to keep the whole: it keeps what it kept before
+-- the sink stopped after a part of the text, or when it had to keep the whole: it keeps what it kept before
 abbrev pub IsLost : Keeping → List ℕ → Type 0
 IsLost keeping text = (TookPart keeping.sink text ⊎ IsUnkept keeping.sink text) × (keeping.kept ≡ keeping.kept_before)
 
--- a sink that may not be there keeps the whole text
+-- the sink, if there is one, keeps the whole text
 abbrev pub IsKeptIf : Option Keeping → List ℕ → Type 0
 IsKeptIf None text = Unit {0}
 IsKeptIf (Some keeping) text = IsKept keeping text
 
--- a sink that may not be there stopped before it kept the whole text, and keeps what it kept before
+-- the sink, if there is one, stopped before it kept the whole text, and keeps what it kept before
 abbrev pub IsLostIf : Option Keeping → List ℕ → Type 0
 IsLostIf None text = ⊥
 IsLostIf (Some keeping) text = IsLost keeping text
 
--- the record is kept whole, where it is to be, and each line went out
+-- the whole record is kept, where there is a sink for it, and each line went out
 pub record IsWritten (outputs : CheckOutputs) (outcome : Outcome) : Type 0 where
   pub kept : IsKeptIf outputs.kept outcome.kept
   pub out : TookAll outputs.out outcome.lines
 
--- a part went out: the record is not kept, what was kept before stays, and no line went out; or it is kept whole, and a part of the lines went out
+-- a part went out: the record is not kept, what was kept before stays, and no line went out; or the whole record is kept, and a
+-- part of the lines went out
 abbrev pub IsWrittenInPart : CheckOutputs → Outcome → Type 0
 IsWrittenInPart outputs outcome =
     (IsLostIf outputs.kept outcome.kept × TookAll outputs.out [])
     ⊎ (IsKeptIf outputs.kept outcome.kept × TookPart outputs.out outcome.lines)
 
--- what the run comes to was written
+-- the outcome of the run was written
 pub record AreChecked {R : Type 0} (given : CheckSetting) (inputs : CheckInputs R) (outputs : CheckOutputs) (accepted : Bool) : Type 0 where
   pub outcome : Outcome
   pub due : IsOutcome given inputs outcome
   pub written : IsWritten outputs outcome
   pub answer : accepted ≡ outcome.accepted
 
--- a part of what the run comes to was written
+-- a part of the outcome was written
 pub record AreCheckedInPart {R : Type 0} (given : CheckSetting) (inputs : CheckInputs R) (outputs : CheckOutputs) : Type 0 where
   pub outcome : Outcome
   pub due : IsOutcome given inputs outcome
@@ -177,18 +178,18 @@ IsTableFault input (tool.Table line) = IsTableRefused input line
 IsTableFault input tool.OutOfMemory = WantsMemoryFor 2 input
 IsTableFault input given = IsUnread 2 input given
 
--- the number of an input before which three more stand, held at 2^64-1
+-- the number of an input that comes after three more, held at 2^64-1
 abbrev pub behind_three : ℕ → ℕ
 behind_three number = min (number + 3) (2 ^ 64 - 1)
 
--- the fault of earlier records, before which three more inputs stand
+-- the fault of earlier records, which come after three more inputs
 abbrev pub earlier_fault : ToolFault → ToolFault
 earlier_fault (tool.Wire input message offset reason) = tool.Wire (behind_three input) message offset reason
 earlier_fault (tool.Read input) = tool.Read (behind_three input)
 earlier_fault (tool.TooMuch input) = tool.TooMuch (behind_three input)
 earlier_fault given = given
 
--- why the earlier records are refused: one of them is, and those behind it are as they were
+-- why the earlier records are refused: one of them is, and those after it are as they were
 pub record IsEarlierFault {R : Type 0} (s : Sources R) (fault : ToolFault) : Type 0 where
   pub own : ToolFault
   pub why : IsRefused s own
@@ -200,7 +201,7 @@ pub record IsSecondRefused {R : Type 0} (inputs : CheckInputs R) (fault : ToolFa
   pub first : AreBundlesRead inputs.bundles bundles
   pub why : IsTableFault inputs.table fault
 
--- the tokens are refused, and what stands before them is good
+-- the tokens are refused, and the inputs before them are good
 pub record IsThirdRefused {R : Type 0} (inputs : CheckInputs R) (fault : ToolFault) : Type 0 where
   pub bundles : List Bundle
   pub questions : List (List ℕ)
@@ -208,7 +209,7 @@ pub record IsThirdRefused {R : Type 0} (inputs : CheckInputs R) (fault : ToolFau
   pub second : IsTableRead inputs.table questions
   pub why : IsUnread 3 inputs.tokens fault
 
--- an earlier record is refused, and what stands before it is good
+-- an earlier record is refused, and the inputs before it are good
 pub record IsFourthRefused {R : Type 0} (inputs : CheckInputs R) (fault : ToolFault) : Type 0 where
   pub bundles : List Bundle
   pub questions : List (List ℕ)
@@ -224,13 +225,12 @@ IsOneRefused inputs fault =
     IsBundlesFault inputs.bundles fault
     ⊎ (IsSecondRefused inputs fault ⊎ (IsThirdRefused inputs fault ⊎ IsFourthRefused inputs fault))
 
--- all inputs were read, and they say something
+-- all inputs were read, and have some content
 pub record AreAllRead {R : Type 0} (inputs : CheckInputs R) : Type 0 where
   pub said : Read
   pub read : AreRead inputs said
 
--- for what memory was refused: for an input, and those behind it are kept as they were; or for the checks, when all were
--- read
+-- memory was refused: for an input, and those after it are as they were; or for the checks, when all were read
 abbrev pub IsWanting : {R : Type 0} → CheckInputs R → Type 0 → Type 0 → Type 0 → Type 0
 IsWanting inputs table_kept tokens_kept earlier_kept =
     (IsBundlesFault inputs.bundles tool.OutOfMemory × table_kept × tokens_kept × earlier_kept)
@@ -238,8 +238,8 @@ IsWanting inputs table_kept tokens_kept earlier_kept =
     ⊎ ((IsThirdRefused inputs tool.OutOfMemory × earlier_kept)
     ⊎ (IsFourthRefused inputs tool.OutOfMemory ⊎ AreAllRead inputs)))
 
--- when the run gives up, but for want of memory, of which `IsWanting` speaks: since a sink stopped, or for the first of its
--- inputs that is refused
+-- when the run gives up for another reason than out of memory, which `IsWanting` covers: a sink stopped, or one of its inputs is
+-- refused, the first of these
 abbrev pub IsCheckFault : {R : Type 0} → CheckSetting → CheckInputs R → CheckOutputs → ToolFault → Type 0
 IsCheckFault given inputs outputs tool.Write = AreCheckedInPart given inputs outputs
 IsCheckFault given inputs outputs tool.OutOfMemory = Unit {0}

@@ -1,4 +1,4 @@
--- What the checks of some tokens come to, one after the other.
+-- The outcome of checking some tokens, one after the other.
 use Rattle.std.specs.Prelude.{ℕ, ◌&&◌, Bool, true, false, nat_lt, filter, List, [], ◌∷◌, ◌++◌, codes, length, Option, Some, None, unwrap_or, Result, Ok, Err}
 use Rattle.std.specs.Fmt.{decimal}
 use Rattle.std.specs.List.{flat_map}
@@ -15,11 +15,11 @@ use Rattle.svid_lines.specs.Refused.{refusal_line}
 abbrev pub Judgement : Type 0
 Judgement = Result (Option Accepted) Refusal
 
--- the tokens of lines: those that are not empty
+-- the tokens in lines: those that are not empty
 abbrev pub tokens_of : List (List ℕ) → List (List ℕ)
 tokens_of lines = filter (λ line. nat_lt 0 (length line)) lines
 
--- the verdict at the moment of the record, raised to now
+-- the verdict at the moment of the record, advanced to now
 abbrev pub due : Setting → ℕ → State → List ℕ → Judgement
 due s now x token = verdict s (raised_to x now).moment (raised_to x now).uses token
 

@@ -8,11 +8,11 @@ use Rattle.svid_wire.specs.Streams.{Taken, TookPart}
 use Rattle.svid_share.specs.declared.tool_fault.ToolFault.{ToolFault}
 use Rattle.svid_share.specs.declared.tool_fault.ToolFault.TheVariants as tool
 
--- a name with a offset in round brackets
+-- a name with an offset in round brackets
 abbrev pub placed : List ℕ → ℕ → List ℕ
 placed name offset = name ++ 40 ∷ [] ++ decimal offset ++ 41 ∷ []
 
--- the name of a fault of a text, with its offset where it has one; want of memory is none
+-- the name of a fault of a text, with its offset where it has one; out of memory has none
 abbrev pub fault_name : IdFault → List ℕ
 fault_name fault.TooLong = codes "TooLong"
 fault_name fault.Scheme = codes "Scheme"
@@ -36,17 +36,18 @@ parts_lines parts = codes "domain " ++ parts.domain ++ 10 ∷ path_line parts.pa
 abbrev pub refused_line : IdFault → List ℕ
 refused_line fault = codes "refused " ++ fault_name fault ++ 10 ∷ []
 
--- the answer to a text with these parts, where it is an ID, and this fault, where it is none
+-- the answer for a text: these parts, where it is an ID, or else this fault
 abbrev pub answer_of : Option IdParts → Option IdFault → List ℕ
 answer_of (Some parts) fault = parts_lines parts
 answer_of None (Some fault) = refused_line fault
 answer_of None None = []
 
--- the answer to a text: the parts of the ID that it is, or else why it is none
+-- the answer for a text: the parts of its ID, or why it is none
 unfoldable pub id_answer : List ℕ → List ℕ
 id_answer text = answer_of (id_parts text) (id_fault text)
 
--- the engine gives up since its sink stopped, which took a part of the answer, or for want of memory; for nothing else
+-- the engine gives up because its sink stopped, which took a part of the answer, or because it ran out of memory; for no other
+-- reason
 abbrev pub IsIdEngineFault : Taken → List ℕ → ToolFault → Type 0
 IsIdEngineFault out answer tool.Write = TookPart out answer
 IsIdEngineFault out answer tool.OutOfMemory = Unit {0}

@@ -1,4 +1,4 @@
--- For which input memory was refused, of those that are read whole before they are judged.
+-- Which input memory was refused for, among those that are read whole before they are judged.
 use Rattle.std.specs.Prelude.{ℕ, List, ◌⊎◌}
 use Rattle.svid_wire.specs.Streams.{Drawn, IsRead}
 use Rattle.svid_share.specs.Inputs.{IsUnread, most_bytes}
@@ -9,6 +9,6 @@ pub record WasRead (input : Drawn) : Type 0 where
   pub text : List ℕ
   pub read : IsRead input most_bytes text
 
--- memory was refused for the input with this number: for what it gave, or, when it was read to its end, for what that says
+-- memory was refused for the input with this number: for its bytes or, after it was read to its end, for its content
 abbrev pub WantsMemoryFor : ℕ → Drawn → Type 0
 WantsMemoryFor number input = IsUnread number input tool.OutOfMemory ⊎ WasRead input

@@ -1,9 +1,9 @@
--- How the refusal of a token is told.
+-- The output for a token that is refused.
 use Rattle.std.specs.Prelude.{ℕ, List, [], ◌∷◌, ◌++◌, codes, Option, None, Some, option_map}
 use Rattle.svid_token.specs.declared.refusal.Refusal.{Refusal}
 use Rattle.svid_token.specs.declared.refusal.Refusal.TheVariants as token
 
--- the name of a refusal: want of memory has none
+-- the name of a refusal: out of memory has none
 abbrev pub refusal_name : Refusal → Option (List ℕ)
 refusal_name token.TooLong = Some (codes "TooLong")
 refusal_name token.NotThreeParts = Some (codes "NotThreeParts")
@@ -36,6 +36,6 @@ refusal_name token.OutOfMemory = None
 abbrev pub named_line : List ℕ → List ℕ
 named_line name = codes "refused " ++ name ++ 10 ∷ []
 
--- the line of a token that is refused: none for want of memory
+-- the line of a token that is refused: none when out of memory
 abbrev pub refusal_line : Refusal → Option (List ℕ)
 refusal_line refusal = option_map named_line (refusal_name refusal)

@@ -7,7 +7,7 @@ use svid_keys::Bundles;
 use svid_share::{ToolFault, read_input};
 use svid_wire::Source;
 
-/// The bundles that the first input of an engine is.
+/// Reads the bundles from the first input of an engine.
 pub fn read_bundles<S: Source>(alloc: Global, source: &mut S) -> Result<Bundles, ToolFault>
     ensures ok { IfOk result (AreBundlesRead (drawn S.left S.stops source.old source.new)) }
     ensures fault { IfErr result (IsBundlesFault (drawn S.left S.stops source.old source.new)) }

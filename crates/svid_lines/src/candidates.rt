@@ -47,8 +47,8 @@ fn candidate_lines(
     Ok(text)
 }
 
-/// A line for each candidate key of a token, as [`run_candidates`] writes it; or why there is none: the first
-/// that holds of the refusals of a token by itself, and then `UnknownDomain` and `NoKey`; or `OutOfMemory`.
+/// A line for each candidate key of a token, as [`run_candidates`] writes it; or why there is none: the first that holds of the
+/// refusals of a token by itself, and then `UnknownDomain` and `NoKey`; or `OutOfMemory`.
 pub fn token_lines(alloc: Global, bundles: &Bundles, token: &[u8]) -> Result<String, Refusal>
     ensures { Answers string_bytes result (lines_due bundles.now token.now) }
 {
@@ -57,7 +57,7 @@ pub fn token_lines(alloc: Global, bundles: &Bundles, token: &[u8]) -> Result<Str
     Ok(candidate_lines(alloc, candidates, &reading)?)
 }
 
-// What is printed for a token, and whether there are candidates.
+// The output for a token, and whether there are candidates.
 fn answer(alloc: Global, bundles: &Bundles, token: &[u8]) -> Result<(bool, String), AllocError>
     ensures { IfOk result (λ a. (a.0 ≡ accepts (lines_due bundles.now token.now)) × (printed (lines_due bundles.now token.now) ≡ Some (string_bytes a.1))) }
 {
@@ -79,7 +79,7 @@ fn first_token(text: &[u8]) -> &[u8]
     &[]
 }
 
-// What is printed for both inputs, and whether there are candidates.
+// The output for both inputs, and whether there are candidates.
 #[tactic(auto, using(crate::proofs::CandidatesLemmas::first_refused, crate::proofs::CandidatesLemmas::second_refused, crate::proofs::CandidatesLemmas::first_wants, crate::proofs::CandidatesLemmas::second_wants))]
 fn text_of_inputs<B: Source, T: Source>(
     alloc: Global,
@@ -101,16 +101,15 @@ fn text_of_inputs<B: Source, T: Source>(
     Ok(answer(alloc, &bundles, first_token(&lines))?)
 }
 
-/// Writes a line for each candidate key of the first token: the question whether the token's signature
-/// is good for it, in hexadecimal digits, and the key's name as JSON, in which U+007F to U+009F are escaped. Where there is none, writes
-/// the one line that tells why. Says whether there are candidates.
+/// Writes a line for each candidate key of the first token: the question (is the token's signature good for this key?) in
+/// hexadecimal digits, and the key's name as JSON, in which U+007F to U+009F are escaped. Where there is no candidate, writes one
+/// line that says why. Returns whether there are candidates.
 ///
-/// The first input is trust bundles, the second one tokens in lines; empty lines are passed over, and
-/// where there is no other, the token is empty. They are read and judged in this order, before anything
-/// is written. Refused for bundles that are none (`Bundles`), for an input that could not be read
-/// (`Read`) or has more than 67,108,864 bytes (`TooMuch`), for want of memory, and where the sink
-/// stopped (`Write`): then a part of the text went out, and else nothing did. Where the first input is
-/// at fault, or memory was refused for it, the second is as it was.
+/// The first input is trust bundles, the second one tokens in lines; empty lines are skipped, and where there is no other, the
+/// token is empty. They are read and judged in this order, before anything is written. Errors: `Bundles` where the first input
+/// does not parse as bundles, `Read` where an input could not be read, `TooMuch` where it has more than 67,108,864 bytes,
+/// `OutOfMemory`, and `Write` where the sink stopped. After `Write` part of the text went out, after the others nothing. Where
+/// the first input is at fault, or memory was refused for it, the second is as it was.
 #[tactic(auto, using(crate::proofs::CandidatesLemmas::inputs_refused))]
 pub fn run_candidates<B: Source, T: Source, K: Sink>(
     alloc: Global,

@@ -17,21 +17,21 @@ use svid_replay::{Record, RunUses, UseStore};
 use svid_share::{ToolFault, join_inputs, put_text, read_input};
 use svid_wire::{Sink, Source};
 
-/// What a run of checks is told.
+/// The setting of a run of checks.
 #[derive(Debug, Drop)]
 pub struct CheckSetting {
     /// The validator's own audiences.
     pub own: Vec<String>,
-    /// What tells the validator from every other one.
+    /// Distinguishes the validator from every other one.
     pub validator_id: [u8; 16],
-    /// The moment of the checks, in seconds; where the record's is greater, the tokens are judged at that.
+    /// The moment of the checks, in seconds; where the record's is later, the tokens are judged at that.
     pub now: u64,
-    /// How many seconds past `now`, or past the record's moment where that is greater, a token may expire; any
-    /// number where there is none.
+    /// How many seconds after `now`, or after the record's moment where that is later, a token may expire; any number where this
+    /// is none.
     pub longest: Option<u64>,
 }
 
-// What a run of checks comes to: whether all are accepted, the validator after the last one, and a line for each.
+// The outcome of a run of checks: whether all are accepted, the validator after the last one, and a line for each.
 #[derive(Drop)]
 struct Outcome {
     accepted: bool,
@@ -39,7 +39,7 @@ struct Outcome {
     lines: String,
 }
 
-// The table that the second input is.
+// The table in the second input.
 #[tactic(auto, using(crate::proofs::CheckLemmas::table_of))]
 fn read_table<S: Source>(alloc: Global, source: &mut S) -> Result<TableVerifier, ToolFault>
     ensures ok { IfOk result (λ table. IsTableOf (drawn S.left S.stops source.old source.new) table) }
@@ -49,7 +49,7 @@ fn read_table<S: Source>(alloc: Global, source: &mut S) -> Result<TableVerifier,
     Ok(TableVerifier::read(alloc, &bytes)?)
 }
 
-// The fault of an earlier record: the bundles, the table and the tokens stand before it.
+// The fault of an earlier record: the bundles, the table and the tokens come before it.
 fn earlier_fault(fault: ToolFault) -> ToolFault
     ensures { result ≡ earlier_fault fault }
 {
@@ -75,7 +75,7 @@ fn earlier_fault(fault: ToolFault) -> ToolFault
     }
 }
 
-// The record that the run begins with: what all earlier ones come to, or a new one.
+// The record that the run begins with: the join of all earlier ones, or a new one.
 #[tactic(auto, using(crate::proofs::CheckLemmas::begins_with))]
 fn read_earlier<S: Source>(alloc: Global, earlier: &mut [S]) -> Result<Record<RunUses>, ToolFault>
     ensures ok { IfOk result (IsEarlier (inputs_of (sources S.left S.stops earlier.old earlier.new))) }
@@ -181,22 +181,21 @@ fn put_kept<T: UseStore, P: Keep>(kept: &mut Option<P>, state: &Record<T>) -> Re
     }
 }
 
-/// Checks each token of the lines of `tokens` that are not empty, at the moment that `given` tells, or at
-/// the record's where that is greater, and writes a line for each: `accepted`, the ID of its subject and its
-/// expiry, or `refused` and the first refusal that holds. Says whether all are accepted.
+/// Checks each token of the lines of `tokens` that are not empty, at the moment of `given`, or at the record's where that is
+/// later, and writes a line for each: `accepted`, the ID of its subject and its expiry, or `refused` and the first refusal that
+/// holds. Returns whether all are accepted.
 ///
-/// The verifier says yes to the questions of the table. The record of used tokens begins with what the
-/// batches of all `earlier` come to, and is new where there are none; each acceptance adds its use, so a
-/// token that comes again is refused, and so is one that the record has a withdrawal of. Where there is
-/// `kept`, the record after the last check goes there whole, and is kept, before the first line goes out.
+/// The verifier accepts the questions of the table. The record of used tokens begins as the join of the batches of all `earlier`,
+/// and is new where there are none; each acceptance adds its use, so a token that comes again is refused, and so is a withdrawn
+/// one. Where there is `kept`, the whole record after the last check goes there, and is kept, before the first line goes out.
 ///
-/// The inputs are read and judged in this order, before anything is written: the bundles, the table, the
-/// tokens, the earlier records, which have the numbers from 4 on (held at 2^64-1). Refused for the first that could not be read (`Read`), has more than
-/// 67,108,864 bytes (`TooMuch`) or is not what it is to be (`Bundles`, `Table`, `Wire`), for want of
-/// memory, a check's among them, and where a sink stopped (`Write`): then a part went out, and else
-/// nothing did. `kept` keeps what it kept before, or the whole new record, where only lines were lost. A bad field of an earlier record in what came before a failed read or the limit is
-/// answered before these. The inputs behind a refused one, or one that memory was refused for, are as they
-/// were.
+/// The inputs are read and judged in this order, before anything is written: the bundles, the table, the tokens, the earlier
+/// records, which have the numbers from 4 on (held at 2^64-1). Errors, for the first input that is refused: `Read` where it could
+/// not be read, `TooMuch` where it has more than 67,108,864 bytes, and `Bundles`, `Table` or `Wire` where its content is bad.
+/// Further errors: `OutOfMemory`, also from a check, and `Write` where a sink stopped. After `Write` a part went out, after the
+/// others nothing. `kept` keeps what it kept before, or the whole new record, where only lines were lost. A bad field of an
+/// earlier record that came before a failed read or the limit is reported instead of these. The inputs after a refused one, or
+/// one that memory was refused for, are as they were.
 #[tactic(auto, using(crate::proofs::CheckLemmas::inputs_refused))]
 pub fn run_check<B: Source, T: Source, L: Source, R: Source, P: Keep, K: Sink>(
     alloc: Global,

@@ -36,8 +36,8 @@ fn answer<V: Verifier, S: UseStore>(
     }
 }
 
-// Checks the token that a line is, if it is not empty, and adds its line to the text. Whether it is
-// accepted. An empty line adds none, and counts as accepted.
+// Checks the token on a line, if the line is not empty, and adds its line to the text. Returns whether it is accepted. An empty
+// line adds none, and counts as accepted.
 fn check_line<V: Verifier, S: UseStore>(
     alloc: Global,
     validator: &mut Validator<V, S>,
@@ -64,10 +64,10 @@ fn check_line<V: Verifier, S: UseStore>(
     Ok(accepted)
 }
 
-/// Checks the token of each line that is not empty, at a moment in seconds, or at the validator's where
-/// that is greater, and answers whether all are accepted, and the lines that say so.
+/// Checks the token of each line that is not empty, at a moment in seconds, or at the validator's where that is later. Returns
+/// whether all are accepted, and the lines that say so.
 ///
-/// A want of memory ends it: nothing is answered then.
+/// Where memory is refused it stops, and returns no lines.
 pub fn check_lines<V: Verifier, S: UseStore>(
     alloc: Global,
     validator: &mut Validator<V, S>,

@@ -8,7 +8,7 @@ use svid_id::{IdFault, SpiffeId};
 use svid_share::{ToolFault, put_text};
 use svid_wire::Sink;
 
-// The name of a fault of the text. Want of memory is none of these, and is passed on.
+// The name of a fault of the text. Out of memory has none, and is passed on.
 fn fault_name(alloc: Global, fault: IdFault) -> Result<String, AllocError>
     ensures { IfOk result (λ name. (fault ≢ IdFault.OutOfMemory) × (string_bytes name ≡ fault_name fault)) }
 {
@@ -62,10 +62,9 @@ fn answer(alloc: Global, text: &[u8]) -> Result<(bool, String), AllocError>
     }
 }
 
-/// Writes the parts of the SPIFFE ID that the text is, or why it is none; and says whether it is one.
+/// Writes the parts of the text's SPIFFE ID, or why it is none; returns whether it is one.
 ///
-/// Refused for want of memory, and then nothing was written; and where the sink stopped (`Write`), and then a
-/// part of the answer went out.
+/// `OutOfMemory` before anything is written; `Write` where the sink stopped: then part of the answer went out.
 pub fn run_id<K: Sink>(alloc: Global, text: &[u8], out: &mut K) -> Result<bool, ToolFault>
     ensures accepted { IfOk result (λ accepted. accepted ≡ is_id text.now) }
     ensures answer { IfOk result (λ _. TookAll (taken K.told K.stops out.old out.new) (id_answer text.now)) }

@@ -8,23 +8,23 @@ use svid_replay::{Record, UseStore};
 use svid_share::ToolFault;
 use svid_wire::{Sink, Stopped};
 
-/// A sink whose text takes the place of an older one, which stays until [`keep`](Keep::keep).
+/// A sink whose text replaces an older one, which stays until [`keep`](Keep::keep).
 pub trait Keep: Sink {
-    // The text that is kept, where it tells it.
+    // The text that is kept, where it gives it.
     ghost kept: { Self → Option (List ℕ) };
 
-    /// Takes the text of a record, as [`put_record`](svid_share::put_record) writes it. What is kept stays.
+    /// Takes the text of a record, as [`put_record`](svid_share::put_record) writes it. The kept text stays.
     ///
-    /// `Write` where the sink stopped, and then it took a part.
+    /// `Write` where the sink stopped: then it took a part.
     fn take_record<T: UseStore>(&mut self, state: &Record<T>) -> Result<(), ToolFault>
         ensures ok { OnOk result (TookAll (taken Self.told Self.stops self.old self.new) (record_text state.now)) }
         ensures fault { IfErr result (λ e. e ≡ Write) }
         ensures part { OnErr result (TookPart (taken Self.told Self.stops self.old self.new) (record_text state.now)) }
         ensures stays { kept self.new ≡ kept self.old };
 
-    /// Keeps all that it took, in the place of what was kept before.
+    /// Keeps everything that it took. This replaces the text that was kept before.
     ///
-    /// `Stopped` keeps what was kept before, and raises the count of faults by one, held at 2^64-1.
+    /// `Stopped` leaves the text that was kept before, and adds one to the count of faults, held at 2^64-1.
     fn keep(&mut self) -> Result<(), Stopped>
         ensures keeps { OnOk result (kept self.new ≡ Self.told self.new) }
         ensures stays { OnErr result (kept self.new ≡ kept self.old) }

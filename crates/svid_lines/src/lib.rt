@@ -1,11 +1,10 @@
-//! The engines that answer for lines: what a SPIFFE ID consists of, which keys may have signed a token,
-//! and whether a validator accepts the tokens of a text.
+//! The engines that answer for lines: the parts of a SPIFFE ID, the keys that may have signed a token, and whether a validator
+//! accepts the tokens of a text.
 //!
-//! An engine is generic over the sources it reads and the sinks it writes to, and its contract says
-//! what it writes of what it reads, which fault it answers, and what it leaves as it was. [`run_id`]
-//! writes the parts of an ID, [`run_candidates`] the questions for the first token of its lines, and
-//! [`run_check`] the verdicts on all tokens of its lines, as a [`CheckSetting`] says. [`token_lines`] has
-//! the questions for one token, without sources and sinks.
+//! An engine is generic over the sources it reads and the sinks it writes to. Its contract says which output belongs to its
+//! inputs, which fault it returns, and what it leaves as it was. [`run_id`] writes the parts of an ID, [`run_candidates`] the
+//! questions for the first token of its lines, and [`run_check`] the verdicts on all tokens of its lines, as a [`CheckSetting`]
+//! says. [`token_lines`] has the questions for one token, without sources and sinks.
 //!
 //! ```rust
 //! use svid_lines::run_id;

@@ -4,7 +4,7 @@ ghost use Rattle.svid_lines.specs.Refused.{refusal_line, refusal_name};
 use std::alloc::{AllocError, Global};
 use svid_token::Refusal;
 
-// The name of a refusal. Want of memory has none.
+// The name of a refusal. Out of memory has none.
 fn refusal_name(refusal: Refusal) -> Option<&'static str>
     ensures { option_map (λ name. name.now) result ≡ refusal_name refusal }
 {
@@ -39,7 +39,7 @@ fn refusal_name(refusal: Refusal) -> Option<&'static str>
     Some(name)
 }
 
-/// The line that tells why a token is refused. Want of memory has none, and is passed on.
+/// The line that says why a token is refused. Out of memory has none, and is passed on.
 pub fn refusal_line(alloc: Global, refusal: Refusal) -> Result<String, AllocError>
     ensures { IfOk result (λ line. refusal_line refusal ≡ Some (string_bytes line)) }
 {

@@ -1,4 +1,4 @@
--- What a member does that reads a value is what events of a group do.
+-- A member that reads a value does what events of a group do.
 use Rattle.std.proofs.Common.{◌≡◌, ◌≢◌, ◌⊎◌, inl, inr, ℕ, zero, suc, ◌+◌, ◌-◌, ◌<◌, ◌≤◌, max, Bool, true, false, not, ◌&&◌, nat_lt, List, [], ◌∷◌, ◌++◌, length, take, drop, get_or, refl, sym, ap, ◌∙◌, subst, arith}
 use Rattle.std.specs.Prelude.{IsTrue, Option, Some, None, slice_get, ◌==◌, if◌then◌else◌}
 use Rattle.std.specs.Ordering.{is_eq}
@@ -24,7 +24,7 @@ use Rattle.svid_log.proofs.GroupsLemmas.{drop_index}
 use Rattle.svid_log.proofs.IndexesLemmas.{dropped_length, front_index, next_index, indexes_rise, taken_length, value_index, within_list}
 use Rattle.svid_log.proofs.StepsLemmas.{held_stays, not_accepted_by}
 
--- uses stand in a log, one behind the other, from a validator ID on
+-- uses are in a log, one after the other, from a position on
 abbrev Stand : List Use → ℕ → List Use → Type 0
 Stand log n [] = Unit {0}
 Stand log n (c ∷ cs) = (slice_get log n ≡ Some c) × Stand log (n + 1) cs
@@ -44,7 +44,7 @@ stand_front log cs n zero s = tt
 stand_front log [] n (suc k) s = tt
 stand_front log (c ∷ cs) n (suc k) s = (s.0, stand_front log cs (n + 1) k s.1)
 
--- the uses of a value that are left stand in the log of all values
+-- the uses of a value that are left are in the log of all values
 value_stands : (values : List (List Use)) (i begun : ℕ) (us : List Use) → slice_get values i ≡ Some us → Stand (uses_of values) (index_in values i begun) (drop begun us)
 value_stands values i begun us e =
     stand_from (uses_of values) (drop begun us) (index_in values i begun)
@@ -57,7 +57,7 @@ abbrev ledger : Reader → Ledger
 ledger x = record { held = x.held; beside = x.beside }
 
 module _ (group : ℕ → Terms) (v now : ℕ) where
-  -- a group in which the member has read these uses more
+  -- a group in which the member has read these further uses
   record HasReadOn (cs : List Use) (w : World) (x : Reader) (z : World) : Type 0 where
     ledger : ledger (z.members v) ≡ after_all now (far group v now) (ledger x) cs
     read : (z.members v).read ≡ x.read + length cs
@@ -94,7 +94,7 @@ module _ (group : ℕ → Terms) (v now : ℕ) where
   own_put : (w : World) (x : Reader) → ((put w v x).members v) ≡ x
   own_put w x = cond-true (v == v) x (w.members v) (eq-eqb v v refl)
 
--- what a member comes to in front of a value
+-- a member that has arrived before a value
 record IsThere (values : List (List Use)) (m m_there : MemberState) (x : State) (position : ℕ) (w a : World) (v : ℕ) : Type 0 where
   member : IsMember values m_there x (a.members v)
   log : a.log ≡ w.log
@@ -124,7 +124,7 @@ module _ (group : ℕ → Terms) (w : World) (v now : ℕ) (values : List (List 
   through : (a b c : ℕ) → a < b → b < c → a < c
   through a b c one other = omega arith
 
-  -- the validator ID of a member in the log is in front of a later value
+  -- the position of a member in the log is before a later value
   in_front : IsMember values m x (w.members v) → m.passed < position - 1 → slice_get values (position - 1) ≡ Some uses → index_in values m.passed m.begun ≤ index_in values (position - 1) 0
   in_front is lt e =
       let us = get_or values m.passed uses in
@@ -185,7 +185,7 @@ row_front cs (suc n) zero lt = refl
 row_front [] (suc n) (suc k) lt = refl
 row_front (d ∷ cs) (suc n) (suc k) lt = ap (λ xs. d ∷ xs) (row_front cs n k (omega arith))
 
--- a fate is accepted where it is first, and so it is said
+-- a fate is accepted where it is first and the member may accept
 accepted_says : (fate : Fate) (ok : Bool) → (fate ≡ Accepted → ⊥) → decided fate ok ≡ Accepted → (fate ≡ First) × (ok ≡ true)
 accepted_says First true never e = (refl, refl)
 accepted_says First false never e = absurd (cc)
@@ -199,7 +199,7 @@ accepted_says Replayed ok never e = absurd (cc)
 first_is_accepted : (fate : Fate) (ok : Bool) → fate ≡ First → ok ≡ true → decided fate ok ≡ Accepted
 first_is_accepted fate ok first said = rw first (rw said refl)
 
--- a member in front of a value that it reads, at a time, from one use on
+-- a member before a value that it reads, at a time, from one use on
 module _ (group : ℕ → Terms) (v now : ℕ) (values : List (List Use)) (there : MemberState) (x : State) (beside : Uses) (position : ℕ) (uses : List Use) (a : World) (from count : ℕ) where
   record Begins : Type 0 where
     member : IsMember values there x (a.members v)
@@ -264,7 +264,7 @@ module _ (group : ℕ → Terms) (v now : ℕ) (values : List (List Use)) (there
   up_to_last : (r p : ℕ) → r < p → r ≤ p - 1
   up_to_last r p lt = omega arith
 
-  -- what is accepted is accepted by the group's definition
+  -- what the call accepts is accepted by the group's definition
   accepts_then : Begins → (k : ℕ) (c : Use) → k < count → slice_get uses (from + k) ≡ Some c → answer k c ≡ Accepted → Accepts group (behind_reads k) v now c
   accepts_then h k c lt e is =
       let le : k ≤ length left = within k count (length left) lt h.few in
@@ -295,7 +295,7 @@ module _ (group : ℕ → Terms) (v now : ℕ) (values : List (List Use)) (there
       past : (n d : ℕ) → d ≤ n → n < d → ⊥
       past n d one other = omega arith
 
-  -- and the other way round, in a value that no earlier life may have read
+  -- and the converse, in a value that no earlier life may have read
   accepted_then : Begins → (k : ℕ) (c : Use) → k < count → there.ready < position → Accepts group (behind_reads k) v now c → answer k c ≡ Accepted
   accepted_then h k c lt fresh is =
       let le : k ≤ length left = within k count (length left) lt h.few in
@@ -315,7 +315,7 @@ module _ (group : ℕ → Terms) (v now : ℕ) (values : List (List Use)) (there
       within : (k c l : ℕ) → k < c → c ≤ l → k ≤ l
       within k c l one other = omega arith
 
-  -- the member behind the uses that were read
+  -- the member after the uses that were read
   abbrev behind_if : Bool → Uses → MemberState
   behind_if b new =
       if b then record { beside = new; validator_id = there.validator_id; lasts = there.lasts; passed = there.passed; begun = there.begun + count; ready = there.ready; deaf = there.deaf }
@@ -358,7 +358,7 @@ module _ (group : ℕ → Terms) (v now : ℕ) (values : List (List Use)) (there
       none : (n : ℕ) → 0 ≤ n
       none n = omega arith
 
-  -- what the events leave, whether memory was refused or not
+  -- the group after the events, whether memory was refused or not
   left_by : Begins → (rest : Rest) (x_new : State) (new : Uses)
       → (rest ≢ NoMemory → record { held = x_new; beside = new } ≡ ledger_behind count)
       → (rest ≡ NoMemory → IsRefused now (far group v now) (ledger_behind count) (slice_get left count) (record { held = x_new; beside = new }))

@@ -1,4 +1,4 @@
--- Of a key of which nothing is told outside of the log, a member's record has what it found first in the log.
+-- Where no use of a key comes from outside the log, a member's record has the use that it found first in the log.
 use Rattle.std.proofs.Common.{◌≡◌, ◌⊎◌, inl, inr, ℕ, ◌+◌, ◌<◌, max, Bool, true, false, ◌||◌, nat_lt, List, [], ◌∷◌, ◌++◌, drop, refl, sym, ap, ◌∙◌, subst, arith}
 use Rattle.std.specs.Prelude.{IsTrue, Option, Some, None, slice_get, ◌==◌}
 use Rattle.std.specs.List.{AllByRecursion}
@@ -21,7 +21,7 @@ use Rattle.svid_log.specs.Steps.{fate_at, gains_by, is_early, reached}
 use Rattle.svid_log.proofs.GroupsLemmas.{Stands, later_index, none_of_key, not_live, own_is_accepted, index_cases}
 use Rattle.svid_log.proofs.StepsLemmas.{first_by, first_is_sound, held_is_used, same_use, withdrawal_by, withdrawal_is_sound}
 
--- what a join holds is of one side or the other, and is live
+-- a use of a join is of one side or the other, and is live
 joined_from : (x b : State) (u : Use) → IsTrue (holds (join x b).uses u) → IsTrue (holds b.uses u) ⊎ IsTrue (holds x.uses u)
 joined_from x b u h =
     or_cases (holds b.uses u) (holds x.uses u) ((and_parts (nat_lt (max x.moment b.moment) u.exp) (holds b.uses u || holds x.uses u) (sym (holds-join x b u) ∙ h)).1)
@@ -52,7 +52,7 @@ new_from x c u h =
     ]
 
 module _ (key : List ℕ) where
-  -- a record has one use of the key at most beside withdrawals, and all its uses of the key stand in the log in front of a validator ID
+  -- a record has at most one use of the key beside withdrawals, and all its uses of the key are in the log before a position
   record Quiet (log : List Use) (n : ℕ) (x : State) : Type 0 where
     one : (u v : Use) → IsTrue (holds x.uses u) → IsTrue (holds x.uses v) → u.key ≡ key → v.key ≡ key → u.withdrawn ≡ false → v.withdrawn ≡ false → u ≡ v
     from_log : (u : Use) → IsTrue (holds x.uses u) → u.key ≡ key → Stands log n u
@@ -76,7 +76,7 @@ module _ (key : List ℕ) where
   quiet_on : (log : List Use) (n more : ℕ) (x : State) → Quiet log n x → Quiet log (n + more) x
   quiet_on log n more x q = record { one = q.one; from_log = λ u h same. stands_on log n more u (q.from_log u h same) }
 
-  -- a use comes in: a withdrawal, or one of a key that has none yet
+  -- the record gains a use: a withdrawal, or one of a key that has none yet
   quiet_new : (log : List Use) (n : ℕ) (x : State) (c : Use) → slice_get log n ≡ Some c → c.at < c.exp → (c.withdrawn ≡ false → has_use_of x.uses c.key ≡ false) → Quiet log n x → Quiet log (n + 1) (join x (state_of x.moment (c ∷ [])))
   quiet_new log n x c next sound unused q = record {
     one = λ u v h k same other first second. by_cases u v same other first second (new_from x c u h) (new_from x c v k);
@@ -109,7 +109,7 @@ module _ (key : List ℕ) where
   quiet_gains log n Withdrawn x c next first withdrawal q = quiet_on log n 1 x q
   quiet_gains log n Replayed x c next first withdrawal q = quiet_on log n 1 x q
 
-  -- so it is with a member
+  -- the same for a member
   abbrev IsQuiet : List Use → Reader → Type 0
   IsQuiet log x = Quiet log x.read x.held
 
@@ -132,7 +132,7 @@ module _ (key : List ℕ) where
     from_log = λ u h same. absurd (true≢false (sym h ∙ no_uses_hold_none u));
   }
 
-  -- and with each member of a group, and each save
+  -- and for each member of a group, and each save
   record AllQuiet (w : World) : Type 0 where
     members : (v : ℕ) → IsQuiet w.log (w.members v)
     saves : (k : ℕ) (s : Saved) → slice_get w.saves k ≡ Some s → IsQuiet w.log s.was

@@ -1,4 +1,4 @@
--- What holds of a group that reads one log, whatever happened in it.
+-- What always holds of a group that reads one log.
 use Rattle.std.proofs.Common.{◌≡◌, ◌≢◌, ◌⊎◌, inl, inr, ℕ, zero, suc, ◌+◌, ◌<◌, ◌≤◌, max, Bool, true, false, not, List, [], ◌∷◌, ◌++◌, ◌-◌, length, drop, refl, sym, ap, ◌∙◌, subst, arith}
 use Rattle.std.specs.Prelude.{IsTrue, Option, Some, None, slice_get, ◌==◌, nat_lt}
 use Rattle.std.proofs.lemmas.Bool.{and_parts, cases_lt, cases_order, cond-true, cond_both, eq-eqb, eqb-true, false_from_ne_true, false≢true, lt-ltb, ltb-false, not-true, true≢false}
@@ -14,20 +14,21 @@ use Rattle.svid_log.specs.Once.{AcceptedIsFirst, AcceptedIsHeld, AcceptedIsUnref
 use Rattle.svid_log.specs.Steps.{counts, gains_by, is_early, reached}
 use Rattle.svid_log.proofs.StepsLemmas.{Covers, counts_from, covered_is_past, covers_join, covers_live, covers_reached, covers_read, first_by, first_from, first_is_live, first_is_sound, joined_has, live_is_held, live_is_live, read_covers_own, read_from, unused_is_not_withdrawn, used_is_held}
 
--- a claim stands in the log in front of a validator ID
+-- a claim is in the log before a position
 pub record Stands (log : List Use) (n : ℕ) (u : Use) : Type 0 where
   pub position : ℕ
   pub before : position < n
   pub stands : slice_get log position ≡ Some u
   pub sound : u.at < u.exp
 
--- a member has read a front of the log, and holds something of each claim in it until that expires, or accepts nothing until then; what stands beside its record is of that front
+-- a member has read a prefix of the log, and holds something of each claim in it until that expires, or accepts nothing until
+-- then; the uses beside its record are of that prefix
 pub record IsRead (log : List Use) (x : Reader) : Type 0 where
   pub within : x.read ≤ length log
   pub covered : (j : ℕ) (c : Use) → j < x.read → slice_get log j ≡ Some c → c.at < c.exp → Covers x.held x.beside c ⊎ (c.exp ≤ x.deaf)
   pub from_log : (u : Use) → IsTrue (holds x.beside u) → Stands log x.read u
 
--- what is held of a claim is held later, or the member accepts nothing until the claim expires
+-- what is held of a claim is also held later, or the member accepts nothing until the claim expires
 either : (x y : State) (s t : Uses) (c : Use) (deaf : ℕ) → (Covers x s c → Covers y t c) → Covers x s c ⊎ (c.exp ≤ deaf) → Covers y t c ⊎ (c.exp ≤ deaf)
 either x y s t c deaf f (inl k) = inl (f k)
 either x y s t c deaf f (inr le) = inr le
@@ -42,7 +43,7 @@ nothing_is_read log = record {
     below_none : (j : ℕ) → j < 0 → ⊥
     below_none j lt = omega arith
 
--- so it is with a front of the log that is gone
+-- the same for a prefix of the log that has expired
 record IsGone (until front : ℕ) (log : List Use) : Type 0 where
   within : front ≤ length log
   each : (j : ℕ) (c : Use) → j < front → slice_get log j ≡ Some c → c.exp ≤ until
@@ -74,7 +75,7 @@ gone_is_read log x front until h =
       from_log = λ u held. absurd (true≢false (sym held ∙ no_uses_hold_none u));
     }
 
--- validator IDs behind a front of a list
+-- positions after a prefix of a list
 pub drop_index : {A : Type 0} (n : ℕ) (xs : List A) (k : ℕ) → slice_get (drop n xs) k ≡ slice_get xs (n + k)
 drop_index zero xs k = ap (λ i. slice_get xs i) (none k)
   where
@@ -127,7 +128,7 @@ missed_is_read log x more until h r =
     by_index gone j c e sound lt (inr ge) =
         inr (up_to_other c.exp x.deaf until (gone.each (j - x.read) c (not_read j x.read more lt ge) (drop_index x.read log (j - x.read) ∙ (ap (λ i. slice_get log i) (back j x.read ge) ∙ e))))
 
--- validator IDs of a list that grows at its end
+-- positions of a list that grows at its end
 early_index : {A : Type 0} (xs : List A) (y : A) (k : ℕ) → k < length xs → slice_get (xs ++ y ∷ []) k ≡ slice_get xs k
 early_index [] y k lt = absurd (omega arith)
 early_index (z ∷ xs) y zero lt = refl
@@ -149,7 +150,7 @@ length_grows [] y n le = omega arith
 length_grows (x ∷ xs) y zero le = omega arith
 length_grows (x ∷ xs) y (suc n) le = let more = length_grows xs y n (omega arith) in omega arith
 
--- a log that grows leaves what was read
+-- what was read stays when the log grows
 put_is_read : (log : List Use) (u : Use) (x : Reader) → IsRead log x → IsRead (log ++ u ∷ []) x
 put_is_read log u x r = record {
   within = length_grows log u x.read r.within;
@@ -200,7 +201,7 @@ reads_is_read log far x now false c next r = record {
     by_origin u (inl h) = let s = r.from_log u h in record { position = s.position; before = let b = s.before in omega arith; stands = s.stands; sound = s.sound }
     by_origin u (inr e) = record { position = x.read; before = omega arith; stands = next ∙ ap (λ v. Some v) (sym e.0); sound = subst (λ (v : Use). v.at < v.exp) (sym e.0) e.1 }
 
--- each member of a group has read a front of the log, and so had each that was saved
+-- each member of a group has read a prefix of the log, and so had each that was saved
 pub record Sound (w : World) : Type 0 where
   pub members : (v : ℕ) → IsRead w.log (w.members v)
   pub saves : (k : ℕ) (s : Saved) → slice_get w.saves k ≡ Some s → IsRead w.log s.was
@@ -236,7 +237,7 @@ restart_grows : (w : World) (v : ℕ) (o : Option Saved) → Grows w (restart w 
 restart_grows w v None = λ j c e. e
 restart_grows w v (Some s) = cond_both (s.owner == v) (put w v (begins (w.members v) s.was)) w (Grows w) (λ _ j c e. e) (λ _ j c e. e)
 
--- a validator ID of the log is behind a member, in all its lives
+-- a member is past a position of the log, in all its lives
 abbrev Past : ℕ → Reader → Type 0
 Past p x = p < max x.read x.ready
 
@@ -334,7 +335,7 @@ module _ (group : ℕ → Terms) where
   happen_past p v [] w h = h
   happen_past p v (event ∷ events) w h = happen_past p v events (happens group w event) (happens_past p v w event h)
 
-  -- what an acceptance leaves of its member
+  -- what holds of a member after it accepts a claim
   pub accepted_leaves : (w : World) (v now : ℕ) (c : Use) → Accepts group w v now c → (happens group w (Read v now false)).members v ≡ reads (far group v now) (w.members v) now false c
   accepted_leaves w v now c a =
       ap (λ (o : Option Use). (read_next (far group v now) w v now false o).members v) a.next
@@ -346,7 +347,7 @@ module _ (group : ℕ → Terms) where
       next_is_more : (n m : ℕ) → n < max (n + 1) m
       next_is_more n m = omega arith
 
-  -- in front of an accepted claim all sound of its key have expired
+  -- all sound uses of its key before an accepted claim have expired
   in_front : (w : World) (v now : ℕ) (c : Use) → Sound w → Accepts group w v now c → (j : ℕ) (d : Use) → j < (w.members v).read → slice_get w.log j ≡ Some d → d.at < d.exp → d.key ≡ c.key → d.exp ≤ (judges group w v now c).moment
   in_front w v now c s a j d lt e sound same =
       by_cover ((s.members v).covered j d lt e sound)
@@ -440,7 +441,7 @@ position_is_accepted_once group before between v w now later c d ids one two = p
 pub accepted_once : AcceptedOnce
 accepted_once group before between v w now later c d ids one two same = once group before between v w now later c d ids one two same
 
--- an accepted claim is a use of the record
+-- the record has an accepted claim
 pub accepted_is_held : AcceptedIsHeld
 accepted_is_held group w v now c a =
     let x = w.members v in
@@ -448,7 +449,7 @@ accepted_is_held group w v now c a =
     ap (λ (m : Reader). holds m.held.uses c) (accepted_leaves group w v now c a)
     ∙ (ap (λ fate. holds (gains_by fate y c).uses c) a.first ∙ joined_has y c (first_is_live x.held x.beside now (far group v now) c a.first))
 
--- a member accepts its own claim, where nothing stands against it
+-- a member accepts its own claim, where nothing refuses it
 pub not_live : (m e : ℕ) → m < e → e ≤ m → ⊥
 not_live m e lt le = omega arith
 

@@ -1,4 +1,4 @@
--- Where the uses of values stand in a log.
+-- The positions of the uses of values in a log.
 use Rattle.std.proofs.Common.{◌≡◌, ℕ, zero, suc, ◌+◌, ◌-◌, ◌<◌, ◌≤◌, List, [], ◌∷◌, ◌++◌, length, take, drop, get_or, refl, sym, ap, ◌∙◌, subst, arith}
 use Rattle.std.specs.Prelude.{Option, Some, None, slice_get}
 use Rattle.std.proofs.lemmas.Option.{none-some, same_Some}
@@ -40,7 +40,7 @@ within_list [] k c e = absurd (none-some c e)
 within_list (x ∷ xs) zero c e = omega arith
 within_list (x ∷ xs) (suc k) c e = let rest = within_list xs k c e in omega arith
 
--- a use of a value stands behind the uses of those in front of it
+-- the position of a use of a value is after those of all earlier values
 pub value_index : (values : List (List Use)) (i : ℕ) (us : List Use) (k : ℕ) (c : Use) → slice_get values i ≡ Some us → slice_get us k ≡ Some c → slice_get (uses_of values) (index_in values i k) ≡ Some c
 value_index [] i us k c e is = absurd (none-some us e)
 value_index (v ∷ values) zero us k c e is =
@@ -52,7 +52,7 @@ value_index (v ∷ values) (suc i) us k c e is =
     apart : (a b n : ℕ) → (a + b) + n ≡ a + (b + n)
     apart a b n = omega arith
 
--- behind a value stand its uses more
+-- the next value begins after the uses of this one
 pub next_index : (values : List (List Use)) (i : ℕ) (us : List Use) → slice_get values i ≡ Some us → index_in values (suc i) 0 ≡ index_in values i (length us)
 next_index [] i us e = absurd (none-some us e)
 next_index (v ∷ values) zero us e =
@@ -71,7 +71,7 @@ next_index (v ∷ values) (suc i) us e =
     back : (a b n : ℕ) → a + (b + n) ≡ (a + b) + n
     back a b n = omega arith
 
--- later values stand no earlier
+-- later values begin no earlier
 pub indexes_rise : (values : List (List Use)) (i j : ℕ) → i ≤ j → index_in values i 0 ≤ index_in values j 0
 indexes_rise [] i j le = ap_le i j
   where

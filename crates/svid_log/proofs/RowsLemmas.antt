@@ -1,4 +1,4 @@
--- Many uses are read as one after the other.
+-- Many uses are read one after the other.
 use Rattle.std.proofs.Common.{◌≡◌, ◌⊎◌, inl, inr, ℕ, Bool, zero, suc, ◌+◌, ◌<◌, ◌≤◌, List, [], ◌∷◌, ◌++◌, length, take, drop, get_or, min, slice_set, refl, sym, ap, ◌∙◌, subst, arith}
 use Rattle.std.specs.Prelude.{Option, slice_get}
 use Rattle.std.proofs.lemmas.List.{length-set, take_more}
@@ -25,7 +25,7 @@ fates_of-length : (s : Standing) (now far : ℕ) (l : Ledger) (cs : List Use) �
 fates_of-length s now far l [] = refl
 fates_of-length s now far l (d ∷ cs) = let rest = fates_of-length s now far (after_one now far l d) cs in omega arith
 
--- a row whose front was written gets one more
+-- one more entry is written after the first ones of a row
 set_next : {A : Type 0} (front room : List A) (x : A) → length front < length room → slice_set (front ++ drop (length front) room) (length front) x ≡ (front ++ x ∷ []) ++ drop (suc (length front)) room
 set_next [] [] x lt = absurd (omega arith)
 set_next [] (y ∷ room) x lt = refl

@@ -1,4 +1,4 @@
--- A save of a member puts it back.
+-- A member is restored from its save.
 use Rattle.std.proofs.Common.{◌≡◌, ◌⊎◌, inl, inr, ℕ, ◌+◌, ◌<◌, ◌≤◌, ◌^◌, max, Bool, true, false, nat_lt, List, [], ◌∷◌, ◌++◌, length, map, take, get_or, Option, Some, None, refl, sym, ap, ◌∙◌, subst, arith, append-nil, append_assoc}
 use Rattle.std.specs.Prelude.{IsTrue, find}
 use Rattle.std.specs.List.{AllByRecursion, filter, flat_map}
@@ -61,7 +61,7 @@ saved_more s after saved more u found r grown = record {
 pub saved_all : (s : Uses) (after : Option Use) (saved : List BatchData) → find (is_after after) (rising s) ≡ None → IsSavedTo s after saved → saved ≡ saved_of s
 saved_all s after saved none r = r.are ∙ ap (map alone) (sym (r.walked.parts ∙ (ap (λ us. r.front ++ us) (none_left (is_after after) (rising s) none) ∙ append-nil r.front)))
 
--- each use of a set of sound uses is one
+-- each use of a set of sound uses is sound
 all_sound : (s : Uses) → AreSound s → AllByRecursion IsSound (rising s)
 all_sound s sound = recursion_from_All IsSound (rising s) (λ k d lt. sound (get_or (rising s) k d) (held_in_rising s k d lt))
 

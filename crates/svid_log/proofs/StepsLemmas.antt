@@ -1,4 +1,4 @@
--- Of each use that was read, a member holds something until it expires.
+-- A member holds something of each use that it read, until the use expires.
 use Rattle.std.proofs.Common.{◌≡◌, ◌⊎◌, inl, inr, ℕ, ◌<◌, ◌≤◌, max, Bool, true, false, ◌||◌, ◌&&◌, nat_lt, List, [], ◌∷◌, refl, sym, ap, ◌∙◌, subst, arith}
 use Rattle.std.specs.Prelude.{IsTrue}
 use Rattle.std.specs.List.{list_any}
@@ -25,7 +25,7 @@ use Rattle.svid_log.specs.declared.fate.Fate.{Fate}
 use Rattle.svid_log.specs.declared.fate.Fate.TheVariants.{Accepted, First, Expired, TooFarAhead, Withdrawal, Withdrawn, Replayed}
 use Rattle.svid_log.specs.Steps.{AreSound, IsSound, beside_after, beside_by, counts, fate_at, fate_by, gains_by, held_after, is_early, passing, put_beside, reached}
 
--- uses that tie are the same
+-- uses that compare as equal are the same
 pub same_use : (u v : Use) → eq_by_cmp use_cmp u v ≡ true → u ≡ v
 same_use u v e = use_exact u v ((Equal-is (use_cmp u v)).0 e)
 
@@ -35,7 +35,7 @@ live_is_held s moment u h = (and_parts (nat_lt moment u.exp) (holds s u) (sym (h
 pub live_is_live : (s : Uses) (moment : ℕ) (u : Use) → IsTrue (holds (live s moment) u) → moment < u.exp
 live_is_live s moment u h = ltb-true moment u.exp (and_parts (nat_lt moment u.exp) (holds s u) (sym (holds-live s moment u) ∙ h)).0
 
--- a set with one use more has that, or had it
+-- a set with one more use has that use, or had it
 pub with_from : (s : Uses) (d u : Use) → IsTrue (holds (with s d) u) → IsTrue (holds s u) ⊎ (u ≡ d)
 with_from s d u k =
     elim (or_cases (eq_by_cmp use_cmp u d) (holds s u) (sym (with_holds_one_more s d u) ∙ k)) [ inl e ↦ inr (same_use u d e) | inr e ↦ inl e ]
@@ -54,13 +54,13 @@ with_sound s d fields lt sound u h =
       | inr e ↦ subst IsSound (sym e) (record { fields = fields; sound = ltb-true d.at d.exp lt })
     ]
 
--- a record that was raised to a moment is no earlier
+-- a record that was advanced to a moment is at that moment or later
 pub raised_past : (x y : State) (moment : ℕ) → y ≡ join x (state_of moment []) → moment ≤ y.moment
 raised_past x y moment e =
     let past : moment ≤ max x.moment moment = omega arith in
     subst (λ (r : State). moment ≤ r.moment) (sym e) (subst (λ n. moment ≤ n) (sym (moment-join x (state_of moment []))) past)
 
--- a record has a use, or it stands beside it, or it has expired
+-- the record has a use, or the use is beside the record, or it has expired
 abbrev pub Covers : State → Uses → Use → Type 0
 Covers x beside c = (IsTrue (holds x.uses c) ⊎ IsTrue (holds beside c)) ⊎ (c.exp ≤ x.moment)
 
@@ -118,7 +118,7 @@ covers_beside First x moment d beside c h = h
 covers_beside Expired x moment d beside c h = h
 covers_beside Withdrawal x moment d beside c h = h
 
--- what was covered is covered after the next use was read
+-- what was covered is still covered after the next use was read
 pub covers_read : (x : State) (beside : Uses) (now far : ℕ) (d c : Use) → Covers x beside c → Covers (held_after x beside now far d) (beside_after x beside now far d) c
 covers_read x beside now far d c h =
     let y = reached x now far d in
@@ -126,7 +126,7 @@ covers_read x beside now far d c h =
     let s = live beside y.moment in
     covers_beside fate (gains_by fate y d) y.moment d s c (covers_gains fate y d s c (covers_live y beside c (covers_reached x now far d beside c h)))
 
--- what a fate says
+-- what follows from a fate
 pub first_by : (n e w d u s : Bool) → fate_by n e w d u s ≡ First → (n ≡ true) × (e ≡ false) × (w ≡ false) × (d ≡ false) × (u ≡ false) × (s ≡ false)
 first_by false e w d u s h = absurd (cc)
 first_by true true w d u s h = absurd (cc)
@@ -163,7 +163,7 @@ not_accepted_by true false false false true s h = absurd (cc)
 not_accepted_by true false false false false true h = absurd (cc)
 not_accepted_by true false false false false false h = absurd (cc)
 
--- a claim that nothing stands against is a first one
+-- a claim that nothing refuses is a first one
 pub first_from : (n e w d u s : Bool) → n ≡ true → e ≡ false → w ≡ false → d ≡ false → u ≡ false → s ≡ false → fate_by n e w d u s ≡ First
 first_from n e w d u s hn he hw hd hu hs = rw hn (rw he (rw hw (rw hd (rw hu (rw hs)))))
 
@@ -228,7 +228,7 @@ held_is_used s d key is_held same =
     let in_uses = Contains-from_any {eq = eq_by_cmp use_cmp} same_use d (rising s) (sym (holds-rising use_cmp s d) ∙ is_held) in
     any_in (has_key key) (rising s) d in_uses (subst (λ k. is_eq (bytes_cmp k d.key) ≡ true) same (ap is_eq (tied_itself nat_list_cmp_total d.key)))
 
--- what stands in front of a first claim has expired
+-- uses that a first claim follows, with its key, have expired
 pub covered_is_past : (x : State) (beside : Uses) (now far : ℕ) (c d : Use) → fate_at x beside now far c ≡ First → Covers x beside d → d.key ≡ c.key → d.exp ≤ (reached x now far c).moment
 covered_is_past x beside now far c d first covers same =
     let y = reached x now far c in
@@ -250,7 +250,7 @@ first_is_sound x beside now far c first = counted_is_sound (reached x now far c)
 pub withdrawal_is_sound : (x : State) (beside : Uses) (now far : ℕ) (c : Use) → fate_at x beside now far c ≡ Withdrawal → c.at < c.exp
 withdrawal_is_sound x beside now far c e = counted_is_sound (reached x now far c).moment c (withdrawal_by _ _ _ _ _ _ e).0
 
--- what stands beside the record stood there, or is the use that was read
+-- a use beside the record was there before, or is the one that was read
 put_from : (moment : ℕ) (beside : Uses) (d u : Use) → IsTrue (holds (put_beside moment beside d) u) → IsTrue (holds beside u) ⊎ ((u ≡ d) × (d.at < d.exp))
 put_from moment beside d u h =
     cond_both (counts moment d) (with beside d) beside (λ s. IsTrue (holds s u) → IsTrue (holds beside u) ⊎ ((u ≡ d) × (d.at < d.exp)))
@@ -300,7 +300,7 @@ gains_stay Replayed x c = refl
 pub held_stays : (x : State) (beside : Uses) (now far : ℕ) (c : Use) → (held_after x beside now far c).moment ≡ (reached x now far c).moment
 held_stays x beside now far c = gains_stay (fate_at x beside now far c) (reached x now far c) c
 
--- a record that is raised to a moment that it has reached stays as it is
+-- a record stays as it is when it is advanced to a moment that it has reached
 pub raised_is_same : (x : State) (moment : ℕ) → IsRecord x → moment ≤ x.moment → raised_to x moment ≡ x
 raised_is_same x moment is le =
     let b = state_of moment [] in

@@ -1,4 +1,4 @@
--- A value of the log has its uses in one way.
+-- The uses of a value of the log are unique.
 use Rattle.std.proofs.Common.{◌≡◌, ◌≢◌, ◌⊎◌, inl, inr, ℕ, ◌+◌, ◌<◌, ◌≤◌, List, [], ◌∷◌, ◌++◌, length, take, drop, get_or, refl, sym, ap, ◌∙◌, subst, arith, append-nil, append_assoc}
 use Rattle.std.specs.Prelude.{Option, Some, None, slice_get, IfErr, IfOk, Result, Ok, Err}
 use Rattle.std.proofs.lemmas.List.{take-append-drop, take_more}
@@ -31,7 +31,7 @@ some_is_none [] some none = absurd (below_none some)
     below_none lt = omega arith
 some_is_none (x ∷ xs) some none = absurd (cc)
 
--- a value has no fault but want of memory
+-- a value has no fault other than out of memory
 no_fault : (bytes : List ℕ) (uses : List Use) (fault : WireFault) → IsValue bytes uses → IsNoValue bytes fault → fault ≡ no_memory
 no_fault bytes uses fault a (inr e) = e
 no_fault bytes uses fault a (inl (messages, stops)) = by_why stops.why
@@ -127,7 +127,7 @@ read_more value rest piece after feed next uses more out r cut pushed grown = by
       told = grown ∙ (ap (λ u. u ++ uses_in (batches_of out)) r.told ∙ sym (uses_join r.messages out));
     }
 
--- why a push was refused is why the value is none
+-- the reason that a push was refused is the reason that the value has no uses
 pub stops_behind : (value rest piece after : List ℕ) (feed : Option (List ℕ)) (uses : List Use) (out : List Message) (fault : WireFault) → IsReadTo value rest feed uses → rest ≡ piece ++ after → IsPushFault feed [] out piece fault → IsNoValue value fault
 stops_behind value rest piece after feed uses out fault r cut refused = by_stop (subst (λ f. IsPushFault f [] out piece fault) r.feeds refused)
   where

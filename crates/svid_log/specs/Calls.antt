@@ -1,4 +1,5 @@
--- What a member does that reads the values of a log by their validator IDs, as events of a group that reads the uses of these values.
+-- What a member does when it reads the values of a log by their numbers, as events of a group that reads the uses of these
+-- values.
 use Rattle.std.specs.Prelude.{◌≡◌, ℕ, zero, suc, ◌+◌, ◌-◌, ◌<◌, ◌≤◌, max, true, false, nat_lt, List, [], ◌∷◌, length, take, drop, slice_get, Some, flat_map, if◌then◌else◌}
 use Rattle.svid_replay.specs.declared.token_use.Use.{Use}
 use Rattle.svid_replay.specs.Records.{State}
@@ -11,15 +12,16 @@ use Rattle.svid_log.specs.Groups.{Accepts, Event, Miss, Read, Reader, Terms, Wor
 use Rattle.svid_log.specs.Members.{HasRead, MemberState}
 use Rattle.svid_log.specs.Steps.{horizon}
 
--- the uses of the values of a log, one value behind the other
+-- the uses of the values of a log, one value after the other
 abbrev pub uses_of : List (List Use) → List Use
 uses_of values = flat_map (λ us. us) values
 
--- how many uses stand in front of this one of the value behind so many
+-- how many uses come before this one of the value after so many
 abbrev pub index_in : List (List Use) → (passed begun : ℕ) → ℕ
 index_in values passed begun = length (uses_of (take passed values)) + begun
 
--- A member that read these values, with its record, is a reader of the log of their uses: that has read as many, and its earlier lives no more than it knows.
+-- A member that read these values, with its record, is a reader of the log of their uses: it has read as many, and its earlier
+-- lives read no more than it knows.
 pub record IsMember (values : List (List Use)) (m : MemberState) (x : State) (r : Reader) : Type 0 where
   pub held : r.held ≡ x
   pub beside : r.beside ≡ m.beside
@@ -40,7 +42,7 @@ abbrev pub IsGapGone : List (List Use) → MemberState → State → (now positi
 IsGapGone values m x now position =
     m.passed < position - 1 → is_gone (gap_end m x now) (gap_len values m position) (drop (index_in values m.passed m.begun) (uses_of values)) ≡ true
 
--- the events by which a member comes to a value
+-- the events by which a member gets to a value
 abbrev pub arrival : ℕ → List (List Use) → MemberState → State → (now position : ℕ) → List Event
 arrival v values m x now position = if nat_lt m.passed (position - 1) then Miss v (gap_len values m position) (gap_end m x now) ∷ [] else []
 
@@ -49,13 +51,14 @@ abbrev pub reads_of : (v now count : ℕ) → List Event
 reads_of v now zero = []
 reads_of v now (suc n) = Read v now false ∷ reads_of v now n
 
--- memory was refused for one more
+-- memory was refused for the next use
 abbrev pub refusal : (v now : ℕ) → Rest → List Event
 refusal v now Nothing = []
 refusal v now NoRoom = []
 refusal v now NoMemory = Read v now true ∷ []
 
--- What a call does that reads a value is what these events do; and each use that the call accepts is accepted by the group's definition there. Where the value is none that an earlier life may have read, that is exact.
+-- A call that reads a value does what these events do, and each use that the call accepts is accepted there by the group's
+-- definition. This is exact where no earlier life may have read the value.
 abbrev pub ReadsAreEvents : Type 0
 ReadsAreEvents = (group : ℕ → Terms) (w : World) (v now : ℕ) (values : List (List Use)) (m m_new : MemberState) (x x_new : State) (position : ℕ) (uses : List Use) (room written : List Fate) (r : Reading)
     → w.log ≡ uses_of values → IsMember values m x (w.members v) → m.validator_id ≡ (group v).validator_id

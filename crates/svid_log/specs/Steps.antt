@@ -1,4 +1,4 @@
--- One member reads the log, use by use: what it holds then, and what becomes of each use.
+-- One member reads the log, use by use: its state then, and the fate of each use.
 use Rattle.std.specs.Prelude.{◌≡◌, ℕ, ◌+◌, ◌-◌, ◌^◌, ◌<◌, min, Bool, true, false, not, nat_lt, ◌&&◌, List, [], ◌∷◌, Option, Some, None, IsTrue, if◌then◌else◌}
 use Rattle.svid_replay.specs.declared.token_use.Use.{Use}
 use Rattle.svid_replay.specs.Buckets.{raised_to}
@@ -14,23 +14,23 @@ pub record IsSound (u : Use) : Type 0 where
   pub fields : IsUse u
   pub sound : u.at < u.exp
 
--- each use of a set is one
+-- each use of a set is such a use
 abbrev pub AreSound : Uses → Type 0
 AreSound s = (u : Use) → IsTrue (holds s u) → IsSound u
 
--- the time up to which uses are believed: so many seconds ahead of now, and at most the greatest time
+-- the latest time of a use that is trusted: so many seconds after now, and at most the greatest time
 abbrev pub horizon : ℕ → ℕ → ℕ
 horizon now ahead = min (now + ahead) (2 ^ 64 - 1)
 
--- a use's time lies past a record's moment and past the horizon
+-- a use's time lies after a record's moment and after the horizon
 abbrev pub is_early : State → ℕ → Use → Bool
 is_early x far c = nat_lt x.moment c.at && nat_lt far c.at
 
--- a record is raised to the time of a use, unless that is early
+-- a record advances to the time of a use, unless the use is early
 abbrev pub passing : State → ℕ → Use → State
 passing x far c = if is_early x far c then x else raised_to x c.at
 
--- the record at the moment at which a use is judged
+-- the record at the moment at which it judges a use
 abbrev pub reached : State → ℕ → ℕ → Use → State
 reached x now far c = passing (raised_to x now) far c
 
@@ -38,7 +38,7 @@ reached x now far c = passing (raised_to x now) far c
 abbrev pub counts : ℕ → Use → Bool
 counts moment c = nat_lt moment c.exp && nat_lt c.at c.exp
 
--- the fate of a use, by what is so of it: the first row that holds
+-- the fate of a use: the first row whose condition holds
 abbrev pub fate_by : (counts early withdrawal withdrawn used claimed : Bool) → Fate
 fate_by counts early withdrawal withdrawn used claimed =
     if not counts then Expired
@@ -49,11 +49,11 @@ fate_by counts early withdrawal withdrawn used claimed =
     else if claimed then Replayed
     else First
 
--- that of a use that is early or not, by a record at its moment and the uses beside it
+-- the fate of a use that is early or not, by a record at its moment and the uses beside it
 abbrev pub fate_of : State → Uses → Bool → Use → Fate
 fate_of x beside early c = fate_by (counts x.moment c) early c.withdrawn (has_withdrawal_of x.uses c.key) (has_use_of x.uses c.key) (has_use_of beside c.key)
 
--- that of the next use of the log, by the record, the uses beside it, and the caller's time and horizon
+-- the fate of the next use of the log, by the record, the uses beside it, and the caller's time and horizon
 abbrev pub fate_at : State → Uses → ℕ → ℕ → Use → Fate
 fate_at x beside now far c = let y = reached x now far c in fate_of y (live beside y.moment) (is_early (raised_to x now) far c) c
 
@@ -67,11 +67,11 @@ gains_by TooFarAhead x c = x
 gains_by Withdrawn x c = x
 gains_by Replayed x c = x
 
--- a use is put beside the record, if it counts
+-- a use is put beside the record, if it is live and expires after it was made
 abbrev pub put_beside : ℕ → Uses → Use → Uses
 put_beside moment beside c = if counts moment c then with beside c else beside
 
--- beside the record stands each use that counts and that the record did not gain
+-- each such use that the record did not gain is put beside the record
 abbrev pub beside_by : Fate → ℕ → Uses → Use → Uses
 beside_by TooFarAhead moment beside c = put_beside moment beside c
 beside_by Withdrawn moment beside c = put_beside moment beside c
@@ -85,11 +85,11 @@ beside_by Withdrawal moment beside c = beside
 abbrev pub held_after : State → Uses → ℕ → ℕ → Use → State
 held_after x beside now far c = gains_by (fate_at x beside now far c) (reached x now far c) c
 
--- and the uses beside it
+-- the uses beside it then
 abbrev pub beside_after : State → Uses → ℕ → ℕ → Use → Uses
 beside_after x beside now far c = let y = reached x now far c in beside_by (fate_at x beside now far c) y.moment (live beside y.moment) c
 
--- a first claim is accepted if so it is said
+-- a first claim is accepted where the member may accept
 abbrev pub decided : Fate → Bool → Fate
 decided First true = Accepted
 decided First false = First

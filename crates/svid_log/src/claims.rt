@@ -31,7 +31,8 @@ impl<S: UseStore> Model for Claims<S> {
     ghost invariant = { λ c. AreSound (S.content c.store) };
 }
 
-// Raises a record to the time of a use, unless that is early: past the record's moment and past the horizon. Answers whether it is.
+// Advances a record to the time of a use, unless the use is early: after the record's moment and after the horizon. Returns
+// whether it is early.
 fn pass<R: UseStore>(held: &mut Record<R>, far: u64, used: &Use) -> bool
     ensures early { result ≡ is_early held.old far used.now }
     ensures passed { held.new ≡ passing held.old far used.now }
@@ -47,7 +48,7 @@ fn pass<R: UseStore>(held: &mut Record<R>, far: u64, used: &Use) -> bool
     false
 }
 
-// What becomes of a claim of a key of which the record has a use.
+// The fate of a claim whose key the record has already.
 fn used_before<R: UseStore>(held: &Record<R>, key: &[u8; 32]) -> Fate
     ensures { result ≡ (if has_withdrawal_of held.now.uses key.now then Fate.Withdrawn else Fate.Replayed) }
 {
@@ -57,7 +58,7 @@ fn used_before<R: UseStore>(held: &Record<R>, key: &[u8; 32]) -> Fate
     Fate::Replayed
 }
 
-// What becomes of a use, by a record at its moment and the uses beside it.
+// The fate of a use, by a record at its moment and the uses beside it.
 fn fate_of<R: UseStore, S: UseStore>(held: &Record<R>, beside: &S, early: bool, used: &Use) -> Fate
     ensures fate { result ≡ fate_of held.now (S.content beside.now) early used.now }
     ensures first { result ≡ Fate.First → (early ≡ false) × (held.now.moment < used.now.exp) }
@@ -81,7 +82,7 @@ fn fate_of<R: UseStore, S: UseStore>(held: &Record<R>, beside: &S, early: bool, 
     Fate::First
 }
 
-// A batch of one use, of the moment at which that was made.
+// A batch of one use, of the moment at which the use was made.
 fn alone(alloc: Global, used: Use) -> Result<Batch, AllocError>
     requires { IsSound used }
     ensures { IfOk result (λ batch. batch ≡ alone used) }
@@ -91,7 +92,7 @@ fn alone(alloc: Global, used: Use) -> Result<Batch, AllocError>
     Ok(Batch::from_good(used.at, uses))
 }
 
-// The uses of a store, rising, each as a batch.
+// The uses of a store in rising order, each as a batch.
 fn save_all<S: UseStore>(alloc: Global, store: &S) -> Result<Vec<Batch>, AllocError>
     requires { AreSound (S.content store.now) }
     ensures { IfOk result (λ saved. saved.items ≡ saved_of (S.content store.now)) }
@@ -114,7 +115,7 @@ impl<S: UseStore> Claims<S> {
         Claims { store }
     }
 
-    /// The uses, rising, each as a batch of the moment at which it was made.
+    /// The uses in rising order, each as a batch of the moment at which it was made.
     pub fn save(&self, alloc: Global) -> Result<Vec<Batch>, AllocError>
         ensures { IfOk result (λ saved. saved.items ≡ saved_of self.now) }
     {
@@ -140,7 +141,8 @@ impl<S: UseStore> Claims<S> {
         self.store.tidy();
     }
 
-    /// Whether a use beside the record has this key and is live at a moment, in seconds. Those that have expired by then go.
+    /// Whether a use beside the record has this key and is live at a moment, in seconds. Uses that have expired by then are
+    /// dropped.
     pub fn has(&mut self, moment: u64, key: &[u8; 32]) -> bool
         ensures has { result ≡ has_use_of (live self.old moment) key.now }
         ensures left { self.new ≡ live self.old moment }
@@ -149,10 +151,10 @@ impl<S: UseStore> Claims<S> {
         self.store.has(key)
     }
 
-    /// Reads the next use of the log at a moment, in seconds: answers its fate, and keeps it, in the record or beside it.
+    /// Reads the next use of the log at a moment, in seconds. Returns its fate, and keeps it in the record or beside it.
     ///
-    /// `ahead` is how many seconds its time may lie past `now`. Where memory is refused, the record and the uses beside it are
-    /// as they were, but at the moment of the call: the same use is to be read again.
+    /// `ahead` is how many seconds its time may lie after `now`. Where memory is refused, only the moment moves and expired uses
+    /// are dropped: read the same use again.
     pub fn read<R: UseStore>(
         &mut self,
         held: &mut Record<R>,
@@ -180,7 +182,7 @@ impl<S: UseStore> Claims<S> {
 }
 
 impl<S: UseStore + Drop> Claims<S> {
-    /// These uses, but those that expire before they were made, in an empty store.
+    /// These uses, without those that expire before they were made, in an empty store.
     pub fn restore(store: S, uses: &[Use]) -> Result<Claims<S>, AllocError>
         requires { S.content store ≡ no_uses }
         ensures { IfOk result (λ claims. claims ≡ put_all no_uses uses.now) }

@@ -1,5 +1,5 @@
-//! A log that a group of validators reads in one order, and what each of them makes of it: of the claims of a token that are
-//! live, the first in the log counts.
+//! A log that a group of validators reads in one order, and what each of them accepts: of the live claims of a token, only the
+//! first in the log counts.
 #![tactic(auto)]
 
 mod claims;

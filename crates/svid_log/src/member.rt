@@ -12,9 +12,9 @@ use std::alloc::{AllocError, Global};
 use std::marker::Model;
 use svid_replay::{Batch, Record, Use, UseStore};
 
-/// A member of a group that reads one log, beside the record of its validator.
+/// A member of a group that reads one log. Its validator's record is passed to each call that reads.
 ///
-/// Contracts see it as the uses beside the record, and what [`Member::new`] says.
+/// Contracts see it as the uses beside the record, and what [`Member::new`] is given.
 #[derive(Drop)]
 pub struct Member<S: UseStore> {
     claims: Claims<S>,
@@ -36,7 +36,7 @@ impl<S: UseStore> Model for Member<S> {
     ghost view = { λ m. record { beside = m.claims; validator_id = m.validator_id; lasts = m.lasts; passed = m.passed; begun = m.begun; ready = m.ready; deaf = m.deaf } };
 }
 
-// The uses of a value behind those that were read.
+// The uses of a value that are left to read.
 fn behind(uses: &[Use], begun: usize) -> &[Use]
     ensures { result.now ≡ drop begun uses.now }
 {
@@ -49,12 +49,12 @@ fn behind(uses: &[Use], begun: usize) -> &[Use]
 impl<S: UseStore> Member<S> {
     /// A member that begins to read a log, with an empty store for the uses beside its record.
     ///
-    /// `validator_id` is its validator's, and no other member's. `passed` is the number of the last value in front of the first one that
-    /// the log still has: 0 where it has all. `ready` is the number of the last value that an earlier life of the member may have
-    /// read, so that of the last one in the log when it begins: of these values it accepts nothing. Before the moment `deaf`, in
-    /// seconds, it accepts nothing either: by then all uses of the values up to `passed` have expired. Behind a gap in the log it
-    /// accepts nothing for `lasts` seconds: by then each use that was put into the log before has expired. Another log is read by a
-    /// new member, with the same record.
+    /// `validator_id` is its validator's, and no other member's. `passed` is the number of the last value before the first one
+    /// that the log still has: 0 where it has all. `ready` is the number of the last value that an earlier life of the member may
+    /// have read, so pass that of the last one in the log at the start: the member accepts nothing from these values. Before the
+    /// moment `deaf`, in seconds, it accepts nothing either: by then all uses of the values up to `passed` have expired. After a
+    /// gap in the log it accepts nothing for `lasts` seconds: by then each use that was appended earlier has expired. To read
+    /// another log, make a new member with the same record.
     pub fn new(
         store: S,
         validator_id: [u8; 16],
@@ -77,7 +77,7 @@ impl<S: UseStore> Member<S> {
         }
     }
 
-    /// The uses beside the record, each as a batch, for a save. The record and [`Member::mark`] belong to it.
+    /// The uses beside the record, each as a batch, for a save. Save the record and [`Member::mark`] with them.
     pub fn save(&self, alloc: Global) -> Result<Vec<Batch>, AllocError>
         ensures { IfOk result (λ saved. saved.items ≡ saved_of self.now.beside) }
     {
@@ -95,7 +95,7 @@ impl<S: UseStore> Member<S> {
         }
     }
 
-    /// Whether the member has read all that earlier lives of it may have read. Until then it can accept nothing.
+    /// Whether the member has read everything that its earlier lives may have read. Until then it accepts nothing.
     pub fn is_ready(&self) -> bool
         ensures { result ≡ not (nat_lt self.now.passed self.now.ready) }
     {
@@ -110,7 +110,8 @@ impl<S: UseStore> Member<S> {
         self.deaf = 0;
     }
 
-    /// Whether a use beside the record has this key and is live at a moment, in seconds. Those that have expired by then go.
+    /// Whether a use beside the record has this key and is live at a moment, in seconds. Uses that have expired by then are
+    /// dropped.
     pub fn has(&mut self, moment: u64, key: &[u8; 32]) -> bool
         ensures has { result ≡ has_use_of (live self.old.beside moment) key.now }
         ensures left { self.new ≡ record { beside = live self.old.beside moment; validator_id = self.old.validator_id; lasts = self.old.lasts; passed = self.old.passed; begun = self.old.begun; ready = self.old.ready; deaf = self.old.deaf } }
@@ -118,7 +119,7 @@ impl<S: UseStore> Member<S> {
         self.claims.has(moment, key)
     }
 
-    // Stands in front of a value.
+    // Moves to a value.
     fn arrive(&mut self, moment: u64, position: u64)
         requires { self.old.passed < position }
         ensures { self.new ≡ arrived self.old moment position }
@@ -130,7 +131,7 @@ impl<S: UseStore> Member<S> {
         }
     }
 
-    // What decides the acceptances of a value.
+    // What decides whether the claims of a value are accepted.
     fn standing(&self, position: u64) -> Standing
         ensures { result ≡ standing self.now position }
     {
@@ -141,7 +142,7 @@ impl<S: UseStore> Member<S> {
         }
     }
 
-    // Goes behind so many of the uses that were left of a value.
+    // Counts so many of the uses that were left of a value as read.
     fn advance(&mut self, position: u64, count: usize, left: usize)
         requires { count < left → self.old.begun + count < 2 ^ 64 }
         ensures { self.new ≡ advanced self.old position count left self.old.beside }
@@ -156,13 +157,13 @@ impl<S: UseStore> Member<S> {
 
     /// Reads the value with this number in the log at a moment, in seconds, and writes the fate of each of its uses.
     ///
-    /// Values are counted from 1, and `uses` are all that the value has. The member goes on where it stopped in the value, and
-    /// reads as many uses as there is room for in `fates`; [`Reading::from`] and [`Reading::count`] say which. `ahead` is how many
-    /// seconds the time of a use may lie past `now`. A value that was read before changes nothing. Where values are missing
-    /// ([`Order::Gap`]), the member reads on, and accepts nothing until all that it missed has expired.
+    /// Values are counted from 1, and `uses` are all uses of the value. The member goes on where it stopped in the value, and
+    /// reads as many uses as `fates` has room for; [`Reading::from`] and [`Reading::count`] say which. `ahead` is how many
+    /// seconds the time of a use may lie after `now`. A value that was read before changes nothing. Where values are missing
+    /// ([`Order::Gap`]), the member reads on, and accepts nothing until everything that it missed has expired.
     ///
-    /// Where memory is refused for a use ([`Rest::NoMemory`]), nothing but the record's moment moves for it: it is read by the
-    /// next call with the same value.
+    /// Where memory is refused for a use ([`Rest::NoMemory`]), only the record's moment moves for it: the next call with the same
+    /// value reads it.
     pub fn read<R: UseStore>(
         &mut self,
         held: &mut Record<R>,
@@ -202,10 +203,10 @@ impl<S: UseStore> Member<S> {
 }
 
 impl<S: UseStore + Drop> Member<S> {
-    /// A member that goes on where another one was: from a save of an earlier life.
+    /// A member that goes on from a save of an earlier life.
     ///
-    /// `mark`, and the uses of the batches that were saved, `beside`, are of one moment, and the record is of that moment or a later
-    /// one. The others are as in [`Member::new`].
+    /// `mark` and `beside`, the uses of the batches that were saved, are of one moment, and the record is of that moment or a
+    /// later one. The other arguments are as in [`Member::new`].
     pub fn restore(
         store: S,
         validator_id: [u8; 16],

@@ -1,14 +1,14 @@
 ghost use Rattle.std.specs.Prelude.{◌≡◌};
 ghost use Rattle.svid_log.specs.Members.{order_of};
 
-/// How the validator ID of a value in the log follows on what a member has read.
+/// Whether a value of the log follows what a member has read.
 #[derive(Clone, Copy, Debug, PartialEq, Eq)]
 pub enum Order {
     /// The value was read before.
     Again,
     /// It is the next one.
     Next,
-    /// Values in front of it are missing.
+    /// Values before it are missing.
     Gap,
 }
 

@@ -10,7 +10,7 @@ use svid_replay::{Record, Use, UseStore};
 pub(crate) struct Standing {
     /// The member's validator ID.
     pub validator_id: [u8; 16],
-    /// Whether the value lies behind all that earlier lives of the member may have read.
+    /// Whether the value comes after everything that earlier lives of the member may have read.
     pub fresh: bool,
     /// The moment before which the member accepts nothing.
     pub deaf: u64,
@@ -26,8 +26,8 @@ fn accepts(standing: &Standing, moment: u64, used: &Use) -> bool
 }
 
 impl<S: UseStore> Claims<S> {
-    // Reads the next uses of the log, as many as there is room for, as `read` reads one, and writes the fate of each. Answers how
-    // many it read: where that are fewer, memory was refused for the next one.
+    // Reads the next uses of the log, as many as there is room for, as `read` reads one, and writes the fate of each. Returns how
+    // many it read: where that is fewer, memory was refused for the next one.
     pub(crate) fn read_all<R: UseStore>(
         &mut self,
         held: &mut Record<R>,

@@ -6,16 +6,16 @@ use std::alloc::{AllocError, Global};
 use svid_replay::Use;
 use svid_wire::{Feed, Message, Reason, WireFault};
 
-/// What stands in a value of the log: uses, those of its batches in their order.
+/// The content of a value of the log: the uses of its batches, in their order.
 #[derive(Debug, Drop)]
 pub struct Value {
-    /// The uses: none where the bytes of the value are no row of messages.
+    /// The uses: none where the bytes of the value do not parse as messages.
     pub uses: Vec<Use>,
-    /// Why the bytes are no row of messages, where they are none.
+    /// The fault of the bytes, where they do not parse as messages.
     pub fault: Option<WireFault>,
 }
 
-// So many bytes of a value are read at a time: they end at most 241 messages, each of which takes about 8 KiB for a while.
+// How many bytes of a value are read at a time. They end at most 241 messages, and each takes about 8 KiB for a while.
 const PIECE: usize = 4096;
 
 // Appends the uses of the batches among messages, in their order.
@@ -31,7 +31,7 @@ fn append_uses(uses: &mut Vec<Use>, messages: &[Message]) -> Result<(), AllocErr
     Ok(())
 }
 
-// The uses of the batches of a value, in their order, or why its bytes are no messages. A piece of the value is read at a time.
+// The uses of a value's batches in their order, or why its bytes are no messages. Reads the value piece by piece.
 fn uses_of(alloc: Global, value: &[u8]) -> Result<Vec<Use>, WireFault>
     ensures ok { IfOk result (λ uses. IsValue value.now uses.items) }
     ensures fault { IfErr result (IsNoValue value.now) }
@@ -58,8 +58,8 @@ fn uses_of(alloc: Global, value: &[u8]) -> Result<Vec<Use>, WireFault>
 impl Value {
     /// Reads the bytes of a value.
     ///
-    /// Bytes that are no row of messages have no uses, for every reader alike. Refused for want of memory alone: then the value is
-    /// to be read again. Beside the uses it takes the memory of the messages that end in 4,096 bytes.
+    /// Bytes that do not parse as messages have no uses, for every reader alike. The only error is out of memory: read the value
+    /// again then. Beside the uses it takes the memory of the messages that end in 4,096 bytes.
     pub fn read(alloc: Global, bytes: &[u8]) -> Result<Value, AllocError>
         ensures { IfOk result (λ value. HasUses bytes.now value.uses.items value.fault) }
     {

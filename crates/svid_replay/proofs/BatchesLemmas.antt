@@ -12,7 +12,7 @@ use Rattle.svid_replay.specs.Use.{IsUse}
 use Rattle.std.proofs.lemmas.Bool.Decides.{nat_tests}
 use Rattle.svid_replay.specs.Batches.{is_after, flaw, AllGood, last_of, IsBatch, IsFirstFlaw, IsBatchFault, fault_of}
 
--- one more good use behind good ones
+-- one more good use after good ones
 pub AllGood-push : (m : ℕ) (before : Option Use) (xs : List Use) (y : Use) → AllGood m before xs → flaw m (last_of before xs) y ≡ None → AllGood m before (xs ++ y ∷ [])
 AllGood-push m before [] y good fine = (fine, tt)
 AllGood-push m before (x ∷ xs) y good fine = (good.0, AllGood-push m (Some x) xs y good.1 fine)
@@ -21,7 +21,7 @@ pub last_of-push : (before : Option Use) (xs : List Use) (y : Use) → last_of b
 last_of-push before [] y = refl
 last_of-push before (x ∷ xs) y = last_of-push (Some x) xs y
 
--- in good uses each is good behind the one before it
+-- among good uses each is good after the one before it
 pub AllGood-at : (m : ℕ) (before : Option Use) (xs : List Use) (y : Use) (zs : List Use) → AllGood m before (xs ++ y ∷ zs) → flaw m (last_of before xs) y ≡ None
 AllGood-at m before [] y zs good = good.0
 AllGood-at m before (x ∷ xs) y zs good = AllGood-at m (Some x) xs y zs good.1
@@ -30,7 +30,7 @@ pub AllByRecursion-push : {X : Type 0} (P : X → Type 0) (xs : List X) (y : X) 
 AllByRecursion-push P [] y all holds = (holds, tt)
 AllByRecursion-push P (x ∷ xs) y all holds = (all.0, AllByRecursion-push P xs y all.1 holds)
 
--- what a loop over the uses has seen by an index, and one use more
+-- what a loop over the uses has seen before an index, and one more use
 pub record HasSeen (m : ℕ) (us : List Use) (i : ℕ) (before : Option Use) : Type 0 where
   pub fields : AllByRecursion IsUse (take i us)
   pub good : AllGood m None (take i us)

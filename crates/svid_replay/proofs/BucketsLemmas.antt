@@ -77,7 +77,7 @@ digests_in-rising uses = same_map_all (λ b. sha256 (text_in b (rising uses))) (
     same_map_all f g [] h = refl
     same_map_all f g (n ∷ ns) h = ap (λ d. d ∷ map f ns) (h n) ∙ ap (λ ds. g n ∷ ds) (same_map_all f g ns h)
 
--- what is stale of a set
+-- the stale uses of a set
 rising-stale : (summary : SummaryData) (s : Uses) → rising (stale summary s) ≡ filter (differs summary s) (rising s)
 unfolding stale
 rising-stale summary s = rising-keep (differs summary s) s

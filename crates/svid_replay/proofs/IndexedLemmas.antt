@@ -48,7 +48,7 @@ key_first_same u q = one_test _ _
     (λ e. let is : u ≡ q = key_first_exact u q (equal _ e) in subst (λ v. eq_by_cmp use_cmp u v ≡ true) is (ap is_eq (tied_itself use_total u)))
     (λ e. let is : u ≡ q = use_exact u q (equal _ e) in subst (λ v. eq_by_cmp key_first_cmp (key_first u) (key_first v) ≡ true) is (ap is_eq (tied_itself key_first_total (key_first u))))
 
--- a use comes into both orders, or goes out of the first again
+-- a use is put into both orders, or taken out of the first again
 -- each list has a use where the old one had it, but for one use, which it has or hasn't
 abbrev pub Changes : List Use → Use → Bool → List Use → Type 0
 Changes us u has vs = (q : Use) → has_use vs q ≡ cond (eq_by_cmp use_cmp u q) has (has_use us q)
@@ -98,12 +98,12 @@ indexed_same us vs ws ks js u is up absent gained lost no_change = record {
 pub not_held : {G : Type 0} (us : List Use) (u : Use) → has_use us u ≡ false → holds (uses_in us) u ≡ true → G
 not_held us u absent held = absurd (true≢false (sym held ∙ holds-uses_in us u ∙ absent))
 
--- the least use goes
+-- the least use is dropped
 below_absent : (u : Use) (us : List Use) → AllByRecursion (λ v. use_cmp u v ≡ Less) us → has_use us u ≡ false
 below_absent u [] all = refl
 below_absent u (v ∷ us) all = ap (λ o. is_eq o || has_use us u) all.0 ∙ below_absent u us all.1
 
--- the least use, the uses behind it, and that it expires by the moment
+-- the least use, the uses after it, and that it expires by the moment
 pub record IsLeast (moment : ℕ) (us : List Use) (u : Use) (rest : List Use) : Type 0 where
   pub parts : us ≡ u ∷ rest
   pub expired : nat_lt moment u.exp ≡ false
@@ -211,7 +211,7 @@ pub all_pass : (us : List Use) → us ≡ filter (λ u. true) us
 all_pass [] = refl
 all_pass (u ∷ us) = ap (λ vs. u ∷ vs) (all_pass us)
 
--- a look by key
+-- a look-up by key
 abbrev pub least_of : Bool → List ℕ → KeyFirst
 least_of withdrawn key = record { key = key; withdrawn = withdrawn; exp = 0; validator_id = replicate 16 0; at = 0 }
 
@@ -273,12 +273,12 @@ zeros_le (suc n) (x ∷ p) e = gt_then (nat_cmp 0 x) _ (zero_le x) (zeros_le n p
 same_rows : (key other : List ℕ) → other ≡ key → slice_cmp nat_cmp key other ≡ Equal
 same_rows key other is = ap (slice_cmp nat_cmp key) is ∙ tied_itself nat_list_cmp_total key
 
--- nothing that is sought is below the least
+-- nothing that matches is below the least
 least_le : (s : Bool) (key : List ℕ) (k : KeyFirst) → k.key ≡ key → Fits s k.withdrawn → length k.validator_id ≡ 16 → is_gt (key_first_cmp (least_of s key) k) ≡ false
 least_le s key k is fits wide =
     gt_then (slice_cmp nat_cmp key k.key) _ (ap is_gt (same_rows key k.key is)) (gt_then (bool_cmp s k.withdrawn) _ (kind_le s k.withdrawn fits) (gt_then (nat_cmp 0 k.exp) _ (zero_le k.exp) (gt_then (slice_cmp nat_cmp (replicate 16 0) k.validator_id) _ (zeros_le 16 k.validator_id wide) (zero_le k.at))))
 
--- what has the key and is not below the least is of the kind that is sought
+-- what has the key and is not below the least is of the kind that is looked up
 above_least : (s : Bool) (key : List ℕ) (k : KeyFirst) → k.key ≡ key → is_gt (key_first_cmp (least_of s key) k) ≡ false → Fits s k.withdrawn
 above_least s key k is low =
     kind_above s k.withdrawn (not_gt_then (bool_cmp s k.withdrawn) _ (subst (λ o. is_gt (ordering_then o (ordering_then (bool_cmp s k.withdrawn) (ordering_then (nat_cmp 0 k.exp) (ordering_then (slice_cmp nat_cmp (replicate 16 0) k.validator_id) (nat_cmp 0 k.at))))) ≡ false) (same_rows key k.key is) low))
@@ -291,7 +291,7 @@ equal_of Greater p q = absurd (true≢false p)
 squeezed : (a b : List ℕ) → is_gt (slice_cmp nat_cmp a b) ≡ false → is_gt (slice_cmp nat_cmp b a) ≡ false → a ≡ b
 squeezed a b p q = exact_bytes a b (equal_of (slice_cmp nat_cmp a b) p (ap is_gt (sym (nat_list_cmp_total.antisymm b a)) ∙ q))
 
--- what stands between the least of a key and a use of that key has the key
+-- anything between the least of a key and a use of that key has the key
 between_key : (s : Bool) (key : List ℕ) (k h : KeyFirst) → h.key ≡ key → is_gt (key_first_cmp (least_of s key) k) ≡ false → is_gt (key_first_cmp k h) ≡ false → k.key ≡ key
 between_key s key k h is low high =
     sym (squeezed key k.key (not_gt_then (slice_cmp nat_cmp key k.key) _ low) (subst (λ b. is_gt (slice_cmp nat_cmp k.key b) ≡ false) is (not_gt_then (slice_cmp nat_cmp k.key h.key) _ high)))
@@ -315,7 +315,7 @@ no_use p (v ∷ us) each =
     ap (λ b. b || list_any p us) (each v (ap (λ o. is_eq o || has_use us v) (tied_itself use_total v)))
     ∙ no_use p us (λ u held. each u (or_right (eq_by_cmp use_cmp u v) (has_use us u) held))
 
--- a use that is sought is not below the least
+-- a use that matches is not below the least
 sought_above : (s : Bool) (us : List Use) (ks : List KeyFirst) (key : List ℕ) (u : Use) → IsIndexed us ks → has_use us u ≡ true → is_sought s key u ≡ true → is_gt (key_first_cmp (least_of s key) (key_first u)) ≡ false
 sought_above s us ks key u is held sought = least_le s key (key_first u) (same_key key u.key (sought_key s key u sought)) (sought_kind s key u sought) (is.wide u held)
 

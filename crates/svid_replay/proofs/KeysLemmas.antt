@@ -1,4 +1,4 @@
--- Keys and kinds, each with when it expires.
+-- Keys and kinds, each with its expiry.
 use Rattle.std.proofs.Common.{◌≡◌, ℕ, ◌≤◌, Bool, true, false, not, cond, ◌&&◌, ◌||◌, List, [], ◌∷◌, drop, length, map, refl, sym, ◌∙◌, ap, subst, arith, nat_lt, slice_get, Option, Some, None}
 use Rattle.std.proofs.lemmas.Bool.{false≢true}
 use Rattle.std.proofs.lemmas.Bool.Decides.{nat_tests}
@@ -179,7 +179,7 @@ pub some_left : (kind : KeyKind) (expired_by : Option ℕ) (keys : List Expiry) 
 some_left kind expired_by keys i f up at some = head_some kind (drop i keys) f some ∙ found_left kind expired_by keys i up at
 
 -- entries tell of uses
--- those that are left tell what a look by key and kind is for
+-- those that are left decide a look-up by key and kind
 pub tell_kind : (kind : KeyKind) (expired_by : Option ℕ) (keys : List Expiry) (us : List Use) → TellUses (left_of expired_by keys) us → list_any (is_held kind expired_by) keys ≡ list_any (λ u. is_eq (kind_cmp kind (expiry_of u).kind)) us
 tell_kind kind expired_by keys us tell = sym (any_kept (λ e. is_eq (kind_cmp kind e.kind)) (λ e. is_left expired_by e.exp) keys) ∙ tell (λ e. is_eq (kind_cmp kind e.kind))
 
@@ -201,7 +201,7 @@ tell_withdrawal key us = any_agree _ _ us (each_true _ (λ u. gone_kind (bytes_c
 tell_either : (key : List ℕ) (us : List Use) → (list_any (λ u. is_eq (kind_cmp (kind_of key false) (expiry_of u).kind)) us || list_any (λ u. is_eq (kind_cmp (kind_of key true) (expiry_of u).kind)) us) ≡ list_any (is_sought false key) us
 tell_either key us = any_either _ _ us ∙ any_agree _ _ us (each_true _ (λ u. kinds (bytes_cmp key u.key) u.withdrawn) us)
 
--- a look for either kind that finds the first, or asks for the second
+-- a look-up of either kind: the first finds it, or the second is asked
 pub tell_first : (key : List ℕ) (us : List Use) (withdrawn found : Bool) → withdrawn ≡ false → found ≡ list_any (λ u. is_eq (kind_cmp (kind_of key false) (expiry_of u).kind)) us → found ≡ true → found ≡ list_any (is_sought withdrawn key) us
 tell_first key us withdrawn found kind is there =
     is ∙ (sym is ∙ there) ∙ sym (ap (λ b. b || list_any (λ u. is_eq (kind_cmp (kind_of key true) (expiry_of u).kind)) us) (sym is ∙ there)) ∙ tell_either key us ∙ ap (λ w. list_any (is_sought w key) us) (sym kind)
@@ -228,7 +228,7 @@ and_again true true false = refl
 and_again true false c = refl
 and_again false b c = refl
 
--- where more expires the entries tell of the uses that are live
+-- when more expires, the entries stand for the uses that are live
 pub tell_live : (expired_by : Option ℕ) (moment : ℕ) (keys : List Expiry) (us : List Use) → AllByRecursion (λ u. is_left expired_by u.exp ≡ true) us → TellUses (left_of expired_by keys) us → TellUses (left_of (expired_by_then expired_by moment) keys) (filter (λ u. nat_lt moment u.exp) us)
 tell_live expired_by moment keys us live tell p =
     let now = expired_by_then expired_by moment in
@@ -249,6 +249,6 @@ live_left expired_by moment (u ∷ us) live = elim (nat_lt moment u.exp) as (λ 
   | false ↦ λ _. live_left expired_by moment us live.1
 ] refl
 
--- the merge of what is left
+-- nothing is left after the last key
 pub left_at_end : (expired_by : Option ℕ) (keys : List Expiry) (i : ℕ) → length keys ≤ i → left_of expired_by (drop i keys) ≡ []
 left_at_end expired_by keys i done = ap (left_of expired_by) (drop_all i keys done)

@@ -93,7 +93,7 @@ in_kept p (y ∷ ys) x has e =
     (λ later. let rest = in_kept p ys x later e in elim (p y) as (λ b. Contains (cond b (y ∷ filter p ys) (filter p ys)) x) [ true ↦ has_later y (filter p ys) x rest | false ↦ rest ])
     (has_cases y ys x has)
 
--- one thing more behind a list, kept or left out
+-- one more thing at the end of a list, kept or left out
 pub filter-in : {X : Type 0} (p : X → Bool) (xs : List X) (x : X) → p x ≡ true → filter p (xs ++ x ∷ []) ≡ filter p xs ++ x ∷ []
 filter-in p xs x e = filter-append p xs (x ∷ []) ∙ ap (λ t. filter p xs ++ cond t (x ∷ []) []) e
 
@@ -136,7 +136,7 @@ prefix_from_point p (x ∷ xs) i bound point = sym (prefix_len_is p (x ∷ xs) i
 pub parted_tail : {X : Type 0} (p : X → Bool) (x : X) (xs : List X) → IsPartitionedBy p (x ∷ xs) → IsPartitionedBy p xs
 parted_tail p x xs parted = λ i j d le h. parted (suc i) (suc j) d (omega arith) (omega arith)
 
--- a list of which a front alone passes a test, cut behind it
+-- if only a prefix of a list passes a test, the rest is what fails it
 pub drop-parted : {X : Type 0} (p : X → Bool) (xs : List X) → IsPartitionedBy p xs → drop (prefix_len p xs) xs ≡ filter (λ x. not (p x)) xs
 drop-parted p [] parted = refl
 drop-parted p (x ∷ xs) parted =

@@ -87,7 +87,7 @@ module _ {K : Type 0} {R : K → K → Ordering} (o : IsTotalOrder R) (exact : I
       (λ k. ap (λ b. p x || b) (h ys) ∙ once (p x) (any xs) (any ys) ∙ ap (λ z. any (x ∷ xs) || (p z || any ys)) (exact x y k))
       (λ k. ap (λ b. p y || b) (has_at p x xs h ys) ∙ to_front (p y) (any (x ∷ xs)) (any ys))
 
-  -- what passes a test is in the one list or in the other
+  -- what passes a test is in one of the two lists
   pub merge_has : (p : K → Bool) (xs ys : List K) → list_any p (merge R xs ys) ≡ (list_any p xs || list_any p ys)
   merge_has p [] ys = refl
   merge_has p (x ∷ xs) ys = has_at p x xs (merge_has p xs) ys

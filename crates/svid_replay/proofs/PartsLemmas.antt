@@ -94,7 +94,7 @@ pub cuts_last : (m : ℕ) (us rest last : List Use) (batches items : List BatchD
 cuts_last m us rest last batches items b so_far few e is pushed =
     rw (pushed, is, e) (ap (λ bs. batches ++ bs) (sym (cut_few m rest few)) ∙ so_far.value)
 
--- the sizes of what is cut
+-- the sizes of full batches and of the rest
 full_cut : (n m : ℕ) (us : List Use) → length us ≤ 65536 * suc n → (0 < n → 65536 * n < length us) → AreParts m us (full_batches 65536 n m us)
 unfolding full_batches
 full_cut zero m us few many = record {

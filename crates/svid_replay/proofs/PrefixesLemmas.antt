@@ -17,8 +17,7 @@ use Rattle.svid_replay.proofs.ListLemmas.{any-filter, each_append, each_true, ea
 use Rattle.svid_replay.proofs.TestsLemmas.{and-false, equal, or-true}
 use Rattle.svid_replay.proofs.TwiceLemmas.{key_exact, same-twice_of}
 
--- what is noted of a use more
--- where the prefixes have all that they had, and that of the key where a use before has it
+-- one more use is noted where the prefixes have all that they had, and that of its key where an earlier use has the key
 noted_kept : (us : List Use) (u : Use) (key_filter now prefixes new : List ℕ) → u.withdrawn ≡ false → IsNoted us key_filter prefixes → 0 < length now → ((other : List ℕ) → HasBits key_filter other → HasBits now other) → HasBits now u.key → ((key : List ℕ) → has_prefix prefixes key ≡ true → has_prefix new key ≡ true) → (list_any (has_key u.key) (used us) ≡ true → has_prefix new u.key ≡ true) → IsNoted (us ++ u ∷ []) now new
 noted_kept us u key_filter now prefixes new e noted some others added kept again = record {
   some = some;
@@ -83,7 +82,7 @@ both_when : (a b c : Bool) → (c ≡ true → a ≡ b) → (a && c) ≡ (b && c
 both_when a b true h = ap (λ t. t && true) (h refl)
 both_when a b false h = and-false a ∙ sym (and-false b)
 
--- what passes one test, of what passes two that agree there
+-- two filters that agree where a third passes give the same after it
 filter_within : {X : Type 0} (p q r : X → Bool) → ((x : X) → p x ≡ true → q x ≡ r x) → (xs : List X) → filter p (filter q xs) ≡ filter p (filter r xs)
 filter_within p q r h [] = refl
 filter_within p q r h (x ∷ xs) =

@@ -43,7 +43,7 @@ three true true false ha hb hc = refl
 three true true true ha hb true = refl
 three true true true ha hb false = refl
 
--- the join by what it holds
+-- what a join holds
 pub moment-join : (a b : State) → (join a b).moment ≡ max a.moment b.moment
 unfolding join
 moment-join a b = refl
@@ -57,7 +57,7 @@ pub join_holds_unexpired : JoinHoldsUnexpired
 join_holds_unexpired a b u =
     holds-join a b u ∙ and-comm (nat_lt (max a.moment b.moment) u.exp) (holds b.uses u || holds a.uses u) ∙ ap (λ h. h && nat_lt (max a.moment b.moment) u.exp) (or-comm (holds b.uses u) (holds a.uses u))
 
--- a moment and a set are a join where they are so by each use
+-- a moment and a set are a join if they agree with it on each use
 pub is_join : (a b s : State) → s.moment ≡ max a.moment b.moment → ((u : Use) → holds s.uses u ≡ (nat_lt (max a.moment b.moment) u.exp && (holds b.uses u || holds a.uses u))) → s ≡ join a b
 is_join a b s m is = same_state s (join a b) (m ∙ sym (moment-join a b)) (same_uses s.uses (join a b).uses (λ u. is u ∙ sym (holds-join a b u)))
 
@@ -136,7 +136,7 @@ still_live : (r : State) (u : Use) → IsRecord r → (h : Bool) → holds r.use
 still_live r u is true e = let later : r.moment < u.exp = (is.each u e).live in let test : nat_lt r.moment u.exp ≡ true = grind (arith, nat_tests) in ap (λ l. l && true) test
 still_live r u is false e = and-false (nat_lt r.moment u.exp)
 
--- raising a record to its own moment changes nothing
+-- joining a record with its own moment changes nothing
 pub raised_to_own : (r : State) → IsRecord r → join r (state_of r.moment []) ≡ r
 raised_to_own r is =
     sym (raised r r.moment r.moment r.uses (omega arith) (same_uses r.uses (live r.uses r.moment) (λ u. sym (holds-live r.uses r.moment u ∙ still_live r u is (holds r.uses u) refl))))
@@ -154,7 +154,7 @@ only_one moment u fits is = record {
   each = λ v held. let tied : eq_by_cmp use_cmp v u ≡ true = sym (or-false (eq_by_cmp use_cmp v u)) ∙ sym (holds-state_of moment (u ∷ []) v) ∙ held in subst (IsHeldAt moment) (sym (use_exact v u (equal (use_cmp v u) tied))) is;
 }
 
--- a use that is live at the record's moment goes in
+-- a use that is live at the record's moment is added
 taken_live : (r : State) (u v : Use) → IsRecord r → nat_lt r.moment u.exp ≡ true → (t h : Bool) → eq_by_cmp use_cmp v u ≡ t → holds r.uses v ≡ h → (t || h) ≡ (nat_lt r.moment v.exp && ((t || false) || h))
 taken_live r u v is later true h e held = sym (ap (λ l. l && true) (ap (λ (w : Use). nat_lt r.moment w.exp) (use_exact v u (equal (use_cmp v u) e)) ∙ later))
 taken_live r u v is later false true e held = let after : r.moment < v.exp = (is.each v held).live in let test : nat_lt r.moment v.exp ≡ true = grind (arith, nat_tests) in sym (ap (λ l. l && true) test)
@@ -258,7 +258,7 @@ made_in_batch old self b us i d is e within so_far =
     let made : (get_or us i d).at ≤ b.moment = made_at b.moment None us i d (subst (AllGood b.moment None) (sym e) is.good) within in
     omega (arith, ap (λ (s : State). s.moment) so_far, moment-join old (state_of b.moment (take i us)))
 
--- lists of uses, one behind the other
+-- lists of uses, one after the other
 behind : (l front t h : Bool) → (l && (t || (l && (front || h)))) ≡ (l && ((front || t) || h))
 behind false front t h = refl
 behind true true true h = refl
@@ -312,7 +312,7 @@ unfolding IsStrictlySortedBy
 good_rises m [] good = tt
 good_rises m (u ∷ us) good = good_follow m u us good.1
 
--- those of a batch's uses that are not expired were made by a later moment too
+-- those of a batch's uses that are not expired were also made by a later moment
 pub good_made : (m later : ℕ) (us : List Use) → m ≤ later → AllGood m None us → AllByRecursion (λ u. u.at ≤ later) us
 good_made m later us le good = recursion_from_All _ us (λ k d h. let made : (get_or us k d).at ≤ m = made_at m None us k d good h in omega arith)
 
@@ -358,7 +358,7 @@ at_once : (l t h : Bool) → (l && (t || (l && h))) ≡ (l && (t || h))
 at_once true t h = refl
 at_once false t h = refl
 
--- a record raised to the moment of uses and joined with them all
+-- a record joined with a moment, and then with all uses of a batch
 pub absorbed_at_once : (old self new : State) (moment : ℕ) (us : List Use) → self ≡ join old (state_of moment []) → new ≡ join self (state_of self.moment us) → new ≡ join old (state_of moment us)
 absorbed_at_once old self new moment us raise e =
     let k = max old.moment moment in
@@ -372,7 +372,7 @@ absorbed_at_once old self new moment us raise e =
     ∙ at_once (nat_lt k v.exp) (list_any tied us) (holds old.uses v)
     ∙ ap (λ h. nat_lt k v.exp && (h || holds old.uses v)) (sym (holds-state_of moment us v)))
 
--- what a record is that was asked to take in all the uses: it has them, or it is as it was
+-- a record after the attempt to add all the uses: it has them, or it is as it was
 pub record IsTakenOrNot (moment : ℕ) (s : Uses) (self : State) (us : List Use) (all : Bool) : Type 0 where
   pub is : IsRecord (record { moment = moment; uses = s })
   pub joined : all ≡ true → record { moment = moment; uses = s } ≡ join self (state_of self.moment us)
@@ -397,7 +397,7 @@ taken_or_not moment had s self us live n all is view up fields made front e take
       joined = λ h. (all_in h).joined ∙ ap (λ (t : State). join t (state_of t.moment us)) view;
     }
 
--- the uses of a batch were made by the moment of a record that was raised to it
+-- the uses of a batch were made by the moment of a record that was advanced to it
 pub made_by_raised : (old self : State) (b : BatchData) (us : List Use) → IsBatch b → us ≡ b.uses → self ≡ join old (state_of b.moment []) → AllByRecursion (λ u. u.at ≤ self.moment) us
 made_by_raised old self b us is e raise =
     let later : b.moment ≤ self.moment = omega (arith, ap (λ (r : State). r.moment) raise, moment-join old (state_of b.moment [])) in

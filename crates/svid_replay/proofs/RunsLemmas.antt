@@ -1,4 +1,4 @@
--- Runs, their filters and their front, and the store of them.
+-- Runs, their filters and their start, and the store of them.
 use Rattle.std.proofs.Common.{◌≡◌, ℕ, ◌<◌, ◌≤◌, ◌+◌, zero, suc, Bool, true, false, ◌||◌, ◌&&◌, List, [], ◌∷◌, ◌++◌, length, drop, take, get_or, cond, ◌-◌, nat_eq, nat_lt, not, filter, append_assoc, refl, sym, ◌∙◌, ap, subst, arith}
 use Rattle.std.proofs.lemmas.List.{append-nil, drop_all, length-append, length-drop, length-take, take-append-drop, take-append-le, take-take, take_all, take_more}
 use Rattle.std.proofs.lemmas.Bool.Decides.{nat_tests}
@@ -55,7 +55,7 @@ drop_more zero d xs = let e : 0 + d ≡ d = omega arith in ap (λ n. drop n xs) 
 drop_more (suc s) d [] = drop_none (suc s + d) ∙ sym (drop_none d)
 drop_more (suc s) d (x ∷ xs) = let e : suc s + d ≡ suc (s + d) = omega arith in ap (λ n. drop n (x ∷ xs)) e ∙ drop_more s d xs
 
--- a run whose start has moved behind what is expired
+-- a run whose start has moved past the expired uses
 pub record IsRunCut (items : List Use) (start dropped moment : ℕ) (keyed : Bool) (keys : List Expiry) (expired_by : Option ℕ) (key_filter : List ℕ) (told : List Use) : Type 0 where
   pub is : IsRun items (start + dropped) keyed keys (expired_by_then expired_by moment) key_filter
   pub left : drop (start + dropped) items ≡ filter (λ u. nat_lt moment u.exp) told
@@ -86,7 +86,7 @@ run_cut items told start dropped moment keyed keys expired_by key_filter is view
 pub run_gone : (items : List Use) (start : ℕ) (keyed : Bool) (keys : List Expiry) (expired_by later : Option ℕ) (key_filter : List ℕ) → later ≡ expired_by → IsRun items start keyed keys expired_by key_filter → IsRun items start keyed keys later key_filter
 run_gone items start keyed keys expired_by later key_filter e is = subst (λ g. IsRun items start keyed keys g key_filter) (sym e) is
 
--- the same with the front taken off, and the keys that are gone
+-- the same without the dropped prefix and its keys
 pub run_moved : (items now : List Use) (start : ℕ) (keyed : Bool) (keys swept : List Expiry) (expired_by : Option ℕ) (key_filter renewed : List ℕ) → IsRun items start keyed keys expired_by key_filter → now ≡ drop start items → swept ≡ left_of expired_by keys → 0 < length renewed → AllByRecursion (λ u. HasBits renewed u.key) now → IsRun now 0 keyed swept None renewed
 run_moved items now start keyed keys swept expired_by key_filter renewed is e clean some known = record {
   bound = omega arith;
@@ -98,7 +98,7 @@ run_moved items now start keyed keys swept expired_by key_filter renewed is e cl
   known = known;
 }
 
--- the same without the keys that are gone
+-- the same without the dropped keys
 pub run_swept : (items : List Use) (start : ℕ) (keyed : Bool) (keys swept : List Expiry) (expired_by : Option ℕ) (key_filter : List ℕ) → IsRun items start keyed keys expired_by key_filter → swept ≡ left_of expired_by keys → IsRun items start keyed swept None key_filter
 run_swept items start keyed keys swept expired_by key_filter is clean = record {
   bound = is.bound;
@@ -115,7 +115,7 @@ pub all_append : (rs ss : List (List Use)) → all_of (rs ++ ss) ≡ all_of rs +
 all_append [] ss = refl
 all_append (r ∷ rs) ss = ap (λ us. r ++ us) (all_append rs ss) ∙ sym (append_assoc r (all_of rs) (all_of ss))
 
--- one more run without what is expired
+-- one more run without its expired uses
 pub record IsDroppedSoFar (now old : List (List Use)) (i moment dropped : ℕ) : Type 0 where
   pub long : length now ≡ length old
   pub rest : drop i now ≡ drop i old
@@ -135,7 +135,7 @@ live_append moment (u ∷ us) vs = elim (nat_lt moment u.exp) as (λ b. cond b (
   | false ↦ live_append moment us vs
 ]
 
--- the length of all where one run is another
+-- the total length after one run is replaced
 set_length : (rs : List (List Use)) (i : ℕ) (r s : List Use) → i < length rs → r ≡ get_or rs i r → length (all_of (set rs i s)) + length r ≡ length (all_of rs) + length s
 set_length [] i r s within at = absurd (omega arith)
 set_length (x ∷ rs) zero r s within at = omega (arith, length-append s (all_of rs), length-append x (all_of rs), ap length at)
@@ -195,7 +195,7 @@ both_parts p (u ∷ us) = elim (p u) as (λ b. length (cond b (u ∷ filter p us
   | false ↦ omega (arith, both_parts p us)
 ]
 
--- a list with no use twice has none twice where some are left out
+-- a list without duplicates has none where some are left out
 pub once_filter : (p : Use → Bool) (us : List Use) → length us ≡ count (uses_in us) → length (filter p us) ≡ count (uses_in (filter p us))
 once_filter p us once =
     let q = λ (u : Use). not (p u) in
@@ -237,7 +237,7 @@ pub record IsStored (runs : List (List Use)) (total : ℕ) (s : Uses) : Type 0 w
   pub is : IsRuns runs total
   pub view : uses_in (all_of runs) ≡ s
 
--- runs moved about within the store
+-- runs rearranged within the store
 pub runs_merged : (runs rest : List (List Use)) (total : ℕ) (s : Uses) → IsStored runs total s → AreMerged runs rest → IsStored rest total s
 runs_merged runs rest total s was merged =
     let sets = same_sets (all_of runs) (all_of rest) merged.same in
@@ -254,7 +254,7 @@ runs_merged runs rest total s was merged =
 pub runs_tidied : (runs rest : List (List Use)) (total : ℕ) (s : Uses) → IsStored runs total s → all_of rest ≡ all_of runs → length rest ≤ length runs → IsStored rest total s
 runs_tidied runs rest total s was same fewer = runs_merged runs rest total s was (record { same = λ q. ap (list_any (eq_by_cmp use_cmp q)) same; less = omega (arith, ap length same); fewer = fewer })
 
--- what the store holds is what the runs have
+-- the store holds what the runs have
 store_holds : (runs : List (List Use)) (s : Uses) (u : Use) → uses_in (all_of runs) ≡ s → holds s u ≡ list_any (eq_by_cmp use_cmp u) (all_of runs)
 store_holds runs s u view = ap (λ t. holds t u) (sym view) ∙ holds-uses_in (all_of runs) u
 
@@ -393,7 +393,7 @@ unknown_absent key_filter us u known unknown = any_none (eq_by_cmp use_cmp u) us
 pub run_unknown : (items told : List Use) (start : ℕ) (keyed : Bool) (keys : List Expiry) (expired_by : Option ℕ) (key_filter : List ℕ) (u : Use) → IsRun items start keyed keys expired_by key_filter → drop start items ≡ told → (HasBits key_filter u.key → ⊥) → false ≡ list_any (eq_by_cmp use_cmp u) told
 run_unknown items told start keyed keys expired_by key_filter u is view unknown = sym (sym (ap (list_any (eq_by_cmp use_cmp u)) view) ∙ unknown_absent key_filter (drop start items) u is.known unknown)
 
--- a run of which nothing is gone
+-- a run from which nothing was dropped
 pub run_made : (items us : List Use) (keyed : Bool) (keys : List Expiry) (key_filter : List ℕ) → IsRising items → us ≡ items → AreKeys keys → (keyed ≡ true → TellUses keys us) → 0 < length key_filter → AllByRecursion (λ u. HasBits key_filter u.key) us → IsRun items 0 keyed keys None key_filter
 run_made items us keyed keys key_filter up same sorted told some known = record {
   bound = omega arith;
@@ -405,7 +405,7 @@ run_made items us keyed keys key_filter up same sorted told some known = record 
   known = subst (AllByRecursion (λ u. HasBits key_filter u.key)) same known;
 }
 
--- what the keys of a run tell, where it is keyed
+-- the keys of a keyed run stand for its uses
 pub run_tells : (items told : List Use) (start : ℕ) (keyed : Bool) (keys : List Expiry) (expired_by : Option ℕ) (key_filter : List ℕ) → IsRun items start keyed keys expired_by key_filter → drop start items ≡ told → keyed ≡ true → TellUses (left_of expired_by keys) told
 run_tells items told start keyed keys expired_by key_filter is view kept = subst (TellUses (left_of expired_by keys)) view (is.told kept)
 
@@ -426,7 +426,7 @@ keys_merged items told others told' start start' keyed keyed' keys keys' expired
       subst (TellUses merged) (sym f) (subst (λ ks. TellUses ks (merge use_cmp told told')) (sym e) (tell_merged (left_of expired_by keys) (left_of expired_by' keys') told told' (run_tells items told start keyed keys expired_by key_filter is view (first_true keyed keyed' both)) (run_tells others told' start' keyed' keys' expired_by' key_filter' is' view' (first_true keyed' keyed (and-comm keyed' keyed ∙ both)))));
 }
 
--- a use in a index, among uses of which the same holds
+-- a use at an index, among uses with the same property
 pub known_insert : (key_filter : List ℕ) (us : List Use) (index : ℕ) (new : Use) → HasBits key_filter new.key → AllByRecursion (λ u. HasBits key_filter u.key) us → AllByRecursion (λ u. HasBits key_filter u.key) (take index us ++ new ∷ drop index us)
 known_insert key_filter us index new here known = each_append _ (take index us) (new ∷ drop index us) (each_take _ index us known) (here, each_drop _ index us known)
 
@@ -438,7 +438,7 @@ still_new : (s : Uses) (u : Use) (vs : List Use) → AllByRecursion (λ v. use_c
 still_new s u [] above new = tt
 still_new s u (v ∷ vs) above new = (holds-with use_total use_exact s u v ∙ (λ i. greater_differs u v above.0 i || new.0 i), still_new s u vs above.1 new.1)
 
--- a set has as many uses more as are put in that it does not hold
+-- adding uses that the set does not hold adds their number to its count
 count_new : (s : Uses) (us : List Use) → IsRising us → AllByRecursion (λ u. holds s u ≡ false) us → count (with_all s us) ≡ count s + length us
 unfolding IsStrictlySortedBy
 count_new s [] up new = omega arith
@@ -446,7 +446,7 @@ count_new s (u ∷ us) up new =
     let one : count (with s u) ≡ count s + 1 = count-with s u ∙ ap (λ b. cond b (count s) (count s + 1)) new.0 in
     omega (arith, one, count_new (with s u) us up.1 (still_new s u us up.0 new.1))
 
--- uses put in that the store does not hold
+-- uses are added that the store does not hold
 pub runs_all : (runs rest : List (List Use)) (total : ℕ) (s : Uses) (new : List Use) → IsStored runs total s → IsRising new → AllByRecursion (λ u. holds s u ≡ false) new → ArePutIn new runs rest → IsStored rest (total + length new) (with_all s new)
 runs_all runs rest total s new was up absent put =
     let sets : uses_in (all_of rest) ≡ with_all s new = same_uses _ _ (λ q.
@@ -464,7 +464,7 @@ runs_all runs rest total s new was up absent put =
       view = sets;
     }
 
--- one run that has new uses too, in its place
+-- one run that also has new uses, in its old position
 set_has : (p : Use → Bool) (new : List Use) (runs : List (List Use)) (i : ℕ) (run now : List Use) → i < length runs → run ≡ get_or runs i run → list_any p now ≡ (list_any p new || list_any p run) → list_any p (all_of (set runs i now)) ≡ (list_any p new || list_any p (all_of runs))
 set_has p new [] i run now within at has = absurd (omega (arith, within))
 set_has p new (r ∷ rs) zero run now within at has =
@@ -485,7 +485,7 @@ put_in_place new runs rest i run now within at same less is =
       few = λ few. omega (arith, few, ap length is, length-set runs i now);
     }
 
--- a run of them behind the others
+-- a run of them after the others
 pub put_behind : (new : List Use) (runs rest : List (List Use)) (run : List Use) → run ≡ new → (length runs ≤ 64 → length runs < 64) → rest ≡ runs ++ run ∷ [] → ArePutIn new runs rest
 put_behind new runs rest run same room is =
     let all : all_of rest ≡ all_of runs ++ new = ap all_of is ∙ all_append runs (run ∷ []) ∙ ap (λ us. all_of runs ++ us) (append-nil run ∙ same) in
@@ -513,7 +513,7 @@ merged_has new run other now is same q =
 pub merged_less : (new run other now : List Use) → now ≡ merge use_cmp run other → other ≡ new → length now ≤ length new + length run
 merged_less new run other now is same = omega (arith, ap length is, merge_length use_cmp run other, ap length same)
 
--- the last run merged into the one in front of it, and taken off
+-- the last run merged into the one before it, and removed
 pub merged_two : (rs lent front last back over now : List (List Use)) (count n : ℕ) (older newer merged : List Use) → 2 ≤ count → count ≡ length rs → count ≤ n → lent ≡ rs → front ≡ take (count - 1) lent → older ≡ get_or front (count - 2) older → last ≡ drop (count - 1) lent → newer ≡ get_or last 0 newer → merged ≡ merge use_cmp older newer → now ≡ take (count - 1) (take n ((set front (count - 2) merged ++ back) ++ over)) → AreMerged rs now
 merged_two rs lent front last back over now count n older newer merged two long room same part at_older rest at_last made after =
     let is : front ≡ take (count - 1) rs = part ∙ ap (take (count - 1)) same in
@@ -548,7 +548,7 @@ each_filled rs =
     let test = λ (run : List Use). not (nat_eq (length run) 0) in
     each_weaker (λ run. test run ≡ true) _ (λ run e. grind (arith, nat_tests, e)) (filter test rs) (recursion_from_All _ (filter test rs) (filter_passes test rs))
 
--- a run with a use put in, and a filter
+-- a run and its filter after a use was added
 pub run_grown : (now : List Use) (start : ℕ) (keys : List Expiry) (key_filter : List ℕ) → start ≤ length now → IsRising (drop start now) → AreKeys keys → 0 < length key_filter → AllByRecursion (λ u. HasBits key_filter u.key) (drop start now) → IsRun now start false keys None key_filter
 run_grown now start keys key_filter bound up sorted some known = record {
   bound = bound;
@@ -560,7 +560,7 @@ run_grown now start keys key_filter bound up sorted some known = record {
   known = known;
 }
 
--- the same with other keys that tell of its uses
+-- the same with other keys that stand for its uses
 pub run_keyed : (items told us : List Use) (start : ℕ) (keyed : Bool) (keys others : List Expiry) (expired_by : Option ℕ) (key_filter : List ℕ) → IsRun items start keyed keys expired_by key_filter → drop start items ≡ told → us ≡ told → AreKeys others → TellUses others us → IsRun items start true others None key_filter
 run_keyed items told us start keyed keys others expired_by key_filter is view same sorted tells = record {
   bound = is.bound;
@@ -576,7 +576,7 @@ pub keys_none : (keys : List Expiry) → keys ≡ [] → AreKeys keys
 unfolding IsStrictlySortedBy
 keys_none keys e = subst AreKeys (sym e) tt
 
--- as a vector is after a change by its slice
+-- a vector after a change through its slice
 pub written_back : (n : ℕ) (now old : List ℕ) → length now ≡ n → take n (now ++ drop (length now) old) ≡ now
 written_back n now old long = take-append-le n now (drop (length now) old) (omega (arith, long)) ∙ take_all n now (omega (arith, long))
 
@@ -589,7 +589,7 @@ longer_by_one run now new up rises is =
       | false ↦ λ e. omega (arith, e, before, after)
     ] (ap count is ∙ count-with (uses_in run) new)
 
--- what a run has with a use put in
+-- what a run has after a use was added
 pub has_with : (run now : List Use) (new : Use) → IsRising run → uses_in now ≡ with (uses_in run) new → HasSame (new ∷ run) now
 has_with run now new up is q =
     sym (holds-uses_in now q) ∙ ap (λ t. holds t q) is ∙ holds-with use_total use_exact (uses_in run) new q ∙ ap (λ b. eq_by_cmp use_cmp q new || b) (holds-uses_in run q)
@@ -615,7 +615,7 @@ with_new held s us view = same_uses _ _ (λ q.
     holds-with_all use_total use_exact s (new_among held us) q ∙ ap (λ b. b || holds s q) (any-filter (λ u. not (list_any (eq_by_cmp use_cmp u) held)) q us ∙ ap (λ h. not h && list_any (eq_by_cmp use_cmp q) us) has)
     ∙ left_or_held (holds s q) (list_any (eq_by_cmp use_cmp q) us) ∙ sym (holds-with_all use_total use_exact s us q))
 
--- one use more looked at
+-- after one more use was checked
 pub new_more : (held us now : List Use) (i : ℕ) (d : Use) → i < length us → now ≡ new_among held (take i us) → not (list_any (eq_by_cmp use_cmp (get_or us i d)) held) ≡ true → now ++ get_or us i d ∷ [] ≡ new_among held (take (i + 1) us)
 new_more held us now i d within so_far e =
     let test = λ (u : Use). not (list_any (eq_by_cmp use_cmp u) held) in

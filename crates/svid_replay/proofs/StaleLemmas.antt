@@ -4,7 +4,7 @@ use Rattle.svid_replay.specs.declared.token_use.Use.{Use}
 use Rattle.svid_replay.proofs.ListLemmas.{filter-in, filter-out}
 
 -- how many of some uses pass a test, while those that fail are taken off
--- so many are those that passed, and all that come behind
+-- the count is that of those that passed, and of all that follow
 pub record HasCounted (test : Use → Bool) (all front : List Use) (counted : ℕ) : Type 0 where
   pub value : counted + length front ≡ length all + length (filter test front)
 

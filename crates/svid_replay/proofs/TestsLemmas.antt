@@ -47,7 +47,7 @@ and-comm true false = refl
 and-comm false true = refl
 and-comm false false = refl
 
--- tests of which each passes where the other does
+-- two tests that imply each other are the same
 pub one_test : (a b : Bool) → (a ≡ true → b ≡ true) → (b ≡ true → a ≡ true) → a ≡ b
 one_test true b p q = sym (p refl)
 one_test false true p q = q refl

@@ -90,7 +90,7 @@ from_any P (k ∷ ks) f =
 each_key : (P : List ℕ → Type 0) (us : List Use) → AllByRecursion (λ u. P u.key) us → AllByRecursion P (keys_of us)
 each_key P us h = from_any P (keys_of us) (λ q any. found (λ u. P u.key) (has_key q) (P q) us h (sym (any-keys_of us q) ∙ any) (λ u k e. subst P (sym (key_exact q u.key (equal _ e))) k))
 
--- the uses of the least key of sorted uses stand in front
+-- the uses of the least key come first among sorted uses
 first_is_less : (r : Ordering) → is_lt (ordering_reverse r) ≡ false → is_eq r ≡ false → r ≡ Less
 first_is_less Less h e = refl
 first_is_less Equal h e = cc
@@ -103,7 +103,7 @@ less_or_same a b c Greater e l h =
     let back : bytes_cmp c b ≡ Less = key_total.antisymm c b ∙ ap ordering_reverse e in
     absurd (subst T (sym (ap is_lt back) ∙ h) tt)
 
--- where uses that don't fall below a key, sorted by key, are split behind those of the key
+-- uses that don't fall below a key, sorted by key, are split after those of the key
 record IsSplit (key : List ℕ) (us : List Use) : Type 0 where
   same : AllByRecursion (λ v. has_key key v ≡ true) (take (prefix_len (has_key key) us) us)
   above : AllByRecursion (λ v. bytes_cmp key v.key ≡ Less) (drop (prefix_len (has_key key) us) us)
@@ -129,7 +129,7 @@ splits key (u ∷ us) low up =
           }
     ] refl
 
--- one group more
+-- one more group
 abbrev two : Twice → Bool
 two t = nat_lt 1 (length t.uses)
 
@@ -180,7 +180,7 @@ none_listed = ap (λ ks. filter two (map (entry []) ks)) (same-keys_of [] [] tt 
 pub has_listed_none : (sorted : List Use) → IsKeySorted sorted → HasListed sorted sorted []
 has_listed_none sorted up = record { front = []; parts = refl; left = up; below = tt; value = sym none_listed }
 
--- the first of the uses with those of its key behind it, and the rest
+-- the first of the uses with those of its key after it, and the rest
 group_of : Use → List Use → List Use
 group_of r rs = r ∷ take (prefix_len (has_key r.key) rs) rs
 

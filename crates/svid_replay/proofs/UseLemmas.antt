@@ -19,7 +19,7 @@ use_of_fields u exp long_key key long_validator_id validator_id at =
     let bytes = λ (n : ℕ) (bs : List ℕ) (long : length bs ≡ n) (each : (i : ℕ) → get_or bs i 0 < 256). let found : IsBytes n bs = record { size = long; each = All-from_get_or (λ b. b < 256) bs 0 (λ i _. each i) } in found in
     record { exp = exp; key = bytes 32 u.key long_key key; validator_id = bytes 16 u.validator_id long_validator_id validator_id; at = at }
 
--- five pieces put one behind the other fill a text of 65 bytes
+-- five pieces, one after the other, fill a text of 65 bytes
 pub pieces_fill : (t1 t2 t3 t4 t5 a b c d : List ℕ) (k : ℕ) (u : Use) → a ≡ to_be_bytes w64 u.exp → b ≡ u.key → c ≡ u.validator_id → d ≡ to_be_bytes w64 u.at → k ≡ from_bool u.withdrawn → length b ≡ 32 → length c ≡ 16 → take (0 + length a) t1 ≡ a → take (8 + length b) t2 ≡ take 8 t1 ++ b → take (40 + length c) t3 ≡ take 40 t2 ++ c → take (56 + length d) t4 ≡ take 56 t3 ++ d → take 65 t5 ≡ take 64 t4 ++ k ∷ [] → length t5 ≡ 65 → t5 ≡ text_of u
 unfolding text_of front_text
 pieces_fill t1 t2 t3 t4 t5 a b c d k u ea eb ec ed ek lb lc p1 p2 p3 p4 p5 l5 =
@@ -40,7 +40,7 @@ ordering_then-Equal Less = refl
 ordering_then-Equal Equal = refl
 ordering_then-Equal Greater = refl
 
--- rows that begin with parts of one length are compared by these parts, and then by the rest
+-- rows that begin with parts of equal length are compared by these parts, and then by the rest
 pub bytes_cmp-append : (a b c d : List ℕ) → length a ≡ length b → bytes_cmp (a ++ c) (b ++ d) ≡ ordering_then (bytes_cmp a b) (bytes_cmp c d)
 bytes_cmp-append [] [] c d e = refl
 bytes_cmp-append [] (y ∷ ys) c d e = absurd (omega arith)
@@ -51,7 +51,7 @@ bytes_cmp-append (x ∷ xs) (y ∷ ys) c d e = ap (ordering_then (nat_cmp x y)) 
 nat_cmp-div : (x y : ℕ) → nat_cmp x y ≡ ordering_then (nat_cmp (x / 256) (y / 256)) (nat_cmp (x % 256) (y % 256))
 nat_cmp-div x y = grind (arith, nat_tests)
 
--- the last k base-256 digits of a number, the greatest first
+-- the last k base-256 digits of a number, most significant first
 digits : ℕ → ℕ → List ℕ
 digits zero n = []
 digits (suc k) n = digits k (n / 256) ++ n % 256 ∷ []
@@ -78,14 +78,14 @@ nat_cmp-to_be_bytes : (x y : ℕ) → x < 2 ^ 64 → y < 2 ^ 64 → nat_cmp x y 
 nat_cmp-to_be_bytes x y h g =
     nat_cmp-digits 8 x y h g ∙ sym (ap (λ (a : List ℕ). bytes_cmp a (to_be_bytes w64 y)) (to_be_bytes-digits x) ∙ ap (bytes_cmp (digits 8 x)) (to_be_bytes-digits y))
 
--- the bytes 0 and 1 are compared as what they stand for
+-- the bytes 0 and 1 are compared as the values that they encode
 bool_cmp-bytes : (x y : Bool) → bool_cmp x y ≡ bytes_cmp (from_bool x ∷ []) (from_bool y ∷ [])
 bool_cmp-bytes false false = refl
 bool_cmp-bytes false true = refl
 bool_cmp-bytes true false = refl
 bool_cmp-bytes true true = refl
 
--- rows of five parts of like lengths are compared part by part
+-- rows of five parts of equal lengths are compared part by part
 bytes_cmp-parts : (e f k l p q a b c d : List ℕ) → length e ≡ length f → length k ≡ length l → length p ≡ length q → length a ≡ length b → bytes_cmp (e ++ k ++ p ++ a ++ c) (f ++ l ++ q ++ b ++ d) ≡ ordering_then (bytes_cmp e f) (ordering_then (bytes_cmp k l) (ordering_then (bytes_cmp p q) (ordering_then (bytes_cmp a b) (bytes_cmp c d))))
 bytes_cmp-parts e f k l p q a b c d le lk lp la =
     let two : length (e ++ k) ≡ length (f ++ l) = omega (arith, length-append e k, length-append f l) in
@@ -119,7 +119,7 @@ exact_kinds true true e = refl
 exact_kinds false true e = cc
 exact_kinds true false e = cc
 
--- uses that tie are the same
+-- uses that compare as equal are the same
 pub use_exact : IsAntisymmetric use_cmp
 use_exact u v e =
     let one = both_equal (nat_cmp u.exp v.exp) _ e in

@@ -26,7 +26,7 @@ use Rattle.svid_replay.proofs.SetsLemmas.{holds-union as of_union}
 use Rattle.svid_replay.proofs.TestsLemmas.{equal, is_less, same_some, or-comm, and-comm}
 use Rattle.svid_replay.proofs.UseLemmas.{use_total, use_exact}
 
--- the words on sets, each by the uses that it holds
+-- the definitions on sets, each by the uses that it holds
 pub holds-uses_in : (us : List Use) (u : Use) → holds (uses_in us) u ≡ list_any (eq_by_cmp use_cmp u) us
 holds-uses_in us u = holds-set_of use_total use_exact us u
 
@@ -45,7 +45,7 @@ rising-uses_in us up = same_rising use_total use_exact (rising (uses_in us)) us 
 pub uses_in-rising : (s : Uses) → uses_in (rising s) ≡ s
 uses_in-rising s = same_uses (uses_in (rising s)) s (λ u. holds-uses_in (rising s) u ∙ sym (holds-rising use_cmp s u))
 
--- the laws of the words on sets
+-- the laws of the definitions on sets
 pub no_uses_hold_none : NoUsesHoldNone
 no_uses_hold_none u = holds-empty use_cmp u
 
@@ -69,7 +69,7 @@ rising_has_held s u =
 pub same_held_same_set : SameHeldSameSet
 same_held_same_set s t is = same_uses s t is
 
--- a set of which none are counted is that of no uses
+-- a set whose count is 0 is the set of no uses
 pub counts_none : (s : Uses) (n : ℕ) → n ≡ count s → IsTrue (nat_eq n 0) ↔ (s ≡ no_uses)
 unfolding IsStrictlySortedBy
 counts_none s n e = (
@@ -115,7 +115,7 @@ rising-keep test s =
     ap (λ (t : Uses). rising (keep test t)) (sym (uses_in-rising s)) ∙ ap rising (sym (uses_in-filter test (rising s)))
     ∙ rising-uses_in (filter test (rising s)) (IsStrictlySortedBy-filter use_cmp test (rising s) (rising_rises use_cmp s))
 
--- a use put in behind a front that is left off
+-- a use inserted after a prefix that is left off
 pub drop-insert : (n i : ℕ) (us : List Use) (new : Use) → n ≤ length us → drop n (insert us (n + i) new) ≡ insert (drop n us) i new
 drop-insert zero i us new within = let e : 0 + i ≡ i = omega arith in ap (λ k. insert us k new) e
 drop-insert (suc n) i [] new within = absurd (omega (arith, within))
@@ -145,7 +145,7 @@ greater u v e = use_total.antisymm v u ∙ ap ordering_reverse e
 sorted_from_rising : (us : List Use) → IsRising us → IsSorted use_cmp us
 sorted_from_rising us up = λ k d low h. ap is_lt (use_total.antisymm (get_or us (k + 1) d) (get_or us k d) ∙ ap ordering_reverse (Less-from_sorted use_cmp us k (k + 1) d up (omega arith) h))
 
--- the index that a search for a use has found, where it has not found the use
+-- the index that a search for a use has found, where the use is not there
 pub record IsIndex (us : List Use) (new : Use) (i : ℕ) : Type 0 where
   pub bound : i ≤ length us
   pub point : IsPartitionPoint (λ u. use_cmp u new ≡ Less) (λ u. use_cmp u new ≡ Greater) us i
@@ -169,7 +169,7 @@ index_is_free us new i is =
     ∙ ap (λ b. b || list_any tied (drop i us)) (any_none tied (take i us) (each_weaker (λ u. use_cmp u new ≡ Less) _ (λ u e. ap is_eq (use_total.antisymm new u ∙ ap ordering_reverse e)) (take i us) (each_before _ us i is.point.0)))
     ∙ any_none tied (drop i us) (each_weaker (λ u. use_cmp u new ≡ Greater) _ (λ u e. ap is_eq (greater u new e)) (drop i us) (each_behind _ us i is.point.1))
 
--- tests that a front of rising uses alone passes
+-- tests that only a prefix of rising uses passes
 pub less_exp : (u v : Use) → use_cmp u v ≡ Less → u.exp ≤ v.exp
 less_exp u v less = by_ranked (u.exp < v.exp) (u.exp ≡ v.exp) (v.exp < u.exp) (nat_cmp u.exp v.exp) (ranked u.exp v.exp (nat_cmp u.exp v.exp) refl) (λ _ h. omega arith) (λ _ h. omega arith) (λ e h. absurd (subst T (ap is_lt (sym less ∙ ap (λ (r : Ordering). ordering_then r (ordering_then (slice_cmp nat_cmp u.key v.key) (ordering_then (slice_cmp nat_cmp u.validator_id v.validator_id) (ordering_then (nat_cmp u.at v.at) (bool_cmp u.withdrawn v.withdrawn))))) e)) tt))
 
@@ -184,7 +184,7 @@ expired_parted moment us up = parted_by use_cmp (λ u. not (nat_lt moment u.exp)
 pub not_after_parted : (last : Use) (us : List Use) → IsRising us → IsPartitionedBy (λ u. not (is_after (Some last) u)) us
 not_after_parted last us up = parted_by use_cmp (λ u. not (is_after (Some last) u)) (λ u v less e. not_before last u v less e (use_cmp last u) refl) us up
 
--- the uses in front of a index are those that are not greater, if the one in front of it is not and the one there is
+-- an index splits the uses that are not greater from the others, if the use before it is not greater and the one at it is
 pub index_is : (last : Use) (us : List Use) (i : ℕ) (d e : Use) → IsRising us → i ≤ length us → (0 < i → is_after (Some last) (get_or us (i - 1) d) ≡ false) → (i < length us → is_after (Some last) (get_or us i e) ≡ true) → i ≡ prefix_len (λ u. not (is_after (Some last) u)) us
 index_is last us i d e up bound front rest =
     let p = λ (u : Use). not (is_after (Some last) u) in
@@ -194,18 +194,18 @@ not_not : (b : Bool) → not (not b) ≡ b
 not_not true = refl
 not_not false = refl
 
--- what is not greater is a front
+-- the uses that are not greater are a prefix
 pub filter_is_rest : (last : Use) (us : List Use) → IsRising us → drop (prefix_len (λ u. not (is_after (Some last) u)) us) us ≡ filter (is_after (Some last)) us
 filter_is_rest last us up = drop-parted (λ u. not (is_after (Some last) u)) us (not_after_parted last us up) ∙ filter_agree _ _ (λ u. not_not (is_after (Some last) u)) us
 
 pub drop-expired : (moment : ℕ) (us : List Use) → IsRising us → drop (prefix_len (λ u. not (nat_lt moment u.exp)) us) us ≡ filter (λ u. nat_lt moment u.exp) us
 drop-expired moment us up = drop-parted (λ u. not (nat_lt moment u.exp)) us (expired_parted moment us up) ∙ filter_agree _ _ (λ u. not_not (nat_lt moment u.exp)) us
 
--- the list in a sorted vector, and the set that it stands for
+-- the list in a sorted vector, and the set that it represents
 pub stored : (us : List Use) (s : Uses) → IsRising us → uses_in us ≡ s → rising s ≡ us
 stored us s up e = ap rising (sym e) ∙ rising-uses_in us up
 
--- what is left of rising uses where the expired ones in front are cut off
+-- what is left of rising uses after the expired prefix is cut off
 pub record IsPruned (us : List Use) (moment dropped : ℕ) (left : List Use) : Type 0 where
   pub front : dropped ≡ prefix_len (λ u. not (nat_lt moment u.exp)) us
   pub rest : left ≡ drop dropped us
@@ -233,7 +233,7 @@ find_kept p [] = refl
 find_kept p (u ∷ us) = elim (p u) as (λ b. slice_get (cond b (u ∷ filter p us) (filter p us)) 0 ≡ cond b (Some u) (find p us)) [ true ↦ refl | false ↦ find_kept p us ]
 
 -- a walk from each use to the next
--- the uses in front are those that a walk has passed, and the rest are after the last of them
+-- the first uses are those that a walk has passed, and the rest come after the last of them
 pub record IsWalked (us : List Use) (after : Option Use) (front : List Use) : Type 0 where
   pub parts : us ≡ front ++ filter (is_after after) us
 

@@ -1,4 +1,4 @@
--- Walks: what comes next in several lists, and stretches of a list.
+-- Walks: the next uses of several lists, and parts of a list.
 use borrow.Rule.Slice.PartMut.{post_of, put_mid}
 use Rattle.std.proofs.Common.{◌≡◌, ℕ, ◌<◌, ◌≤◌, ◌+◌, ◌-◌, zero, suc, Bool, true, false, cond, not, ◌||◌, ◌&&◌, List, [], ◌∷◌, ◌++◌, length, take, drop, get_or, Bor, filter, find, min, nat_eq, nat_lt, slice_get, Option, Some, None, refl, sym, ◌∙◌, ap, subst, arith, ⊎_elim}
 use Rattle.std.proofs.Math.Seq.{drop-cons, take-append-add, take-append_seam}
@@ -38,7 +38,7 @@ take_cut zero xs ys = refl
 take_cut (suc n) [] ys = refl
 take_cut (suc n) (x ∷ xs) ys = ap (λ zs. x ∷ zs) (take_cut n xs ys)
 
--- of two lists in one, the first come from the first of the one
+-- the first of two merged lists come from the first of each
 pub take_merged : {K : Type 0} (R : K → K → Ordering) (n m : ℕ) → n ≤ m → (xs ys : List K) → take n (merge R (take m xs) ys) ≡ take n (merge R xs ys)
 take_merged R zero m le xs ys = refl
 take_merged R (suc n) zero le xs ys = absurd (omega arith)
@@ -57,12 +57,12 @@ take_rises R zero xs up = tt
 take_rises R (suc n) [] up = tt
 take_rises R (suc n) (x ∷ xs) up = (each_take (λ y. R x y ≡ Less) n xs up.0, take_rises R n xs up.1)
 
--- where all of the one come before the first of the other
+-- where all of one list come before the first of the other
 merge_before : {K : Type 0} (R : K → K → Ordering) (xs : List K) (y : K) (ys : List K) → AllByRecursion (λ x. R x y ≡ Less) xs → merge R xs (y ∷ ys) ≡ xs ++ (y ∷ ys)
 merge_before R [] y ys below = refl
 merge_before R (x ∷ xs) y ys below = ap (λ o. match_ordering o (x ∷ merge R xs (y ∷ ys)) (x ∷ merge R xs ys) (y ∷ merge R (x ∷ xs) ys)) below.0 ∙ ap (λ zs. x ∷ zs) (merge_before R xs y ys below.1)
 
--- where the last of the one comes before the first of the other
+-- where the last of one list comes before the first of the other
 pub apart_merged : (us vs : List Use) (k : ℕ) (d e : Use) → IsRising us → length us ≡ suc k → is_lt (use_cmp (get_or us k d) (get_or vs 0 e)) ≡ true → 1 ≤ length vs → merge use_cmp us vs ≡ us ++ vs
 apart_merged us vs k d e rises long less some =
     let y = get_or vs 0 e in
@@ -91,7 +91,7 @@ room_alone room uses self same few none =
     let nothing = nil_from_length uses (omega arith) in
     ap (take 64) (merge_second_done use_cmp self uses nothing ∙ ap (λ us. self ++ us) nothing ∙ append-nil self) ∙ take_all 64 self (omega (arith, ap length same))
 
--- what comes next in a list and in a run beside it
+-- the next uses of a list and of a run beside it
 and-or : (p a b : Bool) → (p && (a || b)) ≡ ((p && a) || (p && b))
 and-or true a b = refl
 and-or false a b = refl
@@ -118,7 +118,7 @@ few_none after = ap (λ us. take 64 (filter (is_after after) us)) (sym (rising-u
 few_rises : (s : Uses) (after : Option Use) → IsRising (next_few s after)
 few_rises s after = take_rises use_cmp 64 (filter (is_after after) (rising s)) (IsStrictlySortedBy-filter use_cmp (is_after after) (rising s) (rising_rises use_cmp s))
 
--- the room of a walk over runs, with one run more
+-- the room of a walk over runs, with one more run
 pub few_more : (us : List Use) (after : Option Use) (run rest room next : List Use) → IsRising run → rest ≡ filter (is_after after) run → room ≡ next_few (uses_in us) after → (IsRising room → next ≡ take 64 (merge use_cmp room rest)) → next ≡ next_few (uses_in (us ++ run)) after
 few_more us after run rest room next up behind before is =
     is (subst IsRising (sym before) (few_rises (uses_in us) after)) ∙ (λ k. take 64 (merge use_cmp (before k) (behind k))) ∙ few_merged us run after up
@@ -142,7 +142,7 @@ room_done n room rest whole e none few = sym (take_all n room few) ∙ ap (take 
 
 -- what is left to a walk
 
--- behind the last of the first uses come the others
+-- after the last of the first uses come the others
 behind_first : (n : ℕ) (us : List Use) (after : Option Use) → IsRising us → filter (is_after (last_of after (take n (filter (is_after after) us)))) us ≡ drop n (filter (is_after after) us)
 behind_first zero us after up = refl
 behind_first (suc n) us after up =
@@ -151,18 +151,18 @@ behind_first (suc n) us after up =
       | Some u ↦ λ e. let is = next_is after us u up e in ap (λ ws. filter (is_after (last_of after (take (suc n) ws))) us) is ∙ behind_first n us (Some u) up ∙ ap (drop (suc n)) (sym is)
     ] refl
 
--- a room that was filled has the first of what is left, and the rest is behind the last of them
+-- a filled room has the first of the uses that are left, and the others come after its last
 pub refilled : (s : Uses) (before after : Option Use) (room : List Use) → room ≡ next_few s before → after ≡ last_of before room → room ++ uses_behind s after ≡ uses_behind s before
 refilled s before after room is last =
     ap (λ o. room ++ uses_behind s o) (last ∙ ap (last_of before) is) ∙ ap (λ ws. ws ++ uses_behind s (last_of before (next_few s before))) is
     ∙ ap (λ ws. next_few s before ++ ws) (behind_first 64 (rising s) before (rising_rises use_cmp s)) ∙ take-append-drop 64 (uses_behind s before)
 
--- it has none: then nothing is left
+-- the filled room is empty: then nothing is left
 pub refilled_none : (s : Uses) (before after : Option Use) (room : List Use) → room ≡ next_few s before → after ≡ last_of before room → room ≡ [] → uses_behind s after ≡ []
 refilled_none s before after room is last none =
     nil_from_length (uses_behind s after) (omega (arith, ap length none, ap length (refilled s before after room is last), ap length is, length-take 64 (uses_behind s before), length-append room (uses_behind s after)))
 
--- a room with more uses behind those that it has
+-- a room with more uses after those that it has
 pub room_extended : (uses mid more now : List Use) (len count gap : ℕ) → length uses ≡ 64 → len ≤ 64 → take len uses ≡ now → count ≡ min (length more) (64 - len) → mid ≡ take count more → take (len + count) (put_mid len gap uses mid) ≡ take 64 (now ++ more)
 room_extended uses mid more now len count gap full few view least is =
     let long : length now ≡ len = ap length (sym view) ∙ length-take len uses ∙ omega (arith, full) in
@@ -196,7 +196,7 @@ room_more us after begin room next u up e few parts not_full pushed =
     pushed_few : suc (length room) ≤ 64
     pushed_few = grind (arith, nat_tests)
 
--- the last of some uses stands in front of their end
+-- the last of some uses is before their end
 pub last_is : (before : Option Use) (us : List Use) (d : Use) → 1 ≤ length us → Some (get_or us (length us - 1) d) ≡ last_of before us
 last_is before [] d some = absurd (omega arith)
 last_is before (u ∷ []) d some = refl
@@ -204,7 +204,7 @@ last_is before (u ∷ v ∷ us) d some =
     let e : length (u ∷ v ∷ us) - 1 ≡ suc (length (v ∷ us) - 1) = omega arith in
     ap (λ n. Some (get_or (u ∷ v ∷ us) n d)) e ∙ last_is (Some u) (v ∷ us) d (omega arith)
 
--- a room that was filled gives the first of what is left
+-- a filled room gives the first of the uses that are left
 pub gives_first : (s : Uses) (before after : Option Use) (given room whole : List Use) (r : Option Use) → given ++ uses_behind s before ≡ whole → given ≡ [] → room ≡ next_few s before → after ≡ last_of before room → r ≡ slice_get room 0 → YieldsFirst {S = List Use} (λ w. w) whole r (drop 1 room ++ uses_behind s after)
 gives_first s before after given room whole r view none is last first =
     subst (λ o. YieldsFirst {S = List Use} (λ w. w) whole o (drop 1 room ++ uses_behind s after)) (sym first) (from room refl)
@@ -223,7 +223,7 @@ pub goes_on : (can : List Use → Type 0) → ((w : List Use) → can w) → (s 
 goes_on can every s None t h = record { on = λ f. tt; keeps = tt; rests = λ f. tt }
 goes_on can every s (Some u) t h = record { on = λ f. (every t, tt, omega (arith, ap length h)); keeps = every t; rests = λ f. tt }
 
--- where nothing stands at a index, nothing stands behind it
+-- where there is nothing at an index, there is nothing after it
 pub none_at : (us at_hand : List Use) (n : ℕ) (r : Option (Bor Use)) → at_hand ≡ us → is_some r ≡ nat_lt n (length at_hand) → option_copied r ≡ None → drop n us ≡ []
 none_at us at_hand n None same is none =
     let past : length us ≤ n = grind (arith, nat_tests, is, ap length same) in

@@ -40,7 +40,7 @@ summary_of r = record { moment = r.moment; digests = digests_of r.uses }
 abbrev pub differ_at : List (List ℕ) → List (List ℕ) → Use → Bool
 differ_at own others u = not (is_eq (bytes_cmp (slice_index_or own (bucket_of u) []) (slice_index_or others (bucket_of u) [])))
 
--- the digest of a use's bucket is another than the summary's
+-- the digest of a use's bucket differs from the summary's
 abbrev pub differs : SummaryData → Uses → Use → Bool
 differs s uses u = differ_at (digests_of uses) s.digests u
 
@@ -48,11 +48,12 @@ differs s uses u = differ_at (digests_of uses) s.digests u
 unfoldable pub stale : SummaryData → Uses → Uses
 stale s uses = keep (differs s uses) uses
 
--- a record raised to a moment
+-- a record advanced to a moment
 abbrev pub raised_to : State → ℕ → State
 raised_to r moment = join r (state_of moment [])
 
--- the answer to a summary: of the record raised to the summary's moment, the uses of all buckets whose digest differs, as batches
+-- the answer to a summary: advance the record to the summary's moment, and give the uses of all buckets whose digest differs, as
+-- batches
 unfoldable pub answer_to : State → SummaryData → List BatchData
 answer_to r s = cut (raised_to r s.moment).moment (rising (stale s (raised_to r s.moment).uses))
 
@@ -60,11 +61,11 @@ answer_to r s = cut (raised_to r s.moment).moment (rising (stale s (raised_to r 
 abbrev pub BucketHoldsItsUses : Type 0
 BucketHoldsItsUses = (b : ℕ) (s : Uses) (u : Use) → holds (bucket b s) u ≡ (holds s u && (bucket_of u == b))
 
--- `stale` holds the uses that the set holds and of whose bucket the digest differs
+-- `stale` holds the uses of the set whose bucket's digest differs
 abbrev pub StaleHoldsDiffering : Type 0
 StaleHoldsDiffering = (summary : SummaryData) (s : Uses) (u : Use) → holds (stale summary s) u ≡ (holds s u && differs summary s u)
 
--- a raised record is a record
+-- an advanced record is a record
 abbrev pub RaisedIsRecord : Type 0
 RaisedIsRecord = (r : State) (moment : ℕ) → IsRecord r → moment < 2 ^ 64 → IsRecord (raised_to r moment)
 

@@ -6,7 +6,7 @@ use Rattle.svid_replay.specs.declared.token_use.Use.{Use}
 use Rattle.svid_replay.specs.Runs.{HasBits}
 use Rattle.svid_replay.specs.Twice.{used, uses_of}
 
--- the number whose bytes are the first 8 of the key, the greatest first
+-- the number whose bytes are the first 8 of the key, most significant first
 unfoldable pub prefix_of : List ℕ → ℕ
 prefix_of key = from_be_bytes w64 (take 8 key)
 

@@ -6,7 +6,7 @@ use Rattle.svid_replay.specs.Sets.{holds, union}
 use Rattle.svid_replay.specs.Use.{IsUse}
 use Rattle.svid_replay.specs.Uses.{Uses, uses_in, uses_code, live}
 
--- what a record tells: a moment, and a set of uses
+-- the content of a record: a moment, and a set of uses
 pub record State : Type 0 where
   pub moment : ℕ
   pub uses : Uses
@@ -21,7 +21,7 @@ pub record IsHeldAt (moment : ℕ) (u : Use) : Type 0 where
   pub made : u.at ≤ moment
   pub live : moment < u.exp
 
--- what a record may tell: each of its uses was made by its moment and expires later
+-- what a record may have: each of its uses was made by its moment and expires later
 pub record IsRecord (r : State) : Type 0 where
   pub moment : r.moment < 2 ^ 64
   pub each : (u : Use) → IsTrue (holds r.uses u) → IsHeldAt r.moment u
@@ -34,11 +34,12 @@ join a b = record { moment = max a.moment b.moment; uses = live (union a.uses b.
 abbrev pub state_of : ℕ → List Use → State
 state_of moment us = record { moment = moment; uses = uses_in us }
 
--- what a batch tells, as a record does
+-- the content of a batch, as that of a record
 abbrev pub batch_state : BatchData → State
 batch_state b = state_of b.moment b.uses
 
--- where memory was refused: the old record joined with the other's moment and the uses in front of one that is live and not in the record
+-- where memory was refused: the old record joined with the other's moment and the uses before one that is live and not in the
+-- record
 pub record IsPartlyJoined (old new : State) (moment : ℕ) (us : List Use) : Type 0 where
   pub front : List Use
   pub refused : Use
@@ -52,7 +53,7 @@ pub record IsPartlyJoined (old new : State) (moment : ℕ) (us : List Use) : Typ
 abbrev pub HasNoNew : State → ℕ → List Use → Type 0
 HasNoNew r moment us = (u : Use) → Contains us u → max r.moment moment < u.exp → IsTrue (holds r.uses u)
 
--- of what the one record or the other holds, a join holds what expires after the greater moment
+-- a join holds what either record holds and expires after the greater moment
 abbrev pub JoinHoldsUnexpired : Type 0
 JoinHoldsUnexpired = (a b : State) (u : Use) → holds (join a b).uses u ≡ ((holds a.uses u || holds b.uses u) && nat_lt (max a.moment b.moment) u.exp)
 

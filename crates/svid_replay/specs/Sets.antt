@@ -10,7 +10,7 @@ Set R = finmap.FinMap R (Unit {0})
 unfoldable pub empty : {K : Type 0} (R : K → K → Ordering) → Set R
 empty R = finmap.empty {R = R}
 
--- the set with one thing more
+-- the set with one more thing
 unfoldable pub with : {K : Type 0} {R : K → K → Ordering} → Set R → K → Set R
 with s k = finmap.insert s k tt
 
@@ -26,7 +26,7 @@ holds s k = finmap.contains_key s k
 unfoldable pub rising : {K : Type 0} {R : K → K → Ordering} → Set R → List K
 rising s = finmap.keys s
 
--- the set and a list's things
+-- the set with the things of a list
 abbrev pub with_all : {K : Type 0} {R : K → K → Ordering} → Set R → List K → Set R
 with_all s [] = s
 with_all s (k ∷ ks) = with_all (with s k) ks

@@ -55,19 +55,19 @@ next_above s after = find (is_after after) (rising s)
 abbrev pub NoUsesHoldNone : Type 0
 NoUsesHoldNone = (u : Use) → holds no_uses u ≡ false
 
--- a set with one use more holds that use, and what it held before
+-- a set with one more use holds that use, and what it held before
 abbrev pub WithHoldsOneMore : Type 0
 WithHoldsOneMore = (s : Uses) (new u : Use) → holds (with s new) u ≡ (eq_by_cmp use_cmp u new || holds s u)
 
--- a union holds what the one set or the other holds
+-- a union holds what either set holds
 abbrev pub UnionHoldsEither : Type 0
 UnionHoldsEither = (s t : Uses) (u : Use) → holds (union s t) u ≡ (holds s u || holds t u)
 
--- of a set, `live` holds the uses that the set holds and that expire after the moment
+-- `live` holds the uses of a set that expire after the moment
 abbrev pub LiveHoldsUnexpired : Type 0
 LiveHoldsUnexpired = (s : Uses) (moment : ℕ) (u : Use) → holds (live s moment) u ≡ (holds s u && nat_lt moment u.exp)
 
--- a set holds the uses that its rising list has
+-- a set holds the uses of its rising list
 abbrev pub RisingHasHeld : Type 0
 RisingHasHeld = (s : Uses) (u : Use) → IsTrue (holds s u) ↔ Contains (rising s) u
 

@@ -1,4 +1,4 @@
--- A walk over uses, some of which it has at hand, and of which it may know what comes next in each bucket.
+-- A walk over uses: it has some of them at hand, and may know what comes next in each bucket.
 use Rattle.std.specs.Prelude.{◌≡◌, ℕ, true, List, Option, None, Some, filter, map, take}
 use Rattle.std.specs.List.{range_with_len}
 use Rattle.svid_replay.specs.declared.ahead.Ahead.{Ahead}
@@ -21,10 +21,10 @@ abbrev pub exp_if_any : Option Use → Option ℕ
 exp_if_any None = None
 exp_if_any (Some u) = Some u.exp
 
--- when what comes next in each bucket of a set expires, behind a use or from the first on
+-- the expiry of the next use in each bucket of a set, after a use or from the first on
 unfoldable pub heads_in : Uses → Option Use → List (Option ℕ)
 heads_in s after = map (λ b. exp_if_any (next_above (bucket b s) after)) (range_with_len 0 256)
 
--- heads that are known are those of the set
+-- the heads, where known, are those of the set
 abbrev pub IsAhead : Uses → Ahead → Type 0
 IsAhead s ahead = ahead.known ≡ true → ahead.heads ≡ heads_in s ahead.after

@@ -66,7 +66,7 @@ impl Batch {
         Ok(Batch { moment, uses })
     }
 
-    /// The batch of a moment and uses of which the caller knows that they are one.
+    /// The batch of a moment and uses that the caller knows to make one.
     pub fn from_good(moment: u64, uses: Vec<Use>) -> Batch
         requires { IsBatch (record { moment = moment; uses = uses.items }) }
         ensures { result ≡ record { moment = moment; uses = uses.items } }
@@ -74,7 +74,7 @@ impl Batch {
         Batch { moment, uses }
     }
 
-    /// The moment that the batch tells, in seconds.
+    /// The moment of the batch, in seconds.
     pub fn moment(&self) -> u64
         ensures value { result ≡ self.now.moment }
         ensures batch { IsBatch self.now }

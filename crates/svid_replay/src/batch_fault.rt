@@ -6,7 +6,7 @@ pub enum BatchFault {
     /// There are more than 65,536 uses.
     #[error("more than 65536 uses")]
     TooMany,
-    /// The use at this index, the first with a flaw, expires at the moment or before it.
+    /// The use at this index, the first with a flaw, expires at the moment or before.
     #[error("use {0} is expired")]
     Expired(usize),
     /// The use at this index, the first with a flaw, was made after the moment.

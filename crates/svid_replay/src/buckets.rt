@@ -10,7 +10,7 @@ use crate::{Record, Summary, Use};
 use sha2::{Digest, Sha256};
 use std::array;
 
-// A hasher for each bucket, which is made when its first use comes.
+// No hasher for any bucket: one is made when the first use of its bucket comes.
 fn new_hashers() -> [Option<Sha256>; 256]
     ensures { HoldBuckets result [] }
 {
@@ -46,7 +46,7 @@ fn empty_digest() -> [u8; 32]
     Sha256::new().finalize()
 }
 
-// The digest of the text in a slot, which is left with none.
+// The digest of the text in a slot. Leaves the slot empty.
 fn finish(slot: &mut Option<Sha256>, empty: &[u8; 32]) -> [u8; 32]
     ensures { (text : List ℕ) → empty.now ≡ sha256 [] → HoldsText slot.old text → result ≡ sha256 text }
 {
@@ -56,7 +56,7 @@ fn finish(slot: &mut Option<Sha256>, empty: &[u8; 32]) -> [u8; 32]
     }
 }
 
-// The digest of no bytes is made once, however many buckets have no use.
+// Makes the digest of no bytes once, however many buckets have no use.
 fn finish_all(hashers: &mut [Option<Sha256>; 256]) -> [[u8; 32]; 256]
     ensures { (us : List Use) → HoldBuckets hashers.old us → result ≡ digests_in us }
 {
@@ -79,7 +79,7 @@ pub(crate) fn digests_of<S: UseStore>(whole: &Record<S>) -> [[u8; 32]; 256]
     finish_all(&mut hashers)
 }
 
-// Whether the digest of the use's bucket is another than the summary's.
+// Whether the digest of the use's bucket differs from the summary's.
 pub(crate) fn differs(digests: &[[u8; 32]; 256], summary: &Summary, used: &Use) -> bool
     ensures { result ≡ differ_at digests.now summary.now.digests used.now }
 {

@@ -12,7 +12,7 @@ pub(crate) struct KeyKind {
     pub(crate) withdrawn: bool,
 }
 
-// The key and the kind of a use, and when it expires.
+// The key and the kind of a use, and its expiry.
 #[derive(Clone, Copy, Debug, PartialEq, Eq, PartialOrd, Ord)]
 pub(crate) struct Expiry {
     pub(crate) kind: KeyKind,
@@ -35,7 +35,7 @@ impl Expiry {
         }
     }
 
-    // Whether it is left where what expired by a moment is gone, if anything is.
+    // Whether it is left after everything that expired by a moment was dropped, if anything was.
     pub(crate) fn is_left(&self, expired_by: Option<u64>) -> bool
         ensures { result ≡ is_left expired_by self.now.exp }
     {
@@ -45,7 +45,7 @@ impl Expiry {
         }
     }
 
-    // Whether it stands in front of those of a key and kind that are left.
+    // Whether it comes before those of a key and kind that are left.
     pub(crate) fn is_in_front_of(&self, kind: &KeyKind, expired_by: Option<u64>) -> bool
         ensures { result ≡ is_in_front_of kind.now expired_by self.now }
     {

@@ -1,4 +1,4 @@
-//! A filter of keys: it says of a key that it is surely not among those put in, or that it may be.
+//! A filter of keys: it says that a key is surely not among those put in, or that it may be.
 ghost use Rattle.std.specs.Prelude.{◌≡◌, ◌<◌, ◌≤◌, ℕ, List, false, length, take, IfOk};
 ghost use Rattle.std.specs.Int.{from_be_bytes, w64};
 ghost use Rattle.std.specs.List.{AllByRecursion};
@@ -8,7 +8,7 @@ use crate::Use;
 use crate::runs::FRONT;
 use std::alloc::{AllocError, Global};
 
-/// The number whose bytes are the first 8, the greatest first.
+/// The number whose bytes are the first 8, most significant first.
 #[inline]
 pub(crate) fn number(bytes: &[u8]) -> u64
     requires { 8 ≤ length bytes.now }
@@ -61,14 +61,14 @@ pub(crate) fn add_all(key_filter: &mut [u64], uses: &[Use])
     }
 }
 
-/// A filter of no key, with index for so many.
+/// A filter of no key, with room for so many.
 pub(crate) fn no_keys(alloc: Global, count: usize) -> Result<Vec<u64>, AllocError>
     ensures { IfOk result (λ key_filter. 0 < length key_filter.items) }
 {
     vec![in alloc; 0u64; count / 5 + 1]
 }
 
-/// A filter of the keys of some uses, with index for so many as a run has before it is closed.
+/// A filter of the keys of some uses, with room for as many as a run has before it is closed.
 pub(crate) fn filter_of(alloc: Global, uses: &[Use]) -> Result<Vec<u64>, AllocError>
     ensures some { IfOk result (λ key_filter. 0 < length key_filter.items) }
     ensures known { IfOk result (λ key_filter. AllByRecursion (λ u. HasBits key_filter.items u.key) uses.now) }
@@ -78,7 +78,7 @@ pub(crate) fn filter_of(alloc: Global, uses: &[Use]) -> Result<Vec<u64>, AllocEr
     Ok(key_filter)
 }
 
-/// The keys of some uses in the place of all others.
+/// Replaces all keys by those of some uses.
 pub(crate) fn renew(key_filter: &mut Vec<u64>, uses: &[Use])
     requires { 0 < length key_filter.old.items }
     ensures long { length key_filter.new.items ≡ length key_filter.old.items }

@@ -4,10 +4,10 @@ ghost use Rattle.svid_replay.specs.Batches.{flaw, is_after};
 
 use crate::Use;
 
-/// What can be wrong with a use in a batch, in the order in which it is looked for.
+/// What can be wrong with a use in a batch, in the order of the checks.
 #[derive(Clone, Copy, Debug, PartialEq, Eq)]
 pub enum Flaw {
-    /// The use expires at the batch's moment or before it.
+    /// The use expires at the batch's moment or before.
     Expired,
     /// The use was made after the batch's moment.
     Future,
@@ -24,8 +24,7 @@ fn is_after(before: &Option<Use>, used: &Use) -> bool
     }
 }
 
-/// What is wrong, if anything, with a use in a batch of this moment (in seconds), behind the use `before`, where
-/// there is one.
+/// What is wrong, if anything, with a use in a batch of this moment (in seconds), after the use `before`, where there is one.
 #[tactic(auto, unfolding(crate::specs::Batches::flaw))]
 pub fn flaw_of(moment: u64, before: Option<Use>, used: Use) -> Option<Flaw>
     ensures flaw { result ≡ flaw moment before used }

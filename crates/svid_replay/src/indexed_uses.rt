@@ -73,7 +73,7 @@ fn first_expired(by_use: &BTreeSet<Use>, moment: u64) -> Option<Use>
     }
 }
 
-// Takes the expired uses out of both orders, the least first, and says how many went.
+// Drops the expired uses from both orders, the least first, and returns how many.
 fn drop_expired(by_use: &mut BTreeSet<Use>, by_key: &mut BTreeSet<KeyFirst>, moment: u64) -> usize
     requires { IsIndexed by_use.old.keys by_key.old.keys }
     ensures indexed { IsIndexed by_use.new.keys by_key.new.keys }
@@ -88,8 +88,8 @@ fn drop_expired(by_use: &mut BTreeSet<Use>, by_key: &mut BTreeSet<KeyFirst>, mom
     before - by_use.len()
 }
 
-// Whether there is a use of this key, or a withdrawal of it: they stand side by side, so a look at the first that is
-// not below the least there could be tells.
+// Whether there is a use of this key, or a withdrawal of it. They are side by side, so the first that is not below the least
+// possible one decides.
 fn has_from(by_key: &BTreeSet<KeyFirst>, key: &[u8; 32], withdrawn: bool) -> bool
     ensures { (us : List Use) → IsIndexed us by_key.now.keys → result ≡ list_any (is_sought withdrawn key.now) us }
 {

@@ -5,8 +5,7 @@ ghost use Rattle.svid_replay.specs.Use.{bytes_cmp};
 
 use crate::Use;
 
-// A use with its key first and then its kind, so that the uses of one key stand side by side, and its withdrawals
-// behind its other uses.
+// A use with its key first and then its kind, so that the uses of one key are side by side, followed by its withdrawals.
 #[derive(Clone, Copy, Debug, PartialEq, Eq, PartialOrd, Ord)]
 pub(crate) struct KeyFirst {
     pub(crate) key: [u8; 32],

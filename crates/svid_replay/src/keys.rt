@@ -1,4 +1,4 @@
-//! The keys of uses, sorted, each with its kind and with when it expires.
+//! The keys of uses, sorted, each with its kind and its expiry.
 ghost use Rattle.std.specs.Prelude.{◌≡◌, List, IfOk};
 ghost use Rattle.std.specs.List.{list_any};
 ghost use Rattle.std.specs.Ordering.{is_eq};
@@ -24,7 +24,7 @@ pub(crate) fn keys_of(alloc: Global, uses: &[Use]) -> Result<Vec<Expiry>, AllocE
     Ok(keys)
 }
 
-// By when all has expired that is gone, once what expired by one moment more goes too.
+// Up to when entries are dropped, once those that expired by one moment more are dropped.
 pub(crate) fn expired_by_then(expired_by: Option<u64>, moment: u64) -> Option<u64>
     ensures { result ≡ expired_by_then expired_by moment }
 {
@@ -34,7 +34,7 @@ pub(crate) fn expired_by_then(expired_by: Option<u64>, moment: u64) -> Option<u6
     }
 }
 
-// Takes out what expired by that moment.
+// Drops what expired by that moment.
 pub(crate) fn sweep(keys: &mut Vec<Expiry>, expired_by: Option<u64>)
     ensures { keys.new.items ≡ left_of expired_by keys.old.items }
 {
@@ -53,7 +53,7 @@ fn has_left(keys: &[Expiry], kind: &KeyKind, expired_by: Option<u64>) -> bool
     }
 }
 
-// Whether there is one of this key and kind, where those that are left tell of uses.
+// Whether there is one of this key and kind, where the entries that are left stand for uses.
 fn has_kind(keys: &[Expiry], key: &[u8; 32], withdrawn: bool, expired_by: Option<u64>) -> bool
     requires { AreKeys keys.now }
     ensures { (us : List Use) → TellUses (left_of expired_by keys.now) us → result ≡ list_any (λ u. is_eq (kind_cmp (kind_of key.now withdrawn) (expiry_of u).kind)) us }
@@ -65,7 +65,7 @@ fn has_kind(keys: &[Expiry], key: &[u8; 32], withdrawn: bool, expired_by: Option
     has_left(keys, &kind, expired_by)
 }
 
-// Whether there is a use of this key, or a withdrawal of it, where those that are left tell of uses.
+// Whether there is a use of this key, or a withdrawal of it, where the entries that are left stand for uses.
 pub(crate) fn tell_key(
     keys: &[Expiry],
     key: &[u8; 32],

@@ -1,5 +1,5 @@
-//! Laws of the definitions that this crate's contracts cite. Each is the contract of a function with
-//! nothing in it, so that the check proves it like any other promise.
+//! Laws of the definitions that this crate's contracts cite. Each is the contract of a function with an empty body, so that the
+//! check proves it like any other promise.
 
 ghost use Rattle.svid_replay.specs.Buckets.{AnswerIsBatches, BucketHoldsItsUses, OwnSummaryAsksNothing, RaisedIsRecord, StaleHoldsDiffering};
 ghost use Rattle.svid_replay.specs.Parts.{CutGivesParts, PartsAreBatches, PartsGiveRecord, SamePartsSameRecord};
@@ -12,8 +12,8 @@ pub fn use_order_is_text_order()
     ensures { OrderIsTextOrder }
 {}
 
-/// What each word on sets of uses holds: nothing, one use more, what either set holds, what a set holds
-/// and expires after a moment. A set's rising list has what the set holds.
+/// What each operation on sets of uses holds: nothing, one use more, what either set holds, what a set holds and expires after a
+/// moment. A set's rising list has what the set holds.
 pub fn sets_hold()
     ensures none { NoUsesHoldNone }
     ensures with { WithHoldsOneMore }
@@ -45,23 +45,22 @@ pub fn uses_are_cut_into_full_batches()
     ensures { CutGivesParts }
 {}
 
-/// The parts of a record are batches that tell it whole: records with the same parts are the same, and
-/// a new record that absorbs all parts of a record is that record.
+/// The parts of a record are batches that carry all of it: records with the same parts are the same, and a new record that
+/// absorbs all parts of a record is that record.
 pub fn parts_tell_the_record()
     ensures batches { PartsAreBatches }
     ensures same { SamePartsSameRecord }
     ensures absorbed { PartsGiveRecord }
 {}
 
-/// A bucket holds the uses of its set whose keys begin with its byte, and an answer is cut from the
-/// uses of all buckets whose digest differs from the summary's.
+/// A bucket holds the uses of its set whose keys begin with its byte, and an answer has the uses of all buckets whose digest
+/// differs from the summary's.
 pub fn buckets_hold()
     ensures bucket { BucketHoldsItsUses }
     ensures stale { StaleHoldsDiffering }
 {}
 
-/// A record that answers a summary is raised to a record, and its answer is batches: one without a use
-/// where the summary is its own.
+/// A record that answers a summary stays a record, and its answer is batches: one without a use where the summary is its own.
 pub fn answers_are_batches()
     ensures raised { RaisedIsRecord }
     ensures batches { AnswerIsBatches }

@@ -1,4 +1,4 @@
-// The numbers of the layout: how many uses a batch and a room have, and where the fields of a use stand in its text.
+// The numbers of the layout: how many uses a batch and a room have, and how long the text of a use is.
 
 /// How many uses a batch has at most.
 pub const MOST_USES: usize = 65_536;

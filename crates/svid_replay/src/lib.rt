@@ -1,21 +1,19 @@
 //! The record of used and withdrawn tokens that validators share: uses, the batches that carry them,
 //! stores, and the record itself.
 //!
-//! A [`Use`] says that a token, told by its key, was accepted or withdrawn at a validator ID and a time, and
-//! when it expires. A [`Record`] is a moment and the set of the uses that were made by then and expire later,
-//! kept in a [`UseStore`]. Whatever happens to it is a join: the greater moment, and of the uses of
-//! both sides those that expire after it. So records may be merged in any order, any number of times,
-//! and come out the same ([`laws`]). Where memory is refused on the way, the record is the join with
-//! a part that the contract names. Of the stores [`SortedUses`] is for few uses, or uses that come in
-//! their order and are only walked, since a look for a key goes over all; [`IndexedUses`] is for many where no
-//! insert may be long, and [`RunUses`] for many that are all to be taken in soon: a few of its inserts move most
-//! of them; and [`RunUses::without_keys`] for those of which few keys are asked. A [`Walk`] goes over the uses of
-//! a record in their order, a [`Room`] of them at a time, and takes no memory.
+//! A [`Use`] says that a token, identified by its key, was accepted or withdrawn at a validator ID and a time, and when it
+//! expires. A [`Record`] is a moment and the set of the uses that were made by then and expire later, kept in a [`UseStore`].
+//! Every change of a record is a join: the greater moment, and of the uses of both sides those that expire after it. So records
+//! may be merged in any order, any number of times, with the same result ([`laws`]). Where memory is refused on the way, the
+//! record is the join with a part that the contract names. There are four stores. [`SortedUses`] is for few uses, or for uses
+//! that come in order and are only walked, since a look-up by key reads all. [`IndexedUses`] is for many uses where no insert may
+//! take long. [`RunUses`] is for many that are to be taken in fast: a few of its inserts move most of them.
+//! [`RunUses::without_keys`] is for many that are rarely looked up by key. A [`Walk`] goes over the uses of a record in their
+//! order, a [`Room`] of them at a time, and takes no memory.
 //!
-//! Two records that mostly agree need not tell each other all: a [`Summary`] has a digest for each of
-//! 256 buckets, one for each first byte of a key, and a record answers one with all uses of the buckets
-//! whose digest differs: also those that the other has, but none of a bucket that agrees. So what a
-//! record loses after it made its summary need not come back.
+//! Two records that mostly agree need not exchange everything. A [`Summary`] has a digest for each of 256 buckets, one for each
+//! first byte of a key, and a record answers it with all uses of the buckets whose digest differs: also those that the other has,
+//! but none of a bucket that agrees. So what a record loses after it made its summary need not come back.
 //!
 //! ```rust
 //! use svid_replay::{Batch, Record, SortedUses, Use};

@@ -5,7 +5,7 @@ ghost use Rattle.std.specs.Set.{sorted_merge};
 use std::alloc::{AllocError, Global};
 use std::cmp::Ordering;
 
-/// Both lists in one, sorted; what both have comes once.
+/// Both lists in one, sorted; what both have is in it once.
 pub(crate) fn merge<T: Ord + Copy>(alloc: Global, a: &[T], b: &[T]) -> Result<Vec<T>, AllocError>
     ensures { IfOk result (λ merged. merged.items ≡ sorted_merge T.cmp true a.now b.now) }
 {

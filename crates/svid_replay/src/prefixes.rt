@@ -1,4 +1,4 @@
-//! Prefixes of keys: the numbers whose bytes are the first 8 of a key, of those keys that two uses may have.
+//! Prefixes of keys: the numbers whose bytes are the first 8 of a key, for the keys that two uses may have.
 ghost use Rattle.std.specs.Prelude.{◌≡◌, ◌==◌, ◌<◌, ℕ, [], ◌∷◌, ◌++◌, List, OnOk, length};
 ghost use Rattle.std.specs.List.{list_any};
 ghost use Rattle.std.specs.List.Sorted.{IsNonDecreasing};
@@ -18,8 +18,8 @@ fn prefix_of(used: &Use) -> u64
     number(&key)
 }
 
-// Puts the key of a use into a filter of the keys before it, and its number behind the others where the key may
-// have been there already. Passes over a withdrawal.
+// Puts the key of a use into a filter of the keys before it, and appends its number where the key may have been there already.
+// Skips a withdrawal.
 pub(crate) fn note(
     key_filter: &mut [u64],
     prefixes: &mut Vec<u64>,

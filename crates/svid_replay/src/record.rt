@@ -26,8 +26,8 @@ use crate::{Batch, Summary, Twice, Use, Walk};
 use std::alloc::{AllocError, Global};
 use std::marker::Model;
 
-/// A moment, and a set of uses that were made by then and expire later. It only changes by joins: the
-/// greater moment, and of the uses of both sides those that expire after it.
+/// A moment, and a set of uses that were made by then and expire later. It only changes by joins: the greater moment, and of the
+/// uses of both sides those that expire after it.
 #[derive(Debug, Drop)]
 pub struct Record<S: UseStore> {
     moment: u64,
@@ -63,7 +63,7 @@ impl<S: UseStore> Record<S> {
         self.moment
     }
 
-    /// The store of the record's uses, for questions that only stores of its kind answer. No memory is taken.
+    /// The store of the record's uses, for questions that only stores of its kind answer. Takes no memory.
     pub fn store(&self) -> &S
         ensures { S.content result.now ≡ self.now.uses }
     {
@@ -105,7 +105,7 @@ impl<S: UseStore> Record<S> {
         self.store.next_after(after)
     }
 
-    // the next uses, as many as the room takes, from where a walk is
+    // the next uses, as many as the room takes, from the walk's position
     pub(crate) fn next_ahead(&self, ahead: &mut Ahead, room: &mut Room)
         requires { IsAhead self.now.uses ahead.old }
         ensures next { room.new ≡ next_few self.now.uses ahead.old.after }
@@ -129,9 +129,9 @@ impl<S: UseStore> Record<S> {
         Walk::of(self, after)
     }
 
-    /// Joins a moment (in seconds): the record's moment becomes the greater, and the uses that expire
-    /// by then go. The record is then the joined one, whatever its store still keeps of the memory of uses that
-    /// went: this and later calls give that back in parts, as the store's `tidy` does. Needs no memory.
+    /// Joins a moment (in seconds): the record's moment becomes the greater, and the uses that expire by then are dropped. The
+    /// record is then the joined one, though its store may still hold memory of dropped uses: this and later calls give it back
+    /// in parts, as the store's `tidy` does. Needs no memory.
     pub fn raise(&mut self, now: u64) -> Raised
         ensures joined { self.new ≡ join self.old (state_of now []) }
         ensures dropped { result.dropped + count self.new.uses ≡ count self.old.uses }
@@ -163,8 +163,8 @@ impl<S: UseStore> Record<S> {
         Ok(())
     }
 
-    // joins rising uses that were made by the record's moment, all at once; where the store does not do that the
-    // record stays as it was
+    // joins rising uses that were made by the record's moment, all at once; where the store cannot do that the record stays as it
+    // was
     fn take_all(&mut self, uses: &[Use]) -> bool
         requires rising { IsRising uses.now }
         requires fields { AllByRecursion IsUse uses.now }
@@ -179,8 +179,7 @@ impl<S: UseStore> Record<S> {
 
     /// Joins one use that was made by the record's moment and expires after it.
     ///
-    /// Where memory is refused the record stays as it was. A use that the record has already always
-    /// succeeds.
+    /// Where memory is refused the record stays as it was. Adding a use that the record has already always succeeds.
     pub fn add(&mut self, new: Use) -> Result<(), AllocError>
         requires made { new.at ≤ self.old.moment }
         requires live { self.old.moment < new.exp }
@@ -193,8 +192,8 @@ impl<S: UseStore> Record<S> {
 
     /// Joins a batch.
     ///
-    /// Where memory is refused, the record is the old one joined with the batch's moment and the uses
-    /// in front of the first that was refused. Where no use of the batch is new and live, it succeeds.
+    /// Where memory is refused, the record is the old one joined with the batch's moment and the uses before the first that was
+    /// refused. Where no use of the batch is new and live, the call succeeds.
     pub fn absorb(&mut self, batch: &Batch) -> Result<(), AllocError>
         ensures joined { OnOk result (self.new ≡ join self.old (batch_state batch.now)) }
         ensures refused { OnErr result (IsPartlyJoined self.old self.new batch.now.moment batch.now.uses) }
@@ -210,11 +209,10 @@ impl<S: UseStore> Record<S> {
         Ok(())
     }
 
-    /// Joins another record, over whatever store.
+    /// Joins another record, whatever its store.
     ///
-    /// Where memory is refused, the record is the old one joined with the other's moment and those of
-    /// its uses that are less than the first that was refused. Where no use of the other is new and
-    /// live, it succeeds.
+    /// Where memory is refused, the record is the old one joined with the other's moment and those of its uses that are less than
+    /// the first that was refused. Where no use of the other is new and live, the call succeeds.
     pub fn merge<T: UseStore>(&mut self, other: &Record<T>) -> Result<(), AllocError>
         ensures joined { OnOk result (self.new ≡ join self.old other.now) }
         ensures refused { OnErr result (IsPartlyJoined self.old self.new other.now.moment (rising other.now.uses)) }
@@ -238,7 +236,7 @@ impl<S: UseStore> Record<S> {
         Ok(uses)
     }
 
-    // the prefixes of the keys that two uses have that are no withdrawals, and maybe of others
+    // the prefixes of the keys that two uses have that are no withdrawals, and maybe of other keys
     fn prefixes(&self, alloc: Global) -> Result<Vec<u64>, AllocError>
         ensures { IfOk result (λ prefixes. (key : List ℕ) → nat_lt 1 (length (uses_of key (used (rising self.now.uses)))) ≡ true → has_prefix prefixes.items key ≡ true) }
     {
@@ -260,13 +258,11 @@ impl<S: UseStore> Record<S> {
             .collect(alloc)
     }
 
-    /// The keys that two or more of the record's uses have, rising, each with all its uses. A withdrawal
-    /// is none of them.
+    /// The keys that two or more of the record's uses have, rising, each with all its uses. Withdrawals do not count.
     ///
-    /// Looks at each use twice. Beside what it answers it holds two bytes a use, and eight for each use whose
-    /// key came before, or may have: a filter tells which, and is wrong of about one key in 250 where keys are
-    /// digests. Then it holds the uses of these keys twice, since sorting them takes room for as many. At worst
-    /// it takes n log n steps for n uses, and two copies of all.
+    /// Looks at each use twice. Beside its result it holds two bytes a use, and eight for each use whose key came before, or may
+    /// have: a filter says which, and is wrong for about one key in 250 where keys are digests. Then it holds the uses of these
+    /// keys twice, since sorting them takes room for as many. At worst it takes n log n steps for n uses, and two copies of all.
     pub fn report(&self, alloc: Global) -> Result<Vec<Twice>, AllocError>
         ensures value { IfOk result (λ listed. listed.items ≡ twice_of (used (rising self.now.uses))) }
         ensures relation { IfOk result (λ listed. IsTwice (used (rising self.now.uses)) listed.items) }
@@ -276,9 +272,8 @@ impl<S: UseStore> Record<S> {
         twice_in(alloc, uses)
     }
 
-    /// The record as batches of its moment, which hold its uses in rising order: 65,536 in each but the
-    /// last, which has 1 to 65,536. One batch with no use where the record has none. Holds the uses twice while
-    /// it makes them.
+    /// The record as batches of its moment, which hold its uses in rising order: 65,536 in each but the last, which has 1 to
+    /// 65,536. A record without uses gives one batch with no use. Holds the uses twice while it makes them.
     pub fn parts(&self, alloc: Global) -> Result<Vec<Batch>, AllocError>
         ensures { IfOk result (λ parts. parts.items ≡ cut self.now.moment (rising self.now.uses)) }
     {
@@ -296,7 +291,7 @@ impl<S: UseStore> Record<S> {
         Summary::make(self.moment, digests_of(self))
     }
 
-    /// The uses of all buckets whose digest differs from the summary's, rising. The record is not raised.
+    /// The uses of all buckets whose digest differs from the summary's, rising. The record's moment stays.
     ///
     /// Takes no memory, and looks at each use twice.
     pub fn stale<'a>(&'a self, summary: &'a Summary) -> Stale<'a, S>
@@ -305,12 +300,12 @@ impl<S: UseStore> Record<S> {
         Stale::of(self, summary)
     }
 
-    /// Raises the record to the summary's moment, and answers the uses of all buckets whose digest then
-    /// differs from the summary's, as batches of the record's moment: 65,536 uses in rising order in each
-    /// but the last. One batch with no use where there are no such uses.
+    /// Advances the record to the summary's moment, and returns the uses of all buckets whose digest then differs from the
+    /// summary's, as batches of the record's moment: 65,536 uses in rising order in each but the last. One batch with no use
+    /// where there are no such uses.
     ///
-    /// Where memory is refused only the raise stands. Looks at each use three times, and holds those that it answers
-    /// twice while it makes the batches.
+    /// Where memory is refused, the record is only advanced. Looks at each use three times, and holds those that it returns twice
+    /// while it makes the batches.
     pub fn answer(&mut self, alloc: Global, summary: &Summary) -> Result<Vec<Batch>, AllocError>
         ensures raised { self.new ≡ raised_to self.old summary.now.moment }
         ensures answer { IfOk result (λ batches. batches.items ≡ answer_to self.old summary.now) }

@@ -17,7 +17,7 @@ const NO_USE: Use = Use {
     withdrawn: false,
 };
 
-/// Room for at most 64 uses, which lie in the value itself: the next of a walk. Takes no memory.
+/// Room for at most 64 uses, stored in the value itself: the next of a walk. Takes no memory.
 #[derive(Debug, Drop)]
 pub struct Room {
     uses: [Use; ROOM_USES],
@@ -39,7 +39,7 @@ impl Model for Room {
 }
 
 impl Room {
-    /// Room that has no uses.
+    /// An empty room.
     pub fn new() -> Room
         ensures { result ≡ [] }
     {
@@ -57,7 +57,7 @@ impl Room {
         &self.uses[..self.len]
     }
 
-    /// Whether there is room for no use more.
+    /// Whether there is no room for another use.
     pub fn is_full(&self) -> bool
         ensures { result ≡ (length self.now == 64) }
     {
@@ -71,8 +71,7 @@ impl Room {
         self.len = 0;
     }
 
-    /// Puts a use behind the others, if there is room for it, and answers whether there was. If not, they stay as
-    /// they were.
+    /// Appends a use if there is room for it, and returns whether there was. If not, the uses stay as they were.
     pub fn push(&mut self, used: Use) -> bool
         ensures answer { result ≡ nat_lt (length self.old) 64 }
         ensures pushed { length self.old < 64 → self.new ≡ self.old ++ used ∷ [] }
@@ -86,7 +85,7 @@ impl Room {
         false
     }
 
-    /// Puts uses behind the others, as many as there is room for.
+    /// Appends uses, as many as there is room for.
     pub fn extend(&mut self, uses: &[Use])
         ensures { self.new ≡ take 64 (self.old ++ uses.now) }
     {
@@ -96,7 +95,7 @@ impl Room {
         self.len = end;
     }
 
-    // Whether there are no uses, or all of them are behind those of the room, and that is full.
+    // Whether there are no uses, or the room is full and all of them come after its own.
     fn is_in_front(&self, uses: &[Use]) -> bool
         ensures { IsTrue result → IsRising self.now → take 64 (sorted_merge use_cmp true self.now uses.now) ≡ self.now }
     {
@@ -125,7 +124,7 @@ fn is_less(one: &Use, other: &Use) -> bool
     one.cmp(other).is_lt()
 }
 
-// Puts into the room the first 64 of two rising lists in one; a use that both have comes once. What was in the room goes.
+// Fills the room with the first 64 of two rising lists in one; a use that both have is in it once. Drops what was in the room.
 fn fill_merged(room: &mut Room, a: &[Use], b: &[Use])
     ensures { room.new ≡ take 64 (sorted_merge use_cmp true a.now b.now) }
 {

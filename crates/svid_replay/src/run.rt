@@ -18,9 +18,9 @@ use crate::sorted::{count_expired, drop_front, first_near, has_sought, insert_us
 use std::alloc::{AllocError, Global};
 use std::marker::Model;
 
-// Uses that rise, with a filter of their keys, `key_filter`. New uses go into it while it is `open`, and then it has no
-// other keys. Where it is `keyed`, `by_key` has them, sorted. The uses in front of `start` are gone: they expired by the
-// moment `expired_by`. Their keys may still be there.
+// Uses that rise, with a filter of their keys, `key_filter`. New uses go into it while it is `open`, and then it has no other
+// keys. Where it is `keyed`, `by_key` has the keys, sorted. The uses before `start` are dropped: they expired by the moment
+// `expired_by`. Their keys may still be there.
 #[derive(Debug, Drop)]
 pub(crate) struct Run {
     by_use: Vec<Use>,
@@ -93,7 +93,7 @@ impl Run {
         Ok(())
     }
 
-    // Takes in the uses of another run. It is open where either was, and has keys where both had them.
+    // Takes in the uses of another run. The result is open where either was, and has keys where both had them.
     pub(crate) fn absorb(&mut self, alloc: Global, other: &mut Run) -> Result<(), AllocError>
         ensures ok { OnOk result (self.new ≡ sorted_merge use_cmp true self.old other.old) }
         ensures err { OnErr result (self.new ≡ self.old) }
@@ -114,7 +114,7 @@ impl Run {
         Ok(())
     }
 
-    // New uses go elsewhere from now on. It gets keys where it is to have them, if memory is given for these.
+    // Closes the run to new uses. It gets keys if `keyed` asks for them and memory allows.
     pub(crate) fn close(&mut self, alloc: Global, keyed: bool) -> Result<(), AllocError>
         ensures { self.new ≡ self.old }
     {
@@ -159,15 +159,14 @@ impl Run {
         }
     }
 
-    // The first use, or what comes next behind one, which is mostly near a index.
+    // The first use, or the next one after `after`, which is mostly near an index.
     pub(crate) fn next_near(&self, after: &Option<Use>, near: &mut u16) -> Option<&Use>
         ensures { option_copied result ≡ next_above (uses_in self.now) after.now }
     {
         first_near(self.uses(), after, near)
     }
 
-    // Moves the start behind the uses that expire by a moment, and answers how many these are. `tidy` gives back their
-    // memory.
+    // Moves the start past the uses that expire by a moment, and returns how many these are. `tidy` gives back their memory.
     pub(crate) fn drop_expired(&mut self, moment: u64) -> usize
         ensures kept { self.new ≡ filter (λ u. nat_lt moment u.exp) self.old }
         ensures dropped { result + length self.new ≡ length self.old }
@@ -178,7 +177,7 @@ impl Run {
         dropped
     }
 
-    // Gives back the memory of the uses that are gone, where they are more than the others.
+    // Gives back the memory of the dropped uses, where they are more than the others.
     pub(crate) fn tidy(&mut self)
         ensures { self.new ≡ self.old }
     {

@@ -17,16 +17,14 @@ use crate::store::{Raised, UseStore};
 use std::alloc::{AllocError, Global};
 use std::marker::Model;
 
-/// A set of uses as runs: sorted vectors, each with its keys. New uses go into the last, which is short. Most
-/// inserts are so too, but one by which that run has 256 uses closes it: it gets keys, and may be merged with
-/// others, at worst with all. Where that is refused memory it is left undone, and the use is in the set all
-/// the same. Of 256 uses and more at once (`insert_all`) the new ones are merged with the last run in the same
-/// way; fewer are not taken at once. There are at most 64 runs. `compact` merges all runs but the first, so that a walk
-/// has two to look at, or three.
+/// A set of uses as runs: sorted vectors, each with its keys. New uses go into the last run, which is short, so most inserts are
+/// fast. The insert that brings that run to 256 uses closes it: the run gets keys, and may be merged with others, at worst with
+/// all. Where memory for that is refused, it is left undone, and the use is in the set all the same. When 256 uses or more are
+/// inserted at once (`insert_all`), the new ones are merged with the last run in the same way; fewer are not taken at once. There
+/// are at most 64 runs. `compact` merges all runs but the first, so that a walk has two to look at, or three.
 ///
-/// A set that [`RunUses::without_keys`] makes has runs without keys: less time and memory for each use that
-/// is put in, but `has` and `is_withdrawn` may look at all uses. It is for a record that is joined and walked,
-/// and asked for few keys.
+/// A set that [`RunUses::without_keys`] makes has runs without keys. It takes less time and memory for each use that is put in,
+/// but `has` and `is_withdrawn` may look at all uses. It is for a record that is joined and walked, and rarely looked up by key.
 #[derive(Debug, Drop)]
 pub struct RunUses {
     alloc: Global,
@@ -75,7 +73,7 @@ impl RunUses {
         RunUses::empty(alloc, false)
     }
 
-    // Puts in uses that are not there, if memory is given for it.
+    // Puts in uses that are not there yet, if memory is given for them.
     fn take(&mut self, new: Vec<Use>) -> bool
         requires rising { IsRising new.items }
         requires new { AllByRecursion (λ u. holds self.old u ≡ false) new.items }

@@ -1,4 +1,4 @@
-//! Runs that are one set: each has at least about twice the uses of the next, so that they are few.
+//! Runs that make up one set: each has at least about twice the uses of the next, so that they are few.
 ghost use Rattle.std.specs.Prelude.{◌≡◌, ◌+◌, ◌<◌, ◌≤◌, ◌∷◌, ◌^◌, [], None, false, length, IsTrue, IfOk, OnOk, OnErr, option_copied};
 ghost use Rattle.std.specs.List.{AllByRecursion, list_any};
 ghost use Rattle.std.specs.Ordering.{eq_by_cmp};
@@ -15,17 +15,17 @@ use crate::run::Run;
 use crate::sorted::rest_after;
 use std::alloc::{AllocError, Global};
 
-/// The last run is closed when it is so long.
+/// The last run is closed when it has this many uses.
 pub(crate) const FRONT: usize = 256;
 
-// There are at most so many runs. If there are, new uses go into the last, even if it is closed.
+// There are at most this many runs. If there are, new uses go into the last, even if it is closed.
 const MOST: usize = 64;
 
-// So many runs are left when all but the first are merged for walks. The first is mostly half of the set, so the merge
-// takes half of the set's memory once more.
+// How many runs are left when all but the first are merged for walks. The first is mostly half of the set, so the merge takes
+// half of the set's memory once more.
 const WALKED: usize = 2;
 
-// A run that was closed is merged with the one in front of it while that has not so many times its uses.
+// A closed run is merged with the one before it while that has fewer than this many times its uses.
 const FACTOR: usize = 2;
 
 // Whether one of the runs has the use.
@@ -52,7 +52,7 @@ pub(crate) fn any_has(runs: &[Run], key: &[u8; 32], withdrawn: bool) -> bool
     false
 }
 
-// Those of the uses that no run has. Takes no memory where they all are there.
+// Those of the uses that no run has. Takes no memory where all of them are there.
 pub(crate) fn new_uses(alloc: Global, runs: &[Run], uses: &[Use]) -> Result<Vec<Use>, AllocError>
     ensures { IfOk result (λ new. new.items ≡ new_among (all_of runs.now) uses.now) }
 {
@@ -78,8 +78,8 @@ fn lesser<'a>(one: Option<&'a Use>, other: Option<&'a Use>) -> Option<&'a Use>
     }
 }
 
-// The least of what comes next in each run, where that is mostly near a index. The last index does for all runs that are
-// left.
+// The least of the next uses of all runs; the next use of each run is mostly near an index. The last index serves all further
+// runs.
 pub(crate) fn least_near(runs: &[Run], after: &Option<Use>, near: &mut Near) -> Option<Use>
     ensures { result ≡ least_from after.now runs.now None }
 {
@@ -92,7 +92,7 @@ pub(crate) fn least_near(runs: &[Run], after: &Option<Use>, near: &mut Near) -> 
     least.copied()
 }
 
-// Puts into an empty room what comes next in the runs.
+// Fills an empty room with the next uses of the runs.
 pub(crate) fn merge_next(runs: &[Run], after: Option<Use>, room: &mut Room)
     requires { room.old ≡ [] }
     ensures { room.new ≡ next_few (uses_in (all_of runs.now)) after }
@@ -113,7 +113,7 @@ fn goes_on(runs: &[Run]) -> bool
     }
 }
 
-// Puts a use that is in no run into the last, or makes it one.
+// Puts a use that is in no run into the last run, or into a new one.
 pub(crate) fn put_one(alloc: Global, runs: &mut Vec<Run>, new: Use) -> Result<(), AllocError>
     ensures ok { OnOk result (ArePutIn (new ∷ []) runs.old.items runs.new.items) }
     ensures err { OnErr result (runs.new.items ≡ runs.old.items) }
@@ -129,7 +129,7 @@ pub(crate) fn put_one(alloc: Global, runs: &mut Vec<Run>, new: Use) -> Result<()
     Ok(())
 }
 
-// Puts rising uses into the last run, or makes them one.
+// Puts rising uses into the last run, or into a new one.
 pub(crate) fn put_all(alloc: Global, runs: &mut Vec<Run>, new: Vec<Use>) -> Result<(), AllocError>
     requires { IsRising new.items }
     ensures ok { OnOk result (ArePutIn new.items runs.old.items runs.new.items) }
@@ -146,7 +146,7 @@ pub(crate) fn put_all(alloc: Global, runs: &mut Vec<Run>, new: Vec<Use>) -> Resu
     Ok(())
 }
 
-// Closes the last run, if it has so many uses and memory is given for its keys.
+// Closes the last run, if it has at least this many uses and memory is given for its keys.
 fn close_last(alloc: Global, keyed: bool, runs: &mut Vec<Run>, least: usize) -> bool
     ensures { runs.new.items ≡ runs.old.items }
 {
@@ -174,7 +174,7 @@ fn merge_two(alloc: Global, runs: &mut Vec<Run>) -> bool
     true
 }
 
-// Whether the last run is short beside the one in front of it, or there is none.
+// Whether the last run is short compared to the one before it, or there is none.
 fn is_halved(runs: &[Run]) -> bool
     ensures { IsTrue result → IsHalved runs.now }
 {
@@ -182,7 +182,7 @@ fn is_halved(runs: &[Run]) -> bool
     count < 2 || runs[count - 2].uses().len() / FACTOR >= runs[count - 1].uses().len()
 }
 
-// Merges the last runs until the last is short beside the one in front of it; says whether memory was given for that.
+// Merges the last runs until the last is short compared to the one before it; returns whether memory was given for that.
 fn merge_short(alloc: Global, runs: &mut Vec<Run>) -> bool
     ensures merged { AreMerged runs.old.items runs.new.items }
     ensures halved { IsTrue result → IsHalved runs.new.items }
@@ -206,7 +206,7 @@ fn merge_most(alloc: Global, runs: &mut Vec<Run>)
     }
 }
 
-// Closes the last run where it is long, and merges it with those in front of it, as far as memory is given.
+// Closes the last run where it is long, and merges it with those before it, as far as memory is given.
 pub(crate) fn settle(alloc: Global, keyed: bool, runs: &mut Vec<Run>)
     ensures { AreMerged runs.old.items runs.new.items }
 {
@@ -215,7 +215,7 @@ pub(crate) fn settle(alloc: Global, keyed: bool, runs: &mut Vec<Run>)
     }
 }
 
-// Merges all runs but the first, as far as memory is given. One that is open may stand behind them.
+// Merges all runs but the first, as far as memory is given. An open one may follow them.
 pub(crate) fn compact(alloc: Global, keyed: bool, runs: &mut Vec<Run>)
     ensures { AreMerged runs.old.items runs.new.items }
 {
@@ -224,7 +224,7 @@ pub(crate) fn compact(alloc: Global, keyed: bool, runs: &mut Vec<Run>)
     }
 }
 
-// Takes the expired uses out of the runs, and answers how many went.
+// Drops the expired uses from the runs, and returns how many.
 pub(crate) fn drop_expired(runs: &mut Vec<Run>, moment: u64) -> usize
     requires { length (all_of runs.old.items) < 2 ^ 64 }
     ensures kept { all_of runs.new.items ≡ live_of moment (all_of runs.old.items) }
@@ -239,7 +239,7 @@ pub(crate) fn drop_expired(runs: &mut Vec<Run>, moment: u64) -> usize
     dropped
 }
 
-// Lets go of the runs that have no uses, and gives back memory that the others can do without.
+// Drops the runs that have no uses, and gives back memory that the others don't need.
 pub(crate) fn tidy(runs: &mut Vec<Run>)
     ensures same { all_of runs.new.items ≡ all_of runs.old.items }
     ensures filled { AllByRecursion (λ run. 0 < length run) runs.new.items }

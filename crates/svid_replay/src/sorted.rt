@@ -15,8 +15,7 @@ use crate::twice::is_sought;
 use std::alloc::{AllocError, Global};
 use std::marker::Model;
 
-/// A set of uses as a sorted vector: small, quick to walk, and `has` and `is_withdrawn` look at each
-/// use.
+/// A set of uses as a sorted vector: small and quick to walk, but `has` and `is_withdrawn` look at each use.
 #[derive(Debug, Drop)]
 pub struct SortedUses {
     uses: Vec<Use>,
@@ -35,7 +34,7 @@ impl Model for SortedUses {
     ghost invariant = { λ s. IsRising s.uses.items };
 }
 
-// Puts a use among those behind a index, which rise.
+// Inserts a use among those from an index on, which rise.
 pub(crate) fn insert_use(uses: &mut Vec<Use>, start: usize, new: Use) -> Result<(), AllocError>
     requires bound { start ≤ length uses.old.items }
     requires rising { IsRising (drop start uses.old.items) }
@@ -83,7 +82,7 @@ fn count_up_to(uses: &[Use], last: &Use) -> usize
     uses.partition_point(|used| !last.cmp(used).is_lt())
 }
 
-// Whether the uses in front of a index are those that are not greater than the last.
+// Whether the uses before an index are those that are not greater than the last.
 fn is_index(uses: &[Use], index: usize, last: &Use) -> bool
     requires { IsRising uses.now }
     ensures value { IsTrue result → index ≡ prefix_len (λ u. not (is_after (Some last.now) u)) uses.now }
@@ -95,7 +94,7 @@ fn is_index(uses: &[Use], index: usize, last: &Use) -> bool
     index == uses.len() || last.cmp(&uses[index]).is_lt()
 }
 
-// How many are not greater than the last, where it is mostly so many, or one more.
+// How many are not greater than the last: mostly `near` of them, or one more.
 fn count_near(uses: &[Use], last: &Use, near: usize) -> usize
     requires { IsRising uses.now }
     ensures value { result ≡ prefix_len (λ u. not (is_after (Some last.now) u)) uses.now }
@@ -111,7 +110,7 @@ fn count_near(uses: &[Use], last: &Use, near: usize) -> usize
     count_up_to(uses, last)
 }
 
-// Those of the uses that are greater than the one given, where they mostly begin near a index, or all.
+// Those of the uses that are greater than the one given, or all. They mostly begin near an index.
 fn rest_near<'a>(uses: &'a [Use], after: &Option<Use>, near: &mut u16) -> &'a [Use]
     requires { IsRising uses.now }
     ensures { result.now ≡ filter (is_after after.now) uses.now }
@@ -153,7 +152,7 @@ pub(crate) fn first_after(uses: &[Use], after: Option<Use>) -> Option<Use>
     rest_after(uses, after).first().copied()
 }
 
-// Whether one of the uses has the key, or a withdrawal among them.
+// Whether one of the uses has the key: a withdrawal of it if `withdrawn`, else a use.
 pub(crate) fn has_sought(uses: &[Use], key: &[u8; 32], withdrawn: bool) -> bool
     ensures { result ≡ list_any (is_sought withdrawn key.now) uses.now }
 {

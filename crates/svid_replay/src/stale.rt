@@ -8,8 +8,8 @@ use crate::{Record, Summary, Use, Walk};
 use std::alloc::{AllocError, Global};
 use std::marker::Model;
 
-/// Of a record, the uses of all buckets whose digest differs from a summary's, as far as they are left to a walk,
-/// rising: what `Record::answer` gives where the summary's moment is not later than the record's. No step takes memory.
+/// The uses of all buckets of a record whose digest differs from a summary's, as far as they are left to a walk, rising.
+/// `Record::answer` gives the same where the summary's moment is not later than the record's. No step takes memory.
 #[derive(Debug, Drop)]
 pub struct Stale<'a, S: UseStore> {
     walk: Walk<'a, S>,
@@ -76,7 +76,7 @@ impl<'a, S: UseStore> Iterator for Stale<'a, S> {
 
     ghost remaining = { item_count (λ s. s) };
 
-    // It passes over the uses of buckets that agree, at worst all that are left of the record.
+    // Skips the uses of buckets that agree, at worst all that are left of the record.
     fn next(&mut self) -> Option<Use> {
         while let Some(used) = self.walk.next() {
             if differs(&self.digests, self.summary, &used) {

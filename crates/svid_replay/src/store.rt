@@ -11,10 +11,10 @@ use crate::near::Near;
 use crate::room::Room;
 use std::alloc::AllocError;
 
-/// What a greater moment did to a set of uses.
+/// What a later moment did to a set of uses.
 #[derive(Clone, Copy, Debug, PartialEq, Eq)]
 pub struct Raised {
-    /// How many uses expired by the moment and went.
+    /// How many uses expired by the moment and were dropped.
     pub dropped: usize,
 }
 
@@ -22,15 +22,15 @@ pub struct Raised {
 pub trait UseStore {
     ghost content: { Self → Uses };
 
-    /// Puts a use into the set. This, `insert_all`, `compact` and `tidy` are the only calls that take memory; where
-    /// it is refused the set stays as it was. A use that is in the set already always succeeds.
+    /// Puts a use into the set. Only this, `insert_all`, `compact` and `tidy` take memory; where it is refused the set stays as
+    /// it was. Inserting a use that the set has already always succeeds.
     fn insert(&mut self, new: Use) -> Result<(), AllocError>
         ensures ok { OnOk result (content self.new ≡ with (content self.old) new) }
         ensures err { OnErr result (content self.new ≡ content self.old) }
         ensures held { IsTrue (holds (content self.old) new) → IsOk result };
 
-    /// Puts rising uses into the set, all at once, if the set has a quick way to do that and is given the
-    /// memory; answers whether it did. If not, the set stayed as it was, and `insert` takes them one by one.
+    /// Puts rising uses into the set, all at once, if the set has a quick way to do that and is given the memory; returns whether
+    /// it did. If not, the set stayed as it was, and `insert` takes them one by one.
     fn insert_all(&mut self, uses: &[Use]) -> bool
         requires { IsRising uses.now }
         ensures all { IsTrue result → content self.new ≡ with_all (content self.old) uses.now }
@@ -46,15 +46,14 @@ pub trait UseStore {
         ensures { content self.new ≡ content self.old }
     {}
 
-    /// Takes out the uses that expire at the moment (in seconds) or before it. The set is that of the moment at
-    /// once; a store may keep the memory of these uses until `tidy`, so that this call is short.
+    /// Drops the uses that expire at the moment (in seconds) or before. The set has its new content at once; a store may keep the
+    /// memory of these uses until `tidy`, so that this call is short.
     fn drop_expired(&mut self, moment: u64) -> Raised
         ensures kept { content self.new ≡ live (content self.old) moment }
         ensures dropped { result.dropped + count (content self.new) ≡ count (content self.old) };
 
-    /// Gives back memory of uses that were taken out, if the set has a way to do that. The set stays the same. A
-    /// call may do a part of the work, and leave the rest to later calls: a record makes one each time that it is
-    /// raised.
+    /// Gives back memory of dropped uses, if the set has a way to do that. The set stays the same. A call may do a part of the
+    /// work, and leave the rest to later calls: a record makes one each time that its moment advances.
     fn tidy(&mut self)
         ensures { content self.new ≡ content self.old }
     {}
@@ -82,8 +81,8 @@ pub trait UseStore {
     fn next_after(&self, after: Option<Use>) -> Option<Use>
         ensures { result ≡ next_above (content self.now) after };
 
-    /// The least use of the set, or the least that is greater than the one given, where mostly little lies between the
-    /// use that an earlier such call was given and this one. `near` is what that call left, and may be anything.
+    /// The least use of the set, or the least that is greater than the one given. It is quick where little lies between the use
+    /// that an earlier such call was given and this one. `near` is what that call left, and may be anything.
     fn next_near(&self, after: Option<Use>, near: &mut Near) -> Option<Use>
         ensures { result ≡ next_above (content self.now) after }
     {
@@ -91,8 +90,8 @@ pub trait UseStore {
         self.next_after(after)
     }
 
-    /// The next uses of the set, from the least or from the least that is greater than the one given, rising: as
-    /// many as the room takes, 64, or all that there are. What was in the room goes.
+    /// Fills the room with the next uses of the set, from the least or from the least that is greater than the one given, rising:
+    /// 64, or all that are left. Drops what was in the room.
     fn next_uses(&self, after: Option<Use>, room: &mut Room)
         ensures { room.new ≡ next_few (content self.now) after }
     {
@@ -107,8 +106,8 @@ pub trait UseStore {
         }
     }
 
-    /// The next uses of the set, as `next_uses` has them, from where a walk is; then it is behind the last of them.
-    /// `ahead` is new, or is as an earlier such call left it and the set did not change since. A set that is made of
+    /// Fills the room with the next uses of the set, as `next_uses` does, from the walk's position, and moves the walk past the
+    /// last of them. `ahead` must be new, or as an earlier such call left it with the set unchanged since. A set that is made of
     /// parts then begins with what was next in each of them.
     fn next_ahead(&self, ahead: &mut Ahead, room: &mut Room)
         requires { IsAhead (content self.now) ahead.old }

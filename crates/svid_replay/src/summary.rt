@@ -8,7 +8,7 @@ use std::marker::Model;
 /// A moment, and the digest of each bucket of a record. There are 256 buckets, one for each first byte
 /// of a key.
 ///
-/// It is 8,200 bytes long, so it is lent where it is not kept.
+/// It is 8,200 bytes long: lend it where you don't keep it.
 #[derive(Debug, Drop)]
 pub struct Summary {
     moment: u64,
@@ -48,7 +48,7 @@ impl Summary {
         Summary { moment, digests }
     }
 
-    /// The moment that the summary tells, in seconds.
+    /// The moment of the summary, in seconds.
     pub fn moment(&self) -> u64
         ensures value { result ≡ self.now.moment }
         ensures summary { IsSummary self.now }
@@ -56,7 +56,7 @@ impl Summary {
         self.moment
     }
 
-    /// The digest of a bucket: that of the uses whose keys begin with this byte.
+    /// The digest of a bucket, which has the uses whose keys begin with this byte.
     pub fn digest(&self, bucket: u8) -> &[u8; 32]
         ensures { slice_get self.now.digests bucket ≡ Some result.now }
     {

@@ -3,15 +3,14 @@ ghost use Rattle.svid_replay.specs.Use.{text_of, IsUse};
 
 use crate::layout::{AT_START, EXP_START, KEY_START, KIND_START, USE_LEN, VALIDATOR_ID_START};
 
-/// One use of a token, which a validator accepted once; or that it was withdrawn. Uses are ordered as
-/// their texts are.
+/// One use of a token, which a validator accepted once, or a withdrawal of it. Uses are ordered as their texts are.
 #[derive(Clone, Copy, Debug, PartialEq, Eq, PartialOrd, Ord)]
 pub struct Use {
     /// When the token expires, in seconds.
     pub exp: u64,
-    /// The key of the token. Uses of one key are taken for uses of one token.
+    /// The key of the token. Uses of one key count as uses of one token.
     pub key: [u8; 32],
-    /// The validator ID where it was used or withdrawn. Validators are told apart by their validator IDs.
+    /// The ID of the validator where it was used or withdrawn.
     pub validator_id: [u8; 16],
     /// When it was used or withdrawn, in seconds.
     pub at: u64,
@@ -35,8 +34,8 @@ impl Use {
         self.exp > moment
     }
 
-    /// The 65 bytes of this use: `exp`, `key`, `validator_id` and `at`, each number with its greatest byte
-    /// first, and then 1 for a withdrawal or else 0.
+    /// The 65 bytes of this use: `exp`, `key`, `validator_id` and `at`, each number with its most significant byte first, and
+    /// then 1 for a withdrawal or else 0.
     pub fn text(&self) -> [u8; USE_LEN]
         ensures { result ≡ text_of self.now }
     {

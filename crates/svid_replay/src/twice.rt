@@ -35,7 +35,7 @@ fn is_twice(group: &[Use]) -> bool
     group.len() > 1
 }
 
-// The uses in front that have this key, and the rest.
+// Splits off the first uses that have this key.
 fn split_key<'a>(key: &[u8; 32], uses: &'a [Use]) -> (&'a [Use], &'a [Use])
     ensures front { result.0.now ≡ take (prefix_len (has_key key.now) uses.now) uses.now }
     ensures rest { result.1.now ≡ drop (prefix_len (has_key key.now) uses.now) uses.now }

@@ -7,8 +7,8 @@ use crate::store::UseStore;
 use crate::{Record, Use};
 use std::marker::Model;
 
-/// The uses of a record that are left to a walk, rising. The walk takes them from the store 64 at a time and has them at
-/// hand, so that most steps are short. No step takes memory.
+/// The uses of a record that are left to a walk, rising. The walk takes them from the store 64 at a time, so that most steps are
+/// short. No step takes memory.
 #[derive(Debug, Drop)]
 pub struct Walk<'a, S: UseStore> {
     whole: &'a Record<S>,

@@ -87,7 +87,7 @@ fn take_kept(env: &mut Env, name: &str) -> Result<Option<KeptSink>, Stop> {
     }
 }
 
-// The earlier records come first: a line that is refused memory for their list has taken nothing yet.
+// The earlier records come first: where memory for their list is refused, the line has taken nothing yet.
 fn take_streams(env: &mut Env, words: &[&str], earlier: &[&str]) -> Result<CheckStreams, Stop> {
     let earlier = take_sources(env, earlier, 4)?;
     Ok(CheckStreams {

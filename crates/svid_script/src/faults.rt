@@ -8,7 +8,7 @@ use svid_share::ToolFault;
 use svid_token::{PartFault, Refusal};
 use svid_wire::ReadFault;
 
-/// `no_memory`: the message of each fault that says that a call was out of memory.
+/// `no_memory`: the message of each fault that stands for out of memory.
 pub fn no_memory(out: &mut Out<'_>) -> Result<(), Stop> {
     say_message(out, &IdFault::OutOfMemory);
     say_message(out, &PartFault::OutOfMemory);

@@ -81,7 +81,7 @@ fn fail(env: &mut Env, words: &[&str]) -> Result<(), Stop> {
     Ok(())
 }
 
-// The calls that no library has.
+// The calls that are not in any library.
 fn own_call(out: &mut Out<'_>, env: &mut Env, words: &[&str]) -> Result<(), Stop> {
     match word(words, 0) {
         "let" => name_bytes(env, words),
@@ -102,7 +102,7 @@ fn own_call(out: &mut Out<'_>, env: &mut Env, words: &[&str]) -> Result<(), Stop
     }
 }
 
-// The calls on values that records and messages are made of.
+// The calls on records and messages and their parts.
 fn record_call(out: &mut Out<'_>, env: &mut Env, words: &[&str]) -> Result<(), Stop> {
     match own_call(out, env, words) {
         Err(Stop::NoCall) => svid_script_records::call(out, env, words),
@@ -193,7 +193,7 @@ fn call(out: &mut Out<'_>, values: &mut Values, line: &str) -> Result<(), Stop> 
     script_call(out, values, &words)
 }
 
-// Makes the call of a line with nothing failing.
+// Makes the call of a line without any failure.
 fn call_again(out: &mut Out<'_>, values: &mut Values, line: &str) -> Result<(), Stop> {
     let get = values.env.get;
     let put = values.env.put;
@@ -205,7 +205,7 @@ fn call_again(out: &mut Out<'_>, values: &mut Values, line: &str) -> Result<(), 
     answer
 }
 
-// Makes the call of a line; and once more, where one of its streams failed that was told to.
+// Makes the call of a line; makes it again if a stream failed as the script asked.
 fn call_failing(out: &mut Out<'_>, values: &mut Values, line: &str) -> Result<(), Stop> {
     values.env.failed = false;
     let answer = call(out, values, line);
@@ -242,7 +242,7 @@ impl Script {
         }
     }
 
-    // Makes the call of a line with an allocation refused.
+    // Makes the call of a line with one allocation refused.
     fn call_refused(&mut self, out: &mut Out<'_>, line: &str) -> Result<(), Stop> {
         refuse(self.values.env.alloc, self.nth as usize);
         let answer = call_failing(out, &mut self.values, line);
@@ -271,7 +271,7 @@ impl Script {
         }
     }
 
-    /// Carries out a line. What is no call is told and passed over.
+    /// Carries out a line. Reports a line that is no call, and skips it.
     pub fn line(&mut self, out: &mut Out<'_>, line: &str) {
         if line.starts_with('#') {
             return;

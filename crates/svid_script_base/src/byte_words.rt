@@ -4,7 +4,7 @@ use crate::use_words::span;
 use crate::words::number;
 use hex::FromHexError;
 
-// The bytes of a span, which has the offset of the first and how many there are, as far as there are any.
+// The bytes of a span, as far as there are any. A span is the offset of its first byte and its length.
 fn within(bytes: &[u8], span: (u64, u64)) -> &[u8] {
     let (first, count) = span;
     let (_, rest) = bytes.split_at(bytes.len().min(first as usize));
@@ -21,13 +21,13 @@ fn push_named(env: &Env, word: &str, bytes: &mut Vec<u8>) -> Result<(), Stop> {
     Ok(())
 }
 
-// What a sink took.
+// The bytes that a sink took.
 fn push_taken(env: &Env, name: &str, bytes: &mut Vec<u8>) -> Result<(), Stop> {
     bytes.extend_from_slice(env.sinks.get(name)?.bytes())?;
     Ok(())
 }
 
-// A number, the greatest byte first.
+// A number, most significant byte first.
 fn push_number(number: u64, width: &str, bytes: &mut Vec<u8>) -> Result<(), Stop> {
     let all = number.to_be_bytes();
     match width {
@@ -37,7 +37,7 @@ fn push_number(number: u64, width: &str, bytes: &mut Vec<u8>) -> Result<(), Stop
     }
 }
 
-// Digits, and how often: `4a5352`, `11*32`.
+// Hexadecimal digits, and a count: `4a5352`, `11*32`.
 fn push_digits(env: &Env, part: &str, bytes: &mut Vec<u8>) -> Result<(), Stop> {
     let (digits, times) = match part.split_once('*') {
         Some((digits, times)) => (digits, number(times)?),
@@ -54,7 +54,7 @@ fn push_digits(env: &Env, part: &str, bytes: &mut Vec<u8>) -> Result<(), Stop> {
     Ok(())
 }
 
-// Appends the bytes that one part of a word is.
+// Appends the bytes of one part of a word.
 fn push_part(env: &Env, part: &str, bytes: &mut Vec<u8>) -> Result<(), Stop> {
     if let Some(name) = part.strip_prefix('=') {
         return push_named(env, name, bytes);
@@ -80,7 +80,7 @@ fn push_parts(env: &Env, word: &str, bytes: &mut Vec<u8>) -> Result<(), Stop> {
     push_part(env, rest, bytes)
 }
 
-/// The bytes that a word is: `.` for none, a text behind `'`, or parts with commas between them.
+/// The bytes of a word: `.` for none, a text after `'`, or parts with commas between them.
 pub fn bytes(env: &Env, word: &str) -> Result<Vec<u8>, Stop> {
     let mut bytes = Vec::new(env.alloc);
     if word == "." {

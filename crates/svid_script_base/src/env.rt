@@ -13,8 +13,7 @@ pub struct Pushed {
     pub before: Vec<u8>,
 }
 
-/// Which call of which stream of a line fails: the `nth` call of the stream with this index in the
-/// line, both counted from 1.
+/// Which call of a stream in a line fails: call `nth` of the stream with this index, both counted from 1.
 #[derive(Clone, Copy)]
 pub struct Failing {
     pub stream: u64,
@@ -35,7 +34,7 @@ pub struct Env {
     pub sinks: Named<PieceSink>,
     pub get: Option<Failing>,
     pub put: Option<Failing>,
-    /// Whether a stream failed in this line, because of `get` or `put`.
+    /// Whether a stream failed in this line, because of `fail get` or `fail put`.
     pub failed: bool,
 }
 

@@ -3,7 +3,7 @@ use std::fmt::{Debug, Display};
 use svid_replay::BatchFault;
 use svid_wire::{ReadFault, Reason, Stopped, WireFault, WriteFault};
 
-/// What a call answers where it went wrong, of those that records and messages have.
+/// A fault of a call on records or messages.
 pub trait Fault: Debug + Display + Drop {
     /// Whether it says that the call was out of memory.
     fn is_out_of_memory(&self) -> bool;

@@ -45,8 +45,7 @@ pub fn record_of(alloc: Global, kind: &str) -> Result<AnyRecord, Stop> {
     }
 }
 
-/// A call on the store, the record or the validator that a value is, over whichever store. The type is named as the caller
-/// knows it.
+/// A call on a store, a record or a validator, for every kind of store. The type is named as the caller knows it.
 #[macro_export]
 macro_rules! over_any {
     ($any:ident, $value:expr, $one:ident => $call:expr) => {

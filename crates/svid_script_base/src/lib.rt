@@ -1,5 +1,5 @@
-//! What the test driver's calls share: the words of a line, the values that a script has named, streams that fail when they
-//! are told to, and how an answer is printed.
+//! The common parts of the test driver's calls: the words of a line, the values that a script has named, streams that fail as the
+//! script asks, and how a result is printed.
 #![tactic(auto)]
 
 pub mod byte_words;

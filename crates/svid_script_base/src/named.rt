@@ -43,7 +43,7 @@ impl<T: Drop> Named<T> {
         Err(NO_SUCH_NAME)
     }
 
-    /// The value of this name, to be changed.
+    /// The value of this name, for a change.
     pub fn get_mut(&mut self, name: &str) -> Result<&mut T, Stop> {
         match self.slot(name) {
             Some(slot) => slot.as_mut().ok_or(NO_SUCH_NAME),
@@ -60,7 +60,7 @@ impl<T: Drop> Named<T> {
         Ok(())
     }
 
-    /// Gives a name that there is room for its value.
+    /// Gives a value a name. There must be room for it.
     pub fn put(&mut self, name: &str, value: T) -> Result<(), Stop> {
         match self.slot(name) {
             Some(slot) => {

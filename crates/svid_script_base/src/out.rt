@@ -2,8 +2,8 @@ use std::fmt::Display;
 use std::io;
 use std::io::{BufWriter, Printer, Write};
 
-/// Standard output, and whether the message of a fault is printed behind it. What the system answers to the first write that fails is
-/// kept, and nothing is printed behind that.
+/// Standard output, and whether the message of a fault is printed after it. Keeps the system's error for the first write that
+/// fails, and prints nothing after that.
 #[derive(Drop)]
 pub struct Out<'a> {
     writer: BufWriter<Printer<'a, HostRuntime>>,
@@ -12,7 +12,7 @@ pub struct Out<'a> {
 }
 
 impl<'a> Out<'a> {
-    /// Takes the memory that it needs: printing takes none.
+    /// Takes all memory that it needs: printing takes none.
     pub fn new(rt: &'a HostRuntime) -> io::Result<Out<'a>> {
         Ok(Out {
             writer: BufWriter::new(rt.alloc(), io::writer(rt))?,
@@ -35,12 +35,12 @@ impl<'a> Out<'a> {
         }
     }
 
-    /// Whether all went well so far, or else what the system answered.
+    /// The system's error for the first write that failed, if one did.
     pub fn ended(&mut self) -> io::Result<()> {
         std::mem::replace(&mut self.kept, Ok(()))
     }
 
-    /// Hands all that was printed to the system.
+    /// Hands everything that was printed to the system.
     pub fn flush(&mut self) -> io::Result<()> {
         self.ended()?;
         self.writer.flush()

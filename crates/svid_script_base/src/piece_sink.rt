@@ -1,15 +1,14 @@
 use std::alloc::Global;
 use svid_wire::{Sink, Stopped};
 
-/// So many pieces of this length that were handed in a row.
+/// So many pieces of this length in a row.
 #[derive(Clone, Copy)]
 pub struct Pieces {
     pub len: usize,
     pub times: u64,
 }
 
-/// A sink that takes its bytes in pieces, keeps the lengths of those that it was handed, and fails at
-/// the call that it is told.
+/// A sink that takes its bytes in pieces, keeps the lengths of the pieces, and fails at a given call.
 #[derive(Drop)]
 pub struct PieceSink {
     bytes: Vec<u8>,
@@ -23,7 +22,7 @@ pub struct PieceSink {
 }
 
 impl PieceSink {
-    /// Takes at most `step` bytes a call; its call with the number `fail` fails, counted from 1.
+    /// Takes at most `step` bytes a call; its call with the number `fail`, counted from 1, fails.
     pub fn new(alloc: Global, step: usize, fail: Option<u64>) -> PieceSink {
         PieceSink {
             bytes: Vec::new(alloc),
@@ -37,7 +36,7 @@ impl PieceSink {
         }
     }
 
-    /// Begins anew, and is told of a call that fails as well.
+    /// Starts again with no calls. The call with the number `told` also fails, if one is given.
     pub fn begin(&mut self, told: Option<u64>) {
         self.bytes.clear();
         self.handed.clear();
@@ -47,7 +46,7 @@ impl PieceSink {
         self.starved = false;
     }
 
-    /// Whether the call failed of which it was told.
+    /// Whether the call that `begin` was given has failed.
     pub fn has_failed(&self) -> bool {
         match self.told {
             Some(nth) => nth <= self.puts,
@@ -60,18 +59,18 @@ impl PieceSink {
         self.starved
     }
 
-    /// What it took.
+    /// The bytes that it took.
     pub fn bytes(&self) -> &[u8] {
         &self.bytes
     }
 
-    /// The pieces that it was handed.
+    /// The pieces that it was given.
     pub fn handed(&self) -> &[Pieces] {
         &self.handed
     }
 }
 
-// Keeps the length of a piece; answers whether there was memory for that.
+// Keeps the length of a piece; returns whether there was memory for it.
 fn note(handed: &mut Vec<Pieces>, len: usize) -> bool {
     if let Some(last) = handed.last_mut() {
         if last.len == len {
@@ -82,7 +81,7 @@ fn note(handed: &mut Vec<Pieces>, len: usize) -> bool {
     handed.push(Pieces { len, times: 1 }).is_ok()
 }
 
-// Keeps bytes; answers whether there was memory for them.
+// Keeps bytes; returns whether there was memory for them.
 fn keep(bytes: &mut Vec<u8>, piece: &[u8]) -> bool {
     bytes.extend_from_slice(piece).is_ok()
 }

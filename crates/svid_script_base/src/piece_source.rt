@@ -1,6 +1,6 @@
 use svid_wire::{Source, Stopped};
 
-/// A source that gives its bytes in pieces, counts its calls, and fails at the call that it is told.
+/// A source that gives its bytes in pieces, counts its calls, and fails at a given call.
 #[derive(Drop)]
 pub struct PieceSource {
     bytes: Vec<u8>,
@@ -13,7 +13,7 @@ pub struct PieceSource {
 }
 
 impl PieceSource {
-    /// Gives at most `step` bytes a call; its call with the number `fail` fails, counted from 1.
+    /// Gives at most `step` bytes a call; its call with the number `fail`, counted from 1, fails.
     pub fn new(bytes: Vec<u8>, step: usize, fail: Option<u64>) -> PieceSource {
         PieceSource {
             bytes,
@@ -26,7 +26,7 @@ impl PieceSource {
         }
     }
 
-    /// Begins anew, and is told of a call that fails as well.
+    /// Starts again with no calls. The call with the number `told` also fails, if one is given.
     pub fn begin(&mut self, told: Option<u64>) {
         self.told = told;
         self.at = 0;
@@ -34,7 +34,7 @@ impl PieceSource {
         self.faults = 0;
     }
 
-    /// Whether the call failed of which it was told.
+    /// Whether the call that `begin` was given has failed.
     pub fn has_failed(&self) -> bool {
         match self.told {
             Some(nth) => nth <= self.gets,

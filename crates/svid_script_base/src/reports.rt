@@ -22,7 +22,7 @@ fn hash_uses(hasher: &mut Sha256, uses: &[Use]) {
     }
 }
 
-// Prints the keys that were used twice.
+// Prints the keys that were used more than once.
 fn say_report(out: &mut Out<'_>, listed: &[Twice]) {
     if listed.len() > MOST_KEYS {
         let mut hasher = Sha256::new();

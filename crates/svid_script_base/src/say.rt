@@ -16,7 +16,7 @@ pub fn say_message<E: Display>(out: &mut Out<'_>, fault: &E) {
     out.line(format_args!("= {fault}"))
 }
 
-/// Prints the fault that a call answered, or stops where that says that it was out of memory.
+/// Prints the fault of a call, or stops where the call was out of memory.
 pub fn say_fault<E: Debug + Display + Drop>(
     out: &mut Out<'_>,
     fault: E,
@@ -38,12 +38,12 @@ pub fn refused<E: Fault>(out: &mut Out<'_>, fault: E) -> Result<(), Stop> {
     say_fault(out, fault, is_out_of_memory)
 }
 
-/// Prints that a call went well that answers nothing else.
+/// Prints that a call succeeded that returns nothing else.
 pub fn say_ok(out: &mut Out<'_>) {
     out.line("= ok")
 }
 
-/// Prints that a call went well that answers nothing else, or its fault.
+/// Prints that a call succeeded that returns nothing else, or its fault.
 pub fn done<E: Fault>(out: &mut Out<'_>, answer: Result<(), E>) -> Result<(), Stop> {
     match answer {
         Ok(()) => Ok(say_ok(out)),
@@ -81,7 +81,7 @@ fn digits(out: &mut Out<'_>, bytes: &[u8]) {
     }
 }
 
-/// Prints two digits where all bytes are equal, and else all digits.
+/// Prints two digits where all bytes are equal, or else all digits.
 pub fn short_digits(out: &mut Out<'_>, bytes: &[u8]) {
     match bytes.first() {
         Some(first) if bytes.iter().all(|byte| *byte == *first) => out.say(format_args!(
@@ -98,7 +98,7 @@ pub fn say_digits(out: &mut Out<'_>, bytes: &[u8]) {
     out.line("");
 }
 
-/// Prints bytes: their digits, or how many they are and their SHA-256.
+/// Prints bytes: their digits, or their number and SHA-256.
 pub fn say_bytes(out: &mut Out<'_>, bytes: &[u8]) {
     if bytes.len() <= MOST_DIGITS {
         return say_digits(out, bytes);
@@ -147,7 +147,7 @@ pub fn say_digest(out: &mut Out<'_>, what: &str, count: u64, hasher: Sha256) {
     out.line("");
 }
 
-/// Prints uses, each on a line, or how many they are and their SHA-256.
+/// Prints uses, each on a line, or their number and SHA-256.
 pub fn say_uses(out: &mut Out<'_>, uses: &[Use]) {
     if uses.len() > MOST_LINES {
         let mut hasher = Sha256::new();

@@ -3,11 +3,11 @@ use std::alloc::{AllocError, AllocFailed};
 /// Why a line was not carried out.
 #[derive(Clone, Copy, Debug)]
 pub enum Stop {
-    /// The call answered that it was out of memory, or the program itself was.
+    /// The call returned that it was out of memory, or the program itself was.
     OutOfMemory,
-    /// The line is no call, or one that may not be made.
+    /// The line is no call, or a call that is not allowed.
     Script(&'static str),
-    /// The line is none of the calls that were looked through.
+    /// The line is none of the calls so far.
     NoCall,
 }
 

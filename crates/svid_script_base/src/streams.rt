@@ -16,7 +16,7 @@ fn told(failing: Option<Failing>, stream: u64) -> Option<u64> {
     }
 }
 
-/// Takes a source out for a call, and has it begin. It is the one with this index in the line, from 1.
+/// Takes a source out for a call, and starts it. It has this index in the line, from 1.
 pub fn take_source(env: &mut Env, name: &str, index: u64) -> Result<PieceSource, Stop> {
     let mut source = env.sources.take(name)?;
     source.begin(told(env.get, index));
@@ -31,7 +31,7 @@ pub fn put_source(env: &mut Env, name: &str, source: PieceSource) -> Result<(), 
     env.sources.put(name, source)
 }
 
-/// Takes sources out for a call, and has them begin. The first has this index in the line.
+/// Takes sources out for a call, and starts them. The first has this index in the line.
 pub fn take_sources(env: &mut Env, names: &[&str], index: u64) -> Result<Vec<PieceSource>, Stop> {
     let mut sources = Vec::with_capacity(env.alloc, names.len())?;
     let mut next = index;
@@ -50,14 +50,14 @@ pub fn put_sources(env: &mut Env, names: &[&str], sources: Vec<PieceSource>) -> 
     Ok(())
 }
 
-/// Takes a sink out for a call, and has it begin. It is the one with this index in the line, from 1.
+/// Takes a sink out for a call, and starts it. It has this index in the line, from 1.
 pub fn take_sink(env: &mut Env, name: &str, index: u64) -> Result<PieceSink, Stop> {
     let mut sink = env.sinks.take(name)?;
     sink.begin(told(env.put, index));
     Ok(sink)
 }
 
-/// Puts a sink back after a call. It stops where the sink was out of memory: the call then says nothing.
+/// Puts a sink back after a call. Fails where the sink was out of memory: the call's result then says nothing.
 pub fn put_sink(env: &mut Env, name: &str, sink: PieceSink) -> Result<(), Stop> {
     let is_starved = sink.is_starved();
     if sink.has_failed() {

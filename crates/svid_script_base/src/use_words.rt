@@ -5,12 +5,12 @@ use crate::words::{id16, key, number};
 use std::alloc::Global;
 use svid_replay::Use;
 
-// What stands in front of the next slash, and what stands behind it.
+// The text before the next slash, and the text after it.
 fn cut(text: &str) -> Result<(&str, &str), Stop> {
     text.split_once('/').ok_or(Stop::Script("no use"))
 }
 
-/// The first of a span `FROM..TO`, and how many it has: its end is not part of it. A number is a span of one.
+/// The first of a span `FROM..TO`, and how many it has, without the end. A number is a span of one.
 pub fn span(word: &str) -> Result<(u64, u64), Stop> {
     match word.split_once("..") {
         Some((first, last)) => {
@@ -21,7 +21,7 @@ pub fn span(word: &str) -> Result<(u64, u64), Stop> {
     }
 }
 
-// The uses that a word is: the first one, and how many there are.
+// The uses of a word: the first one, and how many there are.
 fn uses_in(word: &str) -> Result<(Use, u64), Stop> {
     let (exp, rest) = cut(word)?;
     let (key_word, rest) = cut(rest)?;
@@ -41,12 +41,12 @@ fn uses_in(word: &str) -> Result<(Use, u64), Stop> {
     Ok((used, count))
 }
 
-/// The use that a word is.
+/// The use of a word.
 pub fn one_use(word: &str) -> Result<Use, Stop> {
     Ok(uses_in(word)?.0)
 }
 
-/// The use that a word is, if it is not `-`.
+/// The use of a word, if it is not `-`.
 pub fn use_if_any(word: &str) -> Result<Option<Use>, Stop> {
     if word == "-" {
         return Ok(None);
@@ -54,7 +54,7 @@ pub fn use_if_any(word: &str) -> Result<Option<Use>, Stop> {
     Ok(Some(one_use(word)?))
 }
 
-/// The uses that words are.
+/// The uses of words.
 pub fn uses(alloc: Global, words: &[&str]) -> Result<Vec<Use>, Stop> {
     let mut uses = Vec::new(alloc);
     for word in words {

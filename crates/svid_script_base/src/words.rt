@@ -14,22 +14,22 @@ pub fn words_of(alloc: Global, line: &str) -> Result<Vec<&str>, Stop> {
     Ok(words)
 }
 
-/// The word at a index, or an empty one.
+/// The word at an index, or an empty one.
 pub fn word<'a>(words: &[&'a str], at: usize) -> &'a str {
     words.get(at).copied().unwrap_or("")
 }
 
-/// The words from a index on.
+/// The words from an index on.
 pub fn from<'a>(words: &'a [&'a str], at: usize) -> &'a [&'a str] {
     words.split_at(at.min(words.len())).1
 }
 
-/// The number that a word is.
+/// The number in a word.
 pub fn number(word: &str) -> Result<u64, Stop> {
     word.parse::<u64>().map_err(|_| Stop::Script("no number"))
 }
 
-/// The number that a word is, if it is not `-`.
+/// The number in a word, if it is not `-`.
 pub fn number_if_any(word: &str) -> Result<Option<u64>, Stop> {
     if word == "-" {
         return Ok(None);
@@ -37,7 +37,7 @@ pub fn number_if_any(word: &str) -> Result<Option<u64>, Stop> {
     Ok(Some(number(word)?))
 }
 
-/// The number of bytes that a word is, at least 1.
+/// The number of bytes in a word, at least 1.
 pub fn step(word: &str) -> Result<usize, Stop>
     ensures positive { IfOk result (λ step. 0 < step) }
 {
@@ -72,7 +72,7 @@ pub fn id16(word: &str) -> Result<[u8; 16], Stop> {
     <[u8; 16] as FromHex>::from_hex(word).map_err(|_| Stop::Script("no validator ID"))
 }
 
-/// The text that bytes are.
+/// The bytes as text.
 pub fn text_of(bytes: &[u8]) -> Result<&str, Stop> {
     match std::str::from_utf8(bytes) {
         Ok(text) => Ok(text),
@@ -80,7 +80,7 @@ pub fn text_of(bytes: &[u8]) -> Result<&str, Stop> {
     }
 }
 
-/// The text that a word is: itself, or named bytes.
+/// The text of a word: itself, or named bytes.
 pub fn text(env: &Env, word: &str) -> Result<String, Stop> {
     match word.strip_prefix('=') {
         Some(name) => Ok(String::from_str(env.alloc, text_of(env.bytes.get(name)?)?)?),
@@ -88,7 +88,7 @@ pub fn text(env: &Env, word: &str) -> Result<String, Stop> {
     }
 }
 
-/// The text that a word is, if it is not `-`.
+/// The text of a word, if it is not `-`.
 pub fn text_if_any(env: &Env, word: &str) -> Result<Option<String>, Stop> {
     if word == "-" {
         return Ok(None);
@@ -96,7 +96,7 @@ pub fn text_if_any(env: &Env, word: &str) -> Result<Option<String>, Stop> {
     Ok(Some(text(env, word)?))
 }
 
-/// The texts that words are.
+/// The texts of words.
 pub fn texts(env: &Env, words: &[&str]) -> Result<Vec<String>, Stop> {
     let mut texts = Vec::with_capacity(env.alloc, words.len())?;
     for word in words {

@@ -50,7 +50,7 @@ fn lending_call(
     }
 }
 
-/// Makes the call of a line on a validator or on what a token says, if it is one.
+/// Makes the call of a line on a validator or on the content of a token, if it is one.
 pub fn call(
     out: &mut Out<'_>,
     env: &mut Env,

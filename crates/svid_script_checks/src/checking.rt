@@ -147,7 +147,7 @@ pub fn answer(
     }
 }
 
-// What stands in front of the next slash, and what stands behind it.
+// The text before the next slash, and the text after it.
 fn cut(text: &str) -> Result<(&str, &str), Stop> {
     text.split_once('/').ok_or(Stop::Script("no event"))
 }
@@ -161,7 +161,7 @@ fn withdrawal<'a>(now: u64, rest: &str) -> Result<Event<'a>, Stop> {
     })
 }
 
-// The event that a word is.
+// The event of a word.
 fn event<'a>(env: &'a Env, word: &str) -> Result<Event<'a>, Stop> {
     let (kind, rest) = cut(word)?;
     if kind == "tick" {
@@ -208,8 +208,7 @@ fn run_by<S: UseStore>(
     validator.run(events, answers)
 }
 
-// Prints the answers. An event that was out of memory is told as such, and the run went on; the line is then out of
-// memory as a whole.
+// Prints the answers of a run. A run goes on after an event that was out of memory; the line is then out of memory as a whole.
 fn say_answers(out: &mut Out<'_>, answers: Vec<Answer>) -> Result<(), Stop> {
     let mut refused = false;
     for answer in answers {

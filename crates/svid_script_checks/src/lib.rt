@@ -1,4 +1,4 @@
-//! The test driver's calls on validators, and on what a token says.
+//! The test driver's calls on validators, and on the content of a token.
 #![tactic(auto)]
 
 mod calls;

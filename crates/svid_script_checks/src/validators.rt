@@ -13,7 +13,7 @@ use svid_script_base::words::{from, id16, number, number_if_any, texts, word};
 use svid_script_trust::asked::verifier_if_any;
 use svid_script_trust::{AnyValidator, AnyVerifier, Trust, Validators};
 
-// What a validator is given, but for its record.
+// The arguments of a validator, except its record.
 #[derive(Drop)]
 struct Setting {
     alloc: Global,
@@ -89,7 +89,7 @@ pub fn validator(
     let own = texts(env, from(words, 8))?;
     validators.make_room(word(words, 1))?;
     let no_table = verifier_if_any(env, word(words, 6))?;
-    // (from here on nothing that was named is used up where memory is refused)
+    // (from here on no named value is used up where memory is refused)
     let record = record_for(env, word(words, 2))?;
     let verifier = or_table(trust, no_table, word(words, 6))?;
     let setting = Setting {

@@ -3,7 +3,7 @@ use svid_script_base::out::Out;
 use svid_script_base::stop::Stop;
 use svid_script_base::words::{key, number, word};
 
-/// The owner that a word is.
+/// The owner of a word.
 pub(crate) fn owner(word: &str) -> Result<Owner, Stop> {
     Ok(Owner { bytes: key(word)? })
 }

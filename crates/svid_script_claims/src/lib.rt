@@ -1,4 +1,4 @@
-//! The test driver's calls on claims of tokens at a store.
+//! The test driver's calls on claims of tokens in a store.
 #![tactic(auto)]
 
 mod calls;

@@ -25,7 +25,7 @@ fn file_call(
     }
 }
 
-// The calls on what is due in a folder.
+// The calls on the steps of a folder.
 fn step_call(out: &mut Out<'_>, values: &mut Folders, words: &[&str]) -> Result<(), Stop> {
     match word(words, 0) {
         "folder" => folders::open(out, values, words),

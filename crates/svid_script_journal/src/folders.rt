@@ -8,7 +8,7 @@ use svid_script_base::say::{say_bytes, say_fault, say_none, say_ok};
 use svid_script_base::stop::Stop;
 use svid_script_base::words::{id16, number, word};
 
-// Prints that a call went well, or its fault.
+// Prints that a call succeeded, or its fault.
 fn done(out: &mut Out<'_>, answer: Result<(), Fault>) -> Result<(), Stop> {
     match answer {
         Ok(()) => Ok(say_ok(out)),
@@ -112,7 +112,7 @@ fn room_of(env: &Env, len: u64) -> Result<Vec<u8>, Stop> {
     Ok(room)
 }
 
-// Names and prints the frame that stands first in a room, or prints the fault.
+// Names and prints the frame at the start of a room, or prints the fault.
 fn framed(
     out: &mut Out<'_>,
     env: &mut Env,

@@ -34,7 +34,7 @@ pub(crate) fn show(out: &mut Out<'_>, folders: &Folders, words: &[&str]) -> Resu
     Ok(out.line(format_args!("= {count} {at} {marked}")))
 }
 
-// Prints what stands at a offset of a file.
+// Prints what is at an offset of a file.
 fn say_next(out: &mut Out<'_>, next: Next<'_>, at: u64) {
     match next {
         Next::Payload(payload) => say_bytes(out, payload),
@@ -66,7 +66,7 @@ pub(crate) fn read(out: &mut Out<'_>, env: &Env, words: &[&str]) -> Result<(), S
     let title = title_of(word(words, 1), word(words, 2))?;
     let file = bytes(env, word(words, 3))?;
     let mut reader = Reader::new();
-    // (each frame has 32 bytes at least)
+    // (each frame has at least 32 bytes)
     for _ in 0..=file.len() / 32 {
         let next = reader.next(&title, &file);
         let is_more = matches!(next, Next::Payload(_));

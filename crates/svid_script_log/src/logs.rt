@@ -3,7 +3,7 @@ use svid_log::{Claims, Fate, Member, Order, Value};
 use svid_replay::RunUses;
 use svid_script_base::named::Named;
 
-/// A member, and what a line answered before memory was refused for the next use: the order and the fates.
+/// A member, and what a line did before memory was refused for the next use: the order and the fates.
 #[derive(Drop)]
 pub struct Reader {
     pub member: Member<RunUses>,

@@ -13,7 +13,7 @@ use svid_script_base::stop::Stop;
 use svid_script_base::words::{from, number, word};
 use svid_script_trust::{AnyValidator, AnyVerifier, Validators};
 
-// A value that is read, with room for fates.
+// A value to read, with room for fates.
 #[derive(Drop)]
 struct Asked {
     position: u64,
@@ -26,7 +26,7 @@ fn room_of(alloc: Global, word: &str) -> Result<Vec<Fate>, Stop> {
     Ok([Fate::Expired].repeat(alloc, room as usize)?)
 }
 
-// The words from a index on are `POSITION ROOM USES`.
+// The words from an index on are `POSITION ROOM USES`.
 fn asked_in(alloc: Global, logs: &Logs, words: &[&str], at: usize) -> Result<Asked, Stop> {
     let words = from(words, at);
     Ok(Asked {
@@ -36,21 +36,21 @@ fn asked_in(alloc: Global, logs: &Logs, words: &[&str], at: usize) -> Result<Ask
     })
 }
 
-// Leaves out of the room what the line before wrote, and makes room to keep the rest.
+// Removes from the room what the line before wrote, and makes room to keep the rest.
 fn make_room(reader: &mut Reader, fates: &mut Vec<Fate>) -> Result<(), Stop> {
     let left = fates.len().saturating_sub(reader.before.len());
     fates.truncate(left);
     Ok(reader.before.reserve(left)?)
 }
 
-// Keeps the fates that a call wrote. (there is room for them)
+// Keeps the fates that a call wrote. (There is room for them.)
 fn keep(reader: &mut Reader, reading: &Reading, fates: Vec<Fate>) -> Result<(), Stop> {
     let mut fates = fates;
     fates.truncate(reading.count);
     Ok(reader.before.extend_from_slice(&fates)?)
 }
 
-// Prints what the call did, together with the one before it where memory was refused for that.
+// Prints what the call did, together with the one before it where that ran out of memory.
 fn say_read(
     out: &mut Out<'_>,
     reader: &mut Reader,

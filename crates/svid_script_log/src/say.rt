@@ -15,7 +15,7 @@ fn say_fate(out: &mut Out<'_>, fate: Fate, times: u64) {
     }
 }
 
-/// Prints fates, those that are equal in a row on one line.
+/// Prints fates; equal ones in a row share a line.
 pub fn say_fates(out: &mut Out<'_>, fates: &[Fate]) {
     let mut last = Fate::Expired;
     let mut times = 0u64;

@@ -27,7 +27,7 @@ pub fn value(out: &mut Out<'_>, env: &Env, logs: &mut Logs, words: &[&str]) -> R
     logs.values.put(word(words, 1), made)
 }
 
-/// The uses that the words from a index on are, or those of a named value.
+/// The uses in the words from an index on, or those of a named value.
 pub fn uses_at(alloc: Global, logs: &Logs, words: &[&str], at: usize) -> Result<Vec<Use>, Stop> {
     match word(words, at).strip_prefix('=') {
         Some(name) => Ok(logs.values.get(name)?.uses.to_vec(alloc)?),

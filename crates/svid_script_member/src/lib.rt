@@ -1,4 +1,5 @@
-//! The test driver's calls on the requests of a member, on a member with its validator, on withdrawals under way, and on when claims go out.
+//! The test driver's calls on the requests of a member, on a member with its validator, on withdrawals under way, and on the
+//! times at which claims are sent.
 #![tactic(auto)]
 
 mod calls;

@@ -14,7 +14,7 @@ pub(crate) fn is_yes(word: &str) -> Result<bool, Stop> {
     }
 }
 
-/// What an acceptance needs.
+/// The requirements for an acceptance.
 pub(crate) fn needs(word: &str) -> Result<Needs, Stop> {
     match word {
         "nothing" => Ok(Needs::Nothing),
@@ -24,7 +24,7 @@ pub(crate) fn needs(word: &str) -> Result<Needs, Stop> {
     }
 }
 
-/// How a member accepts tokens.
+/// The mode in which a member accepts tokens.
 pub(crate) fn mode(word: &str) -> Result<Mode, Stop> {
     match word {
         "once" => Ok(Mode::Once),
@@ -35,7 +35,7 @@ pub(crate) fn mode(word: &str) -> Result<Mode, Stop> {
     }
 }
 
-// What a member knows to which nothing is missing, and against which nothing speaks.
+// The readiness of a member that lacks nothing and has no reason to wait.
 fn ready() -> Readiness {
     Readiness {
         bundled: true,
@@ -54,7 +54,7 @@ fn ready() -> Readiness {
     }
 }
 
-// The same, but for the field of this name.
+// The same, with the field of this name changed.
 fn but(mut known: Readiness, field: &str) -> Result<Readiness, Stop> {
     match field {
         "bundled" => known.bundled = false,
@@ -75,7 +75,7 @@ fn but(mut known: Readiness, field: &str) -> Result<Readiness, Stop> {
     Ok(known)
 }
 
-/// What a member knows: the fields that are not as in one that is ready, with commas between them.
+/// The readiness of a member: the fields that differ from those of a ready one, with commas between them.
 pub(crate) fn known(word: &str) -> Result<Readiness, Stop> {
     let mut known = ready();
     if word != "-" {
@@ -101,7 +101,7 @@ pub(crate) fn reason(word: &str) -> Result<u8, Stop> {
     u8::try_from(number(word)?).map_err(|_| Stop::Script("no reason"))
 }
 
-/// The event that the words from the fourth on are.
+/// The event in the words from the fourth on.
 pub(crate) fn event(words: &[&str]) -> Result<Event, Stop> {
     if word(words, 3) == "overdue" {
         return Ok(Event::Overdue);
@@ -117,7 +117,7 @@ pub(crate) fn event(words: &[&str]) -> Result<Event, Stop> {
     }
 }
 
-/// A place that is to have withdrawals.
+/// Where withdrawals go.
 pub(crate) fn place(word: &str) -> Result<Place, Stop> {
     match word {
         "disk" => Ok(Place::Disk),
@@ -127,7 +127,7 @@ pub(crate) fn place(word: &str) -> Result<Place, Stop> {
     }
 }
 
-/// What a store answers: `OWNER TIME DEAF`, from the seventh word on.
+/// The answer of a store: `OWNER TIME DEAF`, from the seventh word on.
 pub(crate) fn found(words: &[&str]) -> Result<Found, Stop> {
     Ok(Found {
         owner: Owner {
@@ -138,7 +138,7 @@ pub(crate) fn found(words: &[&str]) -> Result<Found, Stop> {
     })
 }
 
-/// `CALLS AT PAUSE`, behind the first word
+/// `CALLS AT PAUSE`, after the first word
 pub(crate) fn pacing(words: &[&str]) -> Result<Pacing, Stop> {
     Ok(Pacing {
         calls: number(word(words, 1))?,

@@ -10,7 +10,7 @@ use svid_script_base::stop::Stop;
 use svid_script_trust::AnyVerifier;
 use svid_token::Refusal;
 
-/// What a peer is made of.
+/// The arguments of a peer.
 #[derive(Drop)]
 pub(crate) struct Setting {
     pub alloc: Global,
@@ -26,7 +26,7 @@ pub(crate) struct Setting {
     pub audience: String,
 }
 
-/// A token that a request brings, and when.
+/// The token of a request, and when it came.
 #[derive(Drop)]
 pub(crate) struct Shown {
     pub now: u64,
@@ -36,7 +36,7 @@ pub(crate) struct Shown {
     pub verifier: AnyVerifier,
 }
 
-/// What happens to a peer.
+/// A call on a peer.
 #[derive(Drop)]
 pub(crate) enum Told {
     Know(Readiness),
@@ -51,7 +51,7 @@ pub(crate) enum Told {
     Found(Shown, [u8; 32], Found),
 }
 
-/// What a peer answers.
+/// The result of a call on a peer.
 #[derive(Drop)]
 pub(crate) enum Answered {
     Known,
@@ -186,7 +186,7 @@ impl Pair {
     }
 }
 
-/// A member with its validator, and what happened to them: where memory was refused, they are begun again.
+/// A member with its validator, and all calls on them: where memory was refused, they start again with these.
 #[derive(Drop)]
 pub struct Peer {
     setting: Setting,
@@ -213,7 +213,7 @@ impl Peer {
         self.pair.validator.replay()
     }
 
-    // A member and a validator to which all that happened before.
+    // A member and a validator after all earlier calls.
     fn begun_again(&self) -> Result<Pair, Stop> {
         let mut pair = pair_of(&self.setting)?;
         for told in &self.before {
@@ -222,7 +222,7 @@ impl Peer {
         Ok(pair)
     }
 
-    /// Makes a call, and keeps it. Where memory was refused, all is as it was before.
+    /// Makes a call, and keeps it. Where memory was refused, everything is as it was before.
     pub(crate) fn tell(&mut self, told: Told) -> Result<Answered, Stop> {
         self.before.reserve(1)?;
         let answered = self.pair.tell(&told);

@@ -69,7 +69,8 @@ pub(crate) fn hear(out: &mut Out<'_>, members: &mut Members, words: &[&str]) -> 
     tell(out, members, word(words, 1), told)
 }
 
-// `NOW UP N`, behind the name, and a token and a verifier, which are the first two of other words. The inner fault is that of the token.
+// `NOW UP N`, after the name, and a token and a verifier, which are the first two of other words. The inner fault is that of the
+// token.
 fn shown(env: &Env, words: &[&str], others: &[&str]) -> Result<Result<Shown, Refusal>, Stop> {
     let now = number(word(words, 2))?;
     let up = number(word(words, 3))?;

@@ -6,7 +6,7 @@ use svid_script_base::stop::Stop;
 use svid_script_trust::say::say_checked;
 use svid_token::Refusal;
 
-/// Whether a request is answered that memory was refused.
+/// Whether a request ends because memory was refused.
 pub(crate) fn is_starved(deed: &Deed) -> bool {
     matches!(deed, Deed::Answer(_, Verdict::NoMemory, _))
 }
@@ -22,7 +22,7 @@ fn say_verdict(out: &mut Out<'_>, number: u64, verdict: Verdict) {
     }
 }
 
-/// Prints what is to be done, and the use that belongs to it.
+/// Prints what to do, and the use that belongs to it.
 pub(crate) fn say_deed(out: &mut Out<'_>, deed: Deed) {
     match deed {
         Deed::Nothing => say_text(out, "Nothing"),
@@ -60,7 +60,7 @@ pub(crate) fn say_number_if_any(out: &mut Out<'_>, number: Option<u64>) {
     }
 }
 
-/// Prints what becomes of a request that comes.
+/// Prints the result for a request that comes.
 pub(crate) fn say_coming(out: &mut Out<'_>, coming: Coming) {
     match coming {
         Coming::Comes(deed) => say_deed(out, deed),
@@ -68,7 +68,7 @@ pub(crate) fn say_coming(out: &mut Out<'_>, coming: Coming) {
     }
 }
 
-/// Prints what became of a request whose token was to be judged.
+/// Prints the result for a request whose token was to be judged.
 pub(crate) fn say_asked(out: &mut Out<'_>, asked: Asked) -> Result<(), Stop> {
     let Asked { deed, answer } = asked;
     say_deed(out, deed);
@@ -78,7 +78,7 @@ pub(crate) fn say_asked(out: &mut Out<'_>, asked: Asked) -> Result<(), Stop> {
     }
 }
 
-/// Prints what became of a request whose claim was answered.
+/// Prints the result for a request whose claim was answered.
 pub(crate) fn say_claimed(out: &mut Out<'_>, claimed: Claimed) -> Result<(), Stop> {
     let Claimed {
         deed,

@@ -9,14 +9,14 @@ use svid_script_base::say::{say_bool, say_use_if_any};
 use svid_script_base::stop::Stop;
 use svid_script_base::words::{number, word};
 
-// What happened at a moment: an event, or else a request came.
+// An event and its time: an event of the requests, or a new request.
 #[derive(Clone, Copy)]
 struct Told {
     up: u64,
     event: Option<Event>,
 }
 
-/// Requests, and what happened to them: where memory was refused, they are begun again.
+/// Requests, and all events so far: where memory was refused, they start again with these.
 #[derive(Drop)]
 pub struct Table {
     requests: Requests,
@@ -25,7 +25,7 @@ pub struct Table {
     before: Vec<Told>,
 }
 
-// Requests to which all that happened before.
+// Requests after all earlier events.
 fn begun_again(alloc: Global, needs: Needs, wait: u64, before: &[Told]) -> Requests {
     let mut requests = Requests::new(alloc, needs, wait);
     for told in before {

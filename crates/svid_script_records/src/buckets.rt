@@ -7,7 +7,7 @@ use svid_script_base::stop::Stop;
 use svid_script_base::words::{number, word};
 use svid_shards::ShardedUses;
 
-// The store of buckets that a store is.
+// The store of buckets, if this store is one.
 fn sharded(store: &mut AnyStore) -> Result<&ShardedUses<RunUses>, Stop> {
     match store {
         AnyStore::Sharded(store) => Ok(store),

@@ -40,7 +40,7 @@ fn push_in_pieces(
     feed.push(rest, messages)
 }
 
-// Begins a feed again that was out of memory: with all bytes that were pushed before.
+// Starts a feed again that was out of memory, with all bytes that were pushed before.
 fn begin_again(alloc: Global, feed: &mut Feed, before: &[u8]) {
     *feed = Feed::new(alloc);
     let mut messages = Vec::new(alloc);

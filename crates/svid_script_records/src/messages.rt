@@ -13,7 +13,7 @@ fn say_message(out: &mut Out<'_>, message: &Message) {
     }
 }
 
-/// Prints the messages that came, and the fault behind them.
+/// Prints the messages that came, and the fault after them.
 pub fn say_pushed(
     out: &mut Out<'_>,
     messages: &[Message],
@@ -38,7 +38,7 @@ pub fn messages(out: &mut Out<'_>, env: &Env, words: &[&str]) -> Result<(), Stop
     }
 }
 
-// Names the one message that bytes are. (the room for the name is there)
+// Gives the one message in these bytes a name. (There is room for it.)
 fn name_message(env: &mut Env, words: &[&str], mut messages: Vec<Message>) -> Result<(), Stop> {
     let last = messages.pop();
     if !messages.is_empty() {

@@ -138,7 +138,7 @@ fn call_on<S: UseStore>(
     }
 }
 
-/// A call on a record alone.
+/// A call on one record.
 pub fn call(out: &mut Out<'_>, env: &mut Env, words: &[&str]) -> Result<(), Stop> {
     let alloc = env.alloc;
     over_any!(AnyRecord, env.records.get_mut(word(words, 1))?, r => call_on(out, r, alloc, words))

@@ -3,7 +3,7 @@ use svid_script_base::say::{say_fault, say_ok};
 use svid_script_base::stop::Stop;
 use svid_share::ToolFault;
 
-/// Prints the fault of an engine and the exit status that goes with it, or stops where it was out of memory.
+/// Prints the fault of an engine and its exit status, or stops where the engine was out of memory.
 pub fn tool_refused(out: &mut Out<'_>, fault: ToolFault) -> Result<(), Stop> {
     let status = fault.status();
     say_fault(out, fault, matches!(fault, ToolFault::OutOfMemory))?;
@@ -13,7 +13,7 @@ pub fn tool_refused(out: &mut Out<'_>, fault: ToolFault) -> Result<(), Stop> {
     Ok(())
 }
 
-/// Prints that an engine went well that answers nothing else, or its fault.
+/// Prints that an engine succeeded that returns nothing else, or its fault.
 pub fn tool_done(out: &mut Out<'_>, answer: Result<(), ToolFault>) -> Result<(), Stop> {
     match answer {
         Ok(()) => Ok(say_ok(out)),

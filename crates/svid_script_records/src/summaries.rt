@@ -20,7 +20,7 @@ pub fn summary(env: &mut Env, words: &[&str]) -> Result<(), Stop> {
     env.summaries.put(word(words, 1), made)
 }
 
-// The digests that bytes are, one after the other.
+// The digests in these bytes, one after the other.
 fn digests_in(bytes: &[u8]) -> [[u8; 32]; 256] {
     let mut digests = [[0u8; 32]; 256];
     for (digest, piece) in digests.iter_mut().zip(bytes.chunks_exact(32)) {

@@ -72,7 +72,7 @@ fn get_one<S: Source>(out: &mut Out<'_>, source: &mut S, room: Vec<u8>) -> Resul
     say_given(out, &room, answer)
 }
 
-// A call of `get` for each room, and how many faults the source has counted.
+// Calls `get` for each room, and prints how many faults the source has counted.
 fn get_all<S: Source>(out: &mut Out<'_>, source: &mut S, rooms: Vec<Vec<u8>>) -> Result<(), Stop> {
     for room in rooms {
         get_one(out, source, room)?;
@@ -87,7 +87,7 @@ fn put_one<K: Sink>(out: &mut Out<'_>, sink: &mut K, piece: &[u8]) -> Result<(),
     }
 }
 
-// A call of `put` for each piece, and how many faults the sink has counted.
+// Calls `put` for each piece, and prints how many faults the sink has counted.
 fn put_each<K: Sink>(out: &mut Out<'_>, sink: &mut K, pieces: Vec<Vec<u8>>) -> Result<(), Stop> {
     for piece in pieces {
         put_one(out, sink, &piece)?;
@@ -95,7 +95,7 @@ fn put_each<K: Sink>(out: &mut Out<'_>, sink: &mut K, pieces: Vec<Vec<u8>>) -> R
     Ok(say_faults(out, sink.faults()))
 }
 
-// The bytes that each of these words is.
+// The bytes of each of these words.
 fn all_bytes(env: &Env, words: &[&str]) -> Result<Vec<Vec<u8>>, Stop> {
     let mut all = Vec::with_capacity(env.alloc, words.len())?;
     for word in words {

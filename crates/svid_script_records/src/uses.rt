@@ -28,7 +28,7 @@ pub fn text(out: &mut Out<'_>, words: &[&str]) -> Result<(), Stop> {
     Ok(say_bytes(out, &one_use(word(words, 1))?.text()))
 }
 
-// The words in front of the first `+`, and those behind it.
+// The words before the first `+`, and those after it.
 fn two_lists<'a>(words: &'a [&'a str]) -> (&'a [&'a str], &'a [&'a str]) {
     let mut count = words.len();
     for (at, word) in words.iter().enumerate() {

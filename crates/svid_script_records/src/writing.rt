@@ -48,7 +48,7 @@ pub fn put_line(out: &mut Out<'_>, env: &mut Env, words: &[&str]) -> Result<(), 
     tool_done(out, answer)
 }
 
-// What is put of a record, but for its answer to a summary.
+// Puts the text of a record or its report.
 fn put_state<S: UseStore>(
     alloc: Global,
     record: &Record<S>,

@@ -5,7 +5,7 @@ use svid_script_base::stop::Stop;
 use svid_script_base::words::{from, word};
 use svid_script_trust::Trust;
 
-// The calls on keys, bundles and documents of them.
+// The calls on keys, bundles and their documents.
 fn key_call(out: &mut Out<'_>, env: &Env, trust: &mut Trust, words: &[&str]) -> Result<(), Stop> {
     match word(words, 0) {
         "bundles" => keys::bundles(out, env, trust, words),
@@ -22,7 +22,7 @@ fn key_call(out: &mut Out<'_>, env: &Env, trust: &mut Trust, words: &[&str]) -> 
     }
 }
 
-// The calls on IDs and patterns of them.
+// The calls on IDs and patterns for them.
 fn id_call(out: &mut Out<'_>, env: &Env, words: &[&str]) -> Result<(), Stop> {
     match word(words, 0) {
         "id" => ids::id(out, env, words),

@@ -17,7 +17,7 @@ fn document<'a>(words: &[&'a str], text: &'a [u8]) -> Result<Document<'a>, Stop>
     }
 }
 
-// The texts of documents, of which each has three words.
+// The texts of documents. Each has three words.
 fn texts(env: &Env, words: &[&str]) -> Result<Vec<Vec<u8>>, Stop> {
     let mut texts = Vec::new(env.alloc);
     for three in words.chunks(3) {

@@ -36,7 +36,7 @@ pub fn is_domain(out: &mut Out<'_>, env: &Env, words: &[&str]) -> Result<(), Sto
     Ok(say_bool(out, is_domain_name(&text)))
 }
 
-// Whether two things are equal, their order, and the first of them as it shows itself.
+// Prints whether two things are equal, their order, and the first of them.
 fn say_compared<T: Ord + Display>(out: &mut Out<'_>, one: &T, other: &T) {
     let is_equal = one == other;
     let order = one.cmp(other);

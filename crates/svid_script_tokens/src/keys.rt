@@ -11,7 +11,7 @@ use svid_script_trust::keys::{alg, say_candidates};
 use svid_spki::key_spki;
 use svid_token::Alg;
 
-// The most bytes of a token, and so of what is signed and of a signature.
+// The most bytes of a token, and so of its signed part and its signature.
 const MOST: usize = 65536;
 
 /// `key_spki ALG BITS BYTES`
@@ -68,14 +68,14 @@ pub fn candidates(out: &mut Out<'_>, env: &Env, trust: &Trust, words: &[&str]) -
     say_candidates(out, env, bundles, words)
 }
 
-// The signed bytes and the signature, where they may be asked about.
+// The signed bytes and the signature.
 fn signed(env: &Env, words: &[&str], at: usize) -> Result<(Vec<u8>, Vec<u8>), Stop> {
     let input = bytes(env, word(words, at))?;
     let signature = bytes(env, word(words, at.saturating_add(1)))?;
     Ok((input, signature))
 }
 
-// Prints the question whether a signature is good for a key.
+// Prints the question to ask about a signature and a key.
 fn say_question(
     out: &mut Out<'_>,
     key: &JwtKey,
@@ -89,7 +89,7 @@ fn say_question(
     Ok(say_digits(out, &question(key, alg, input, signature)))
 }
 
-// Prints whether a table says that a signature is good for a key.
+// Prints whether a table accepts a signature for a key.
 fn say_verified(
     out: &mut Out<'_>,
     table: &TableVerifier,

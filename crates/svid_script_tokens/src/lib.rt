@@ -1,4 +1,4 @@
-//! The test driver's calls on SPIFFE IDs and patterns of them, bearer tokens, tokens, keys, trust bundles and documents that have these.
+//! The test driver's calls on SPIFFE IDs and patterns for them, bearer tokens, tokens, keys, trust bundles and their documents.
 #![tactic(auto)]
 
 mod bearer;

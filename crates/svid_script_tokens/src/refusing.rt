@@ -1,4 +1,4 @@
-// Prints the fault that a call answered, or stops where that says that it was out of memory.
+// Prints the fault of a call, or stops where the call was out of memory.
 
 use svid_id::IdFault;
 use svid_keys::{BundleFault, TableFault};

@@ -1,4 +1,4 @@
--- What the verifiers say that a script names.
+-- The answers of the verifiers that a script names.
 use Rattle.std.specs.Prelude.{ℕ, List, Bool, true, bytes_eq, codes}
 use Rattle.std.specs.String.{string_bytes}
 use Rattle.svid_keys.specs.Key.{KeyData}

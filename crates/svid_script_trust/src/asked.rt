@@ -4,7 +4,7 @@ use svid_script_base::env::Env;
 use svid_script_base::stop::Stop;
 use svid_script_base::words::{number, text, word};
 
-/// The verifier that a word is, if it is none by a table.
+/// The verifier of a word, unless it is a table.
 pub fn verifier_if_any(env: &Env, word: &str) -> Result<Option<AnyVerifier>, Stop> {
     if let Some(name) = word.strip_prefix("kid:") {
         return Ok(Some(AnyVerifier::Kid(text(env, name)?)));
@@ -16,7 +16,7 @@ pub fn verifier_if_any(env: &Env, word: &str) -> Result<Option<AnyVerifier>, Sto
     }
 }
 
-/// What is asked of a validator by another verifier than its own.
+/// A check by another verifier than the validator's own.
 #[derive(Drop)]
 pub struct Asked {
     pub now: u64,
@@ -24,7 +24,7 @@ pub struct Asked {
     pub verifier: AnyVerifier,
 }
 
-/// The words behind the first two are `NOW TOKEN VERIFIER`.
+/// The words after the first two are `NOW TOKEN VERIFIER`.
 pub fn asked_in(env: &Env, words: &[&str]) -> Result<Asked, Stop> {
     let now = number(word(words, 2))?;
     let token = bytes(env, word(words, 3))?;

@@ -11,7 +11,7 @@ pub fn alg(word: &str) -> Result<Alg, Stop> {
     Alg::of(word).ok_or(Stop::Script("no algorithm"))
 }
 
-/// Prints the candidates of bundles for `.. DOMAIN ALG KID`, behind the line's name.
+/// Prints the candidates of bundles for `.. DOMAIN ALG KID`, after the line's name.
 pub fn say_candidates(
     out: &mut Out<'_>,
     env: &Env,

@@ -1,5 +1,5 @@
-//! What the test driver's calls on tokens, validators and logs share: the trust bundles and validators that a script has named, the verifiers that
-//! it names, and how a key, a token's parts and the answer to a check are printed.
+//! The common parts of the test driver's calls on tokens, validators and logs: the trust bundles and validators that a script has
+//! named, the verifiers that it names, and how a key, a token's parts and the result of a check are printed.
 #![tactic(auto)]
 
 mod any_validator;

@@ -5,7 +5,7 @@ use svid_script_base::say::{say_fault, say_text, say_use};
 use svid_script_base::stop::Stop;
 use svid_token::{Claims, Header, Refusal};
 
-/// Prints why a token is refused, or stops where memory was.
+/// Prints why a token is refused, or stops where memory was refused.
 pub fn token_refused(out: &mut Out<'_>, refusal: Refusal) -> Result<(), Stop> {
     say_fault(out, refusal, matches!(refusal, Refusal::OutOfMemory))
 }

@@ -1,4 +1,4 @@
--- What one bucket of a set tells at a moment, and what of it answers a summary.
+-- The digest and the live uses of one bucket of a set at a moment, and its answer to a summary.
 use Rattle.std.proofs.Common.{◌≡◌, ℕ, ◌+◌, ◌<◌, ◌≤◌, zero, suc, max, All, Bool, true, false, ◌&&◌, List, [], ◌∷◌, ◌++◌, map, length, get_or, nat_eq, nat_lt, not, refl, sym, ◌∙◌, ap, arith, cond}
 use Rattle.std.proofs.lemmas.Bool.{eqb-false, eqb-true, false≢true, false_from_ne_true}
 use Rattle.std.proofs.lemmas.Bool.Decides.{nat_tests}
@@ -25,7 +25,7 @@ use Rattle.svid_shards.specs.declared.bucket_digest.BucketDigest.{BucketDigest}
 use Rattle.svid_shards.specs.Shards.{AreApart, all_in, shard}
 use Rattle.svid_shards.proofs.ShardsLemmas.{holds_all, rising_none}
 
--- what is live of a bucket is the bucket of what is live
+-- the live uses of a bucket are the bucket of the live uses
 pub live_of_bucket : (b moment : ℕ) (s : Uses) → live (bucket b s) moment ≡ bucket b (live s moment)
 live_of_bucket b moment s = same_uses (live (bucket b s) moment) (bucket b (live s moment)) (λ u.
     let is_live = nat_lt moment u.exp in
@@ -37,19 +37,19 @@ live_of_bucket b moment s = same_uses (live (bucket b s) moment) (bucket b (live
     turned true b c = refl
     turned false b c = refl
 
--- the digest of what is live in the store of a bucket
+-- the digest of the live uses in the store of a bucket
 pub digest_is : (d : BucketDigest) (here s : Uses) (b moment : ℕ) → here ≡ bucket b s → d.digest ≡ sha256 (flat_map text_of (rising (live here moment))) → d.uses ≡ count (live here moment) → d ≡ digest_at b moment s
 unfolding digest_at bucket_digest
 digest_is d here s b moment at digest uses =
     let same = ap (λ t. live t moment) at ∙ live_of_bucket b moment s in
     (λ i. record { digest = (digest ∙ ap (λ t. sha256 (flat_map text_of (rising t))) same) i; uses = (uses ∙ ap count same) i })
 
--- whether the digest of a bucket is another than this one
+-- whether the digest of a bucket differs from this one
 pub differs_is : (own : BucketDigest) (digest : List ℕ) (b moment : ℕ) (uses : Uses) → own ≡ digest_at b moment uses → not (is_eq (bytes_cmp own.digest digest)) ≡ differs_at b moment digest uses
 unfolding differs_at digest_at
 differs_is own digest b moment uses is = ap (λ (d : BucketDigest). not (is_eq (bytes_cmp d.digest digest))) is
 
--- what is live in the store of a bucket
+-- the live uses in the store of a bucket
 pub uses_are : (here uses : Uses) (b moment : ℕ) → here ≡ bucket b uses → filter (λ u. nat_lt moment u.exp) (rising here) ≡ uses_at b moment uses
 unfolding uses_at
 uses_are here uses b moment at = sym (rising-keep (λ u. nat_lt moment u.exp) here) ∙ ap (λ t. rising (live t moment)) at ∙ ap rising (live_of_bucket b moment uses)
@@ -89,7 +89,7 @@ buckets_apart s = λ i u h. elim (nat_lt i 256) as (λ t. nat_lt i 256 ≡ t →
   | false ↦ λ e. absurd (false≢true (sym (ap (λ t. holds t u) (beyond s i (grind (arith, nat_tests))) ∙ no_uses_hold_none u) ∙ h))
 ] refl
 
--- together they hold what the set holds, where each use of it is of one of 256 buckets
+-- together they hold what the set holds, where each of its uses is of one of 256 buckets
 whole : (s : Uses) → ((u : Use) → holds s u ≡ true → bucket_of u < 256) → all_in (buckets s) ≡ s
 whole s low = same_uses (all_in (buckets s)) s (λ u.
     let b = bucket_of u in
@@ -102,7 +102,7 @@ whole s low = same_uses (all_in (buckets s)) s (λ u.
     and_true true = refl
     and_true false = refl
 
--- what of a bucket answers a summary is what the bucket has of all that answers it
+-- the answer of a bucket is what the bucket has of the whole answer
 at_bucket : (s : SummaryData) (l : Uses) (b : ℕ) (u : Use) → b < 256 → bucket_of u ≡ b → differs s l u ≡ not (is_eq (bytes_cmp (bucket_digest b l) (get_or s.digests b [])))
 at_bucket s l b u low e =
     ap (λ k. not (is_eq (bytes_cmp (get_or (digests_of l) k []) (get_or s.digests k [])))) e ∙ ap (λ d. not (is_eq (bytes_cmp d (get_or s.digests b [])))) (digest_in l b [] low)
@@ -140,7 +140,7 @@ each_answer : (s : SummaryData) (uses : Uses) (n k : ℕ) → n + k ≤ 256 → 
 each_answer s uses n zero few = refl
 each_answer s uses n (suc k) few = (λ i. answer_of_bucket s uses n (omega (arith, few)) i ++ each_answer s uses (n + 1) k (omega (arith, few)) i)
 
--- the uses of a raised record are those that are live at the moment alone
+-- the live uses of an advanced record are those that are live at the moment alone
 live_later : (r : State) (moment : ℕ) → IsRecord r → live r.uses (max r.moment moment) ≡ live r.uses moment
 live_later r moment is = same_uses (live r.uses (max r.moment moment)) (live r.uses moment) (λ u.
     holds-live r.uses (max r.moment moment) u ∙ elim (holds r.uses u) as (λ t. holds r.uses u ≡ t → (nat_lt (max r.moment moment) u.exp && t) ≡ (nat_lt moment u.exp && t)) [

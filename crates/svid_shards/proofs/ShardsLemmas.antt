@@ -1,4 +1,4 @@
--- Sets of uses side by side, apart by the first bytes of their keys.
+-- Sets of uses that are separated by the first bytes of their keys.
 use Rattle.std.proofs.Common.{◌≡◌, ◌≢◌, ℕ, ◌<◌, ◌≤◌, ◌+◌, zero, suc, Bool, true, false, cond, ◌||◌, ◌&&◌, List, [], ◌∷◌, ◌++◌, map, filter, find, length, take, drop, get_or, ◌-◌, ◌^◌, min, replicate, nat_eq, nat_lt, Option, Some, None, refl, sym, ◌∙◌, ap, subst, arith}
 use Rattle.std.proofs.lemmas.Cmp.{by_ranked, ranked}
 use Rattle.std.proofs.Math.ListN.{set, get_or-map}
@@ -102,7 +102,7 @@ put_here ss new now i is within e =
 put_there : (ss : List Uses) (new : Use) (now : List Uses) (i : ℕ) → IsPut ss new now → i ≢ bucket_of new → shard now i ≡ shard ss i
 put_there ss new now i is other = ap (λ ts. shard ts i) is ∙ get_or-set_other ss (bucket_of new) i (with (shard ss (bucket_of new)) new) no_uses other
 
--- a use that a shard holds now is the new one, which is of that shard, or was there
+-- a use that a shard now holds is the new one, which is of that shard, or was there before
 put_cases : {G : Type 0} (ss : List Uses) (new : Use) (now : List Uses) (i : ℕ) (u : Use) → IsPut ss new now → bucket_of new < length ss → holds (shard now i) u ≡ true → (u ≡ new → i ≡ bucket_of new → G) → (holds (shard ss i) u ≡ true → G) → G
 put_cases {G = G} ss new now i u is within has first later =
     elim (nat_eq i (bucket_of new)) as (λ b. nat_eq i (bucket_of new) ≡ b → G) [
@@ -237,7 +237,7 @@ filter_swap p q (u ∷ us) = elim (p u) as (λ b. p u ≡ b → filter p (cond (
   ]
 ] refl
 
--- a use that is taken out of a walk changes what comes next in its own shard alone
+-- a use that a walk takes changes the next use only in its own shard
 head_stays : (ss : List Uses) (last : Option Use) (u : Use) (i : ℕ) → AreApart ss → next_above (all_in ss) last ≡ Some u → i ≢ bucket_of u → next_above (shard ss i) last ≡ next_above (shard ss i) (Some u)
 head_stays ss last u i apart next other =
     let us = rising (all_in ss) in
@@ -266,7 +266,7 @@ total_is ss total first s is view = is.counted ∙ sym (count_all ss is.apart) �
 held_in : (ss : List Uses) (s : Uses) (u : Use) → AreApart ss → all_in ss ≡ s → holds s u ≡ holds (shard ss (bucket_of u)) u
 held_in ss s u apart view = ap (λ t. holds t u) (sym view) ∙ holds_all ss apart u
 
--- at a moment before each expiry nothing goes
+-- at a moment before each expiry nothing is dropped
 pub all_left : (ss : List Uses) (total first moment : ℕ) (s : Uses) → IsSharded ss total first → all_in ss ≡ s → moment < first → s ≡ live s moment
 all_left ss total first moment s is view early = same_uses s (live s moment) (λ q.
     elim (holds s q) as (λ b. holds s q ≡ b → b ≡ (nat_lt moment q.exp && b)) [
@@ -311,18 +311,18 @@ held_stays ss total first new s is view has = with-held s new (held_in ss s new 
 pub shard_held : (ss : List Uses) (total first : ℕ) (new : Use) (s : Uses) → IsSharded ss total first → all_in ss ≡ s → holds s new ≡ true → holds (shard ss (bucket_of new)) new ≡ true
 shard_held ss total first new s is view has = sym (held_in ss s new is.apart view) ∙ has
 
--- a look for a key
+-- a look-up by key
 pub found_is : (p : Use → Bool) (ss : List Uses) (total first k : ℕ) (s here : Uses) (found : Bool) → IsSharded ss total first → all_in ss ≡ s → here ≡ shard ss k → found ≡ list_any p (rising here) → ((u : Use) → p u ≡ true → bucket_of u ≡ k) → found ≡ list_any p (rising s)
 found_is p ss total first k s here found is view at f only = f ∙ ap (λ t. list_any p (rising t)) at ∙ sym (any_found p k ss is.apart only) ∙ ap (λ t. list_any p (rising t)) view
 
--- a shard that is put in its place again
+-- a shard that is put back
 pub put_counts : (s : Uses) (new : Use) → (count (with s new) - count s ≤ 1) × (count s ≤ count (with s new))
 put_counts s new = elim (holds s new) as (λ b. count (with s new) ≡ cond b (count s) (count s + 1) → (count (with s new) - count s ≤ 1) × (count s ≤ count (with s new))) [
   | true ↦ λ e. (omega (arith, e), omega (arith, e))
   | false ↦ λ e. (omega (arith, e), omega (arith, e))
 ] (count-with s new)
 
--- stores in a vector, of which contracts see the sets
+-- stores in a vector, which contracts see as their sets
 pub store_at : {S : Type 0} (f : S → Uses) (stores : List S) (i : ℕ) (x : S) → i < length stores → x ≡ get_or stores i x → f x ≡ shard (map f stores) i
 store_at f stores i x within at = ap f at ∙ sym (mapped_at f stores i x no_uses within)
 
@@ -341,7 +341,7 @@ put_total ss now new before after put within was is =
     let sums = sum_by-set count ss k (with here new) no_uses within in
     (omega (arith, was, is, one.0), omega (arith, was, is, one.1, sums, ap total_of put))
 
--- one store more is swept
+-- one more store is swept
 pub record IsSwept (moment : ℕ) (was now : List Uses) (i went : ℕ) : Type 0 where
   pub swept : now ≡ map (λ s. live s moment) (take i was) ++ drop i was
   pub counted : went + total_of now ≡ total_of was
@@ -377,7 +377,7 @@ below_more P i each here j low = elim (nat_eq j i) as (λ b. nat_eq j i ≡ b �
   | false ↦ λ e. let other = eqb-false j i e in each j (omega (arith, low, other))
 ] refl
 
--- one head more is looked up
+-- one more head is looked up
 pub head_at : {S : Type 0} (f : S → Uses) (stores : List S) (i : ℕ) (x : S) (after head : Option Use) → i < length stores → x ≡ get_or stores i x → head ≡ next_above (f x) after → head ≡ get_or (heads_of (map f stores) after) i None
 head_at f stores i x after head within at is =
     is ∙ ap (λ s. next_above s after) (store_at f stores i x within at) ∙ sym (mapped_at (λ s. next_above s after) (map f stores) i no_uses None (omega (arith, within, length-map stores f)))
@@ -386,7 +386,7 @@ pub filled_more : (heads all : List (Option ℕ)) (i : ℕ) (head : Option ℕ) 
 filled_more heads all i head within low filled is =
     take_more_set heads i head within ∙ (λ j. filled j ++ is j ∷ []) ∙ sym (take_more all i None low)
 
--- the least so far, and one head more
+-- the least so far, and one more head
 least_push : (least head : Option Use) (heads : List (Option Use)) → least_in least (heads ++ head ∷ []) ≡ least_of (least_in least heads) head
 least_push least head [] = refl
 least_push least head (h ∷ hs) = least_push (least_of least h) head hs
@@ -425,7 +425,7 @@ least_more heads i at before are within low least is =
     ap (λ b. cond b one other) is ∙ sym (least_by_expiry one other (λ u v e f. omega (arith, low, are.each at u e, are.each i v f)))
     ∙ ap (λ h. least_of h one) least ∙ sym (ap (least_in None) (take_more heads i None (omega (arith, within, are.long))) ∙ least_push None one (take i heads))
 
--- a head that is there is what comes next in its shard
+-- a head that is there is the next use of its shard
 head_is : (ss : List Uses) (after : Option Use) (i : ℕ) (u : Use) → get_or (heads_of ss after) i None ≡ Some u → get_or (heads_of ss after) i None ≡ next_above (shard ss i) after
 head_is [] after i u e = let none : None ≡ Some u = e in cc
 head_is (s ∷ ss) after zero u e = refl
@@ -454,7 +454,7 @@ shard_is_bucket ss apart b = same_uses (shard ss b) (bucket b (all_in ss)) (λ u
     and_false true = refl
     and_false false = refl
 
--- what is told of each shard, and of each number of a shard
+-- a value for each shard, and for each number of a shard
 each_shard : {X : Type 0} (f : Uses → X) (g : ℕ → X) (n : ℕ) (ss : List Uses) → ((i : ℕ) → f (shard ss i) ≡ g (n + i)) → map f ss ≡ map g (range_with_len n (length ss))
 each_shard f g n [] same = refl
 each_shard f g n (s ∷ ss) same =
@@ -476,13 +476,13 @@ heads_all ss after apart long =
 pub known_heads : (ss : List Uses) (ahead : Ahead) → AreApart ss → length ss ≡ 256 → IsAhead (all_in ss) ahead → ahead.known ≡ true → ahead.heads ≡ map exp_if_any (heads_of ss ahead.after)
 known_heads ss ahead apart long is known = is known ∙ sym (heads_all ss ahead.after apart long)
 
--- the least behind a use: the first that expires at the same second, from the shard of that use on
+-- the least after a use: the first that expires at the same second, from the shard of that use on
 heads_stay : (u : Use) (heads : List (Option Use)) → ((i : ℕ) (v : Use) → get_or heads i None ≡ Some v → is_lt (use_cmp v u) ≡ false) → least_in (Some u) heads ≡ Some u
 heads_stay u [] later = refl
 heads_stay u (None ∷ heads) later = heads_stay u heads (λ i v e. later (suc i) v e)
 heads_stay u (Some v ∷ heads) later = ap (λ b. least_in (cond b (Some v) (Some u)) heads) (later 0 v refl) ∙ heads_stay u heads (λ i w e. later (suc i) w e)
 
--- each that comes in front of the least is greater
+-- each head before the least is greater
 heads_fall : (u : Use) (least : Option Use) (heads : List (Option Use)) (i : ℕ) → least_of least (Some u) ≡ Some u → get_or heads i None ≡ Some u → ((j : ℕ) (v : Use) → j < i → get_or heads j None ≡ Some v → is_lt (use_cmp u v) ≡ true) → ((j : ℕ) (v : Use) → get_or heads j None ≡ Some v → is_lt (use_cmp v u) ≡ false) → least_in least heads ≡ Some u
 heads_fall u least [] i beaten at greater later = let none : None ≡ Some u = at in cc
 heads_fall u least (h ∷ heads) zero beaten at greater later = ap (λ k. least_in k heads) (ap (least_of least) at ∙ beaten) ∙ heads_stay u heads (λ j v e. later (suc j) v e)
@@ -522,7 +522,7 @@ greater_no_earlier u v less = by_ranked (u.exp < v.exp) (u.exp ≡ v.exp) (v.exp
     (λ e h. omega (arith, h))
     (λ e h. absurd (false≢true (sym (not_turned v u (later_is_greater v u h)) ∙ less)))
 
--- no head of a shard in front of that of the use expires at its second
+-- no head of a shard before that of the use expires at its second
 pub none_in_front : (heads : List (Option Use)) (last : Use) → AreHeads heads → AreBehind (Some last) heads → (j : ℕ) → j < bucket_of last → is_second last.exp (exp_if_any (get_or heads j None)) ≡ false
 none_in_front heads last are behind j low = at (get_or heads j None) refl
   where
@@ -553,7 +553,7 @@ least_found heads last i are behind none here = at (get_or heads i None) refl he
         let earlier : nat_lt v.exp u.exp ≡ false = grind (arith, nat_tests, same, early j v is) in
         less_is_earlier u v low ∙ earlier)))
 
--- what comes next behind a use is greater
+-- the next use after a use is greater
 found_passes : (p : Use → Bool) (us : List Use) (u : Use) → find p us ≡ Some u → p u ≡ true
 found_passes p [] u e = let none : None ≡ Some u = e in cc
 found_passes p (v ∷ us) u e = elim (p v) as (λ b. p v ≡ b → cond b (Some v) (find p us) ≡ Some u → p u ≡ true) [
@@ -564,7 +564,7 @@ found_passes p (v ∷ us) u e = elim (p v) as (λ b. p v ≡ b → cond b (Some 
 pub heads_behind : (ss : List Uses) (after : Option Use) → AreBehind after (heads_of ss after)
 heads_behind ss after = λ i u e. found_passes (is_after after) (rising (shard ss i)) u (sym (head_is ss after i u e) ∙ e)
 
--- a look for a use, one step on
+-- a search for a use, one step on
 pub not_here : (sought u : Use) (us : List Use) (after : Option Use) → IsRising us → find (is_after after) us ≡ Some u → eq_by_cmp use_cmp sought u ≡ false → list_any (eq_by_cmp use_cmp sought) (filter (is_after (Some u)) us) ≡ list_any (eq_by_cmp use_cmp sought) (filter (is_after after) us)
 not_here sought u us after up next differs =
     let tie = eq_by_cmp use_cmp sought in
@@ -623,11 +623,11 @@ pub same_stores : (ss : List Uses) → map (λ s. s) ss ≡ ss
 same_stores [] = refl
 same_stores (s ∷ ss) = ap (λ ts. s ∷ ts) (same_stores ss)
 
--- the last of some uses, with one more behind them
+-- the last of some uses, with one more after them
 last_pushed : (before : Option Use) (us : List Use) (u : Use) → last_of before (us ++ u ∷ []) ≡ Some u
 last_pushed before [] u = refl
 last_pushed before (v ∷ us) u = last_pushed (Some v) us u
 
--- a use that was pushed into a room that is not full is the last of it
+-- a use that was pushed into a room that is not full is its last
 pub last_in : (before : Option Use) (room next : List Use) (u : Use) → true ≡ nat_lt (length room) 64 → (length room < 64 → next ≡ room ++ u ∷ []) → Some u ≡ last_of before next
 last_in before room next u free pushed = sym (ap (last_of before) (pushed (grind (arith, nat_tests, free))) ∙ last_pushed before room u)

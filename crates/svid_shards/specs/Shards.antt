@@ -15,7 +15,7 @@ shard shards i = slice_index_or shards i no_uses
 unfoldable pub all_in : List Uses → Uses
 all_in shards = uses_in (flat_map rising shards)
 
--- how many uses the shards have, one after the other
+-- how many uses the shards have together
 abbrev pub total_of : List Uses → ℕ
 total_of shards = sum_by count shards
 
@@ -27,18 +27,18 @@ AreApart shards = (i : ℕ) (u : Use) → IsTrue (holds (shard shards i) u) → 
 abbrev pub ExpireFrom : ℕ → List Uses → Type 0
 ExpireFrom first shards = (i : ℕ) (u : Use) → IsTrue (holds (shard shards i) u) → first ≤ u.exp
 
--- 256 shards, which keep apart: together they have so many uses, of which none expires before this second
+-- 256 shards that keep apart: together they have so many uses, and none of these expires before this second
 pub record IsSharded (shards : List Uses) (total first : ℕ) : Type 0 where
   pub long : length shards ≡ 256
   pub apart : AreApart shards
   pub counted : total ≡ total_of shards
   pub lasting : ExpireFrom first shards
 
--- what comes next in each shard
+-- the next use of each shard
 abbrev pub heads_of : List Uses → Option Use → List (Option Use)
 heads_of shards after = map (λ s. next_above s after) shards
 
--- the least of a use and the heads, where they are there
+-- the least of a use and the heads that are there
 abbrev pub least_in : Option Use → List (Option Use) → Option Use
 least_in least [] = least
 least_in least (head ∷ heads) = least_in (least_of least head) heads
@@ -47,13 +47,13 @@ least_in least (head ∷ heads) = least_in (least_of least head) heads
 abbrev pub IsPut : List Uses → Use → List Uses → Type 0
 IsPut before new after = after ≡ set before (bucket_of new) (with (shard before (bucket_of new)) new)
 
--- the first second is there, and the other is not or is later
+-- the first second is there, and the other is missing or later
 abbrev pub is_before : Option ℕ → Option ℕ → Bool
 is_before None other = false
 is_before (Some a) None = true
 is_before (Some a) (Some b) = nat_lt a b
 
--- of 256 heads each is of the shard whose number is its index
+-- each of 256 heads is of the shard whose number is its index
 pub record AreHeads (heads : List (Option Use)) : Type 0 where
   pub long : length heads ≡ 256
   pub each : (i : ℕ) (u : Use) → slice_index_or heads i None ≡ Some u → bucket_of u ≡ i
@@ -62,7 +62,7 @@ pub record AreHeads (heads : List (Option Use)) : Type 0 where
 abbrev pub AreBehind : Option Use → List (Option Use) → Type 0
 AreBehind last heads = (i : ℕ) (u : Use) → slice_index_or heads i None ≡ Some u → is_after last u ≡ true
 
--- it is there, and is this second
+-- it is there, and equals this second
 abbrev pub is_second : ℕ → Option ℕ → Bool
 is_second exp None = false
 is_second exp (Some second) = second == exp

@@ -9,7 +9,7 @@ use crate::store_walk::StoreWalk;
 use sha2::{Digest, Sha256};
 use svid_replay::UseStore;
 
-/// What one bucket tells at a moment.
+/// The digest of one bucket at a moment, and its size.
 #[derive(Clone, Copy, Debug, PartialEq, Eq)]
 pub struct BucketDigest {
     /// The digest of its uses that expire later, as a summary of that moment has it.
@@ -18,7 +18,7 @@ pub struct BucketDigest {
     pub uses: usize,
 }
 
-// The digest of those uses of a store that expire after a moment, and how many these are.
+// The digest of the uses of a store that expire after a moment, and how many these are.
 pub(crate) fn digest_of<S: UseStore>(store: &S, moment: u64) -> BucketDigest
     ensures digest { result.digest ≡ sha256 (flat_map text_of (rising (live (S.content store.now) moment))) }
     ensures uses { result.uses ≡ count (live (S.content store.now) moment) }

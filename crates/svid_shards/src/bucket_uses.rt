@@ -5,7 +5,7 @@ use crate::store_walk::StoreWalk;
 use std::alloc::{AllocError, Global};
 use svid_replay::{Use, UseStore};
 
-// Those uses of a store that expire after a moment, rising.
+// The uses of a store that expire after a moment, rising.
 pub(crate) fn live_of<S: UseStore>(
     alloc: Global,
     store: &S,

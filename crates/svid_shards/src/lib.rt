@@ -1,7 +1,7 @@
-//! A store of very many uses, no call of which takes long: [`ShardedUses`].
+//! [`ShardedUses`], a store for very many uses in which no call takes long.
 //!
-//! Each of its stores is a bucket of a summary, so a summary can be made, and answered, one bucket a call: each call looks
-//! into one store alone ([`laws`]).
+//! Each of its stores is a bucket of a summary, so a summary can be made, and answered, one bucket a call: each call looks into
+//! only one store ([`laws`]).
 //!
 //! ```rust
 //! use svid_replay::{Record, Use};

@@ -15,12 +15,12 @@ use std::alloc::{AllocError, Global};
 use std::marker::Model;
 use svid_replay::{Ahead, Raised, Room, RunUses, Use, UseStore};
 
-/// A set of uses in 256 stores, by the first byte of a key. A call that asks for a key or puts in a use has to do
-/// with one of them, so its longest call is that of a store with a 256th of the uses.
+/// A set of uses in 256 stores, by the first byte of a key. A call that looks up a key or puts in a use touches one of them, so
+/// its longest call is that of a store with a 256th of the uses.
 ///
-/// A walk looks into each of the stores once, where it begins, and then into one for each use. What expires is taken out of all stores, but only where
-/// the moment has come to a second in which a use may expire. A call of `tidy` or `compact` has to do with four of the
-/// stores, so 64 calls do it in all. Behind these, `tidy` does nothing until uses may have expired again.
+/// A walk looks into each of the stores once, where it begins, and then into one for each use. Expired uses are dropped from all
+/// stores, but only when the moment reaches a second in which a use may expire. A call of `tidy` or `compact` works on four of
+/// the stores, so 64 calls cover all. After these, `tidy` does nothing until uses may have expired again.
 #[derive(Debug, Drop)]
 pub struct ShardedUses<S: UseStore> {
     shards: Vec<S>,
@@ -30,7 +30,7 @@ pub struct ShardedUses<S: UseStore> {
     // (the numbers of the shards that are tidied and compacted next)
     next_tidied: u8,
     next_compacted: u8,
-    // (so many calls of `tidy` have shards to tidy, since uses went)
+    // (so many more calls of `tidy` have shards to tidy, after uses were dropped)
     untidied: u8,
 }
 
@@ -84,8 +84,8 @@ impl<S: UseStore> ShardedUses<S> {
         &self.shards[byte as usize]
     }
 
-    /// The digest of a bucket at a moment, in seconds: of those of its uses that expire later, as the summary of a record
-    /// of that moment has it. And how many uses these are.
+    /// The digest of a bucket at a moment, in seconds: over its uses that expire later, as in the summary of a record of that
+    /// moment. And how many uses these are.
     ///
     /// Takes no memory, and looks into one of the stores.
     pub fn bucket_digest(&self, byte: u8, moment: u64) -> BucketDigest
@@ -94,7 +94,7 @@ impl<S: UseStore> ShardedUses<S> {
         digest_of(self.bucket(byte), moment)
     }
 
-    /// Whether the digest of a bucket at a moment, in seconds, is another than this one: than that of another set, as a summary has it.
+    /// Whether the digest of a bucket at a moment, in seconds, differs from this one, which a summary of another set has.
     ///
     /// Takes no memory, and looks into one of the stores, at each use once.
     pub fn bucket_differs(&self, byte: u8, moment: u64, digest: &[u8; 32]) -> bool
@@ -106,7 +106,7 @@ impl<S: UseStore> ShardedUses<S> {
 
     /// The uses of a bucket that expire after a moment, in seconds, rising. The set stays as it is.
     ///
-    /// Looks into one of the stores, at each use once. Where memory is refused nothing is answered.
+    /// Looks into one of the stores, at each use once. Where memory is refused it returns no uses.
     pub fn bucket_uses(&self, alloc: Global, byte: u8, moment: u64) -> Result<Vec<Use>, AllocError>
         ensures { IfOk result (λ uses. uses.items ≡ uses_at byte moment self.now) }
     {
@@ -176,8 +176,8 @@ impl<S: UseStore> UseStore for ShardedUses<S> {
         self.next_ahead(&mut Ahead::of(after), room);
     }
 
-    /// The next uses of the set, as the trait has them. Then the heads are known, so that the next room needs a look into
-    /// a store for each use alone.
+    /// The next uses of the set, as the trait describes. It then knows the heads, so that the next room needs only one look into
+    /// a store for each use.
     fn next_ahead(&self, ahead: &mut Ahead, room: &mut Room)
         requires { IsAhead self.now ahead.old }
         ensures next { room.new ≡ next_few self.now ahead.old.after }

@@ -14,13 +14,13 @@ use svid_replay::{Ahead, Room, Use, UseStore};
 /// How many shards there are: one for each first byte of a key.
 pub(crate) const SHARDS: usize = 256;
 
-// So many shards are tidied or compacted at a time: few, so that a call is short.
+// How many shards are tidied or compacted at a time: few, so that a call is short.
 pub(crate) const TENDED: u8 = 4;
 
-// So many times tend to all shards.
+// After so many times all shards are done.
 pub(crate) const ROUND: u8 = 64;
 
-// The number of the shard that uses of a key lie in.
+// The number of the shard for a key.
 pub(crate) fn shard_of(key: &[u8; 32]) -> usize
     ensures value { result ≡ slice_index key.now 0 }
     ensures bound { result < 256 }
@@ -50,7 +50,7 @@ pub(crate) fn shard_holds<S: UseStore>(shards: &[S], sought: &Use) -> bool
     holds_use(&shards[shard_of(&sought.key)], sought)
 }
 
-// Puts a use into its shard, and answers how many uses that made more: one, or none where it was there.
+// Puts a use into its shard, and returns how many uses were added: one, or none where it was there.
 pub(crate) fn insert_into<S: UseStore>(shards: &mut Vec<S>, new: Use) -> Result<usize, AllocError>
     requires { length shards.old.items ≡ 256 }
     ensures ok { OnOk result (IsPut (map S.content shards.old.items) new (map S.content shards.new.items)) }
@@ -65,7 +65,7 @@ pub(crate) fn insert_into<S: UseStore>(shards: &mut Vec<S>, new: Use) -> Result<
     Ok(store.len() - before)
 }
 
-// Takes the expired uses out of each shard; answers how many went.
+// Drops the expired uses from each shard; returns how many.
 pub(crate) fn drop_all_expired<S: UseStore>(shards: &mut Vec<S>, moment: u64) -> usize
     requires { total_of (map S.content shards.old.items) < 2 ^ 64 }
     ensures kept { map S.content shards.new.items ≡ map (λ s. live s moment) (map S.content shards.old.items) }
@@ -79,7 +79,7 @@ pub(crate) fn drop_all_expired<S: UseStore>(shards: &mut Vec<S>, moment: u64) ->
     dropped
 }
 
-// Makes walks over some shards quicker, the one of this number first; behind the last comes the first.
+// Makes walks over some shards quicker, beginning with this number; the first shard follows the last.
 pub(crate) fn compact_some<S: UseStore>(shards: &mut Vec<S>, from: u8)
     requires { length shards.old.items ≡ 256 }
     ensures { map S.content shards.new.items ≡ map S.content shards.old.items }
@@ -91,7 +91,7 @@ pub(crate) fn compact_some<S: UseStore>(shards: &mut Vec<S>, from: u8)
     }
 }
 
-// Gives back memory in some shards, the one of this number first; behind the last comes the first.
+// Gives back memory in some shards, beginning with this number; the first shard follows the last.
 pub(crate) fn tidy_some<S: UseStore>(shards: &mut Vec<S>, from: u8)
     requires { length shards.old.items ≡ 256 }
     ensures { map S.content shards.new.items ≡ map S.content shards.old.items }
@@ -103,7 +103,7 @@ pub(crate) fn tidy_some<S: UseStore>(shards: &mut Vec<S>, from: u8)
     }
 }
 
-// When a use expires, if there is one.
+// The expiry of a use, if there is one.
 fn exp_if_any(used: Option<Use>) -> Option<u64>
     ensures { result ≡ exp_if_any used }
 {
@@ -113,7 +113,7 @@ fn exp_if_any(used: Option<Use>) -> Option<u64>
     }
 }
 
-// When what comes next in each shard expires.
+// The expiry of the next use in each shard.
 fn heads_of<S: UseStore>(shards: &[S], after: Option<Use>) -> [Option<u64>; SHARDS]
     requires { length shards.now ≡ 256 }
     ensures { result ≡ map exp_if_any (heads_of (map S.content shards.now) after) }
@@ -125,7 +125,7 @@ fn heads_of<S: UseStore>(shards: &[S], after: Option<Use>) -> [Option<u64>; SHAR
     heads
 }
 
-// Whether the first is there, and the second is not or is later.
+// Whether the first is there, and the second is missing or later.
 fn is_before(one: Option<u64>, other: Option<u64>) -> bool
     ensures { result ≡ is_before one other }
 {
@@ -138,8 +138,8 @@ fn is_before(one: Option<u64>, other: Option<u64>) -> bool
     }
 }
 
-// The number of the shard that has the least of what comes next. Of those that expire at one second it is the first,
-// since shards are in the order of the keys.
+// The number of the shard that has the least of the next uses. Among those that expire at one second it is the first, since
+// shards are in the order of the keys.
 fn least(heads: &[Option<u64>; SHARDS]) -> usize
     requires { length heads.now ≡ 256 }
     ensures bound { result < 256 }
@@ -154,7 +154,7 @@ fn least(heads: &[Option<u64>; SHARDS]) -> usize
     at
 }
 
-// Whether it is this second.
+// Whether it equals this second.
 fn is_second(head: Option<u64>, exp: u64) -> bool
     ensures { result ≡ is_second exp head }
 {
@@ -164,8 +164,8 @@ fn is_second(head: Option<u64>, exp: u64) -> bool
     }
 }
 
-// The number of the shard that has the least of what comes next behind a use. Mostly that expires at the same second, and
-// is then the first such from the shard of the use on: so all uses of one second take one look at each shard.
+// The number of the shard that has the least of the next uses after a use. Mostly that expires at the same second: then it is the
+// first such from the shard of the use on. So all uses of one second take one look at each shard.
 fn least_behind(heads: &[Option<u64>; SHARDS], last: Option<Use>) -> usize
     requires { length heads.now ≡ 256 }
     ensures bound { result < 256 }
@@ -190,7 +190,7 @@ pub(crate) fn next_after<S: UseStore>(shards: &[S], after: Option<Use>) -> Optio
     shards[least(&heads_of(shards, after))].next_after(after)
 }
 
-// Looks up what comes next in each shard, where that is not known.
+// Looks up the next use in each shard, where that is not known.
 fn look_ahead<S: UseStore>(shards: &[S], ahead: &mut Ahead)
     requires long { length shards.now ≡ 256 }
     requires apart { AreApart (map S.content shards.now) }
@@ -203,7 +203,7 @@ fn look_ahead<S: UseStore>(shards: &[S], ahead: &mut Ahead)
     }
 }
 
-// What comes next.
+// The next use.
 fn next_in<S: UseStore>(shards: &[S], ahead: &mut Ahead) -> Option<Use>
     requires long { length shards.now ≡ 256 }
     requires apart { AreApart (map S.content shards.now) }
@@ -217,7 +217,7 @@ fn next_in<S: UseStore>(shards: &[S], ahead: &mut Ahead) -> Option<Use>
     shards[at].next_near(ahead.after, &mut ahead.near[at])
 }
 
-// Puts into an empty room what comes next in all shards, and notes what comes behind that in each of them.
+// Fills an empty room with the next uses of all shards, and notes the following use in each of them.
 pub(crate) fn next_ahead<S: UseStore>(shards: &[S], ahead: &mut Ahead, room: &mut Room)
     requires long { length shards.now ≡ 256 }
     requires apart { AreApart (map S.content shards.now) }

@@ -15,7 +15,7 @@ use Rattle.svid_share.specs.Inputs.{AreWhole, IsInputFault, IsRefused, IsUnread,
 use Rattle.svid_share.specs.Joined.{Joins, JoinsAll}
 use Rattle.svid_share.proofs.JoinedLemmas.{join_all-append}
 
--- an input that could not be read is not refused as a write is
+-- an input that could not be read has another fault than a write
 pub not_write : (number : ℕ) (input : Drawn) → IsUnread number input fault.Write → ⊥
 not_write number input unread = by_kind unread.why unread.is
   where
@@ -39,7 +39,7 @@ module _ {S : Type 0} (left : S → Option (List ℕ)) (stops : S → ℕ) where
   each_drawn-length (o ∷ olds) [] long = omega arith
   each_drawn-length (o ∷ olds) (n ∷ news) long = let e : length news ≡ length olds = omega arith in ap suc (each_drawn-length olds news e)
 
-  -- the inputs, of which one was read: those before it, then it, and then those behind it
+  -- the inputs after one was read: those before it, the one itself, and those after it
   each_drawn-set : (i : ℕ) (olds news : List S) (d x : S) → i < length olds → length news ≡ length olds → drop i news ≡ drop i olds
       → each_drawn left stops olds (set news i x) ≡ take i (each_drawn left stops olds news) ++ drawn left stops (get_or news i d) x ∷ drop (suc i) (each_drawn left stops olds news)
   each_drawn-set i [] news d x within long same = absurd (let no : i < 0 = within in omega arith)
@@ -61,13 +61,13 @@ pub record HasJoined {S : Type 0} (i : ℕ) (s : Sources S) (old new : State) : 
 pub joined_none : {S : Type 0} (left : S → Option (List ℕ)) (stops : S → ℕ) (inputs : List S) (old : State) → HasJoined 0 (sources left stops inputs inputs) old old
 joined_none left stops inputs old = record { told = []; whole = tt; untouched = refl; joins = refl }
 
--- those behind the one that was read are as they were
+-- those after the one that was read are as they were
 behind_it : {S : Type 0} (i : ℕ) (olds news : List S) (x : S) → drop i news ≡ drop i olds → drop (i + 1) (set news i x) ≡ drop (i + 1) olds
 behind_it i olds news x behind =
     let past : i < i + 1 = omega arith in
     drop-set-lt (i + 1) news i x past ∙ sym (drop-drop 1 i news) ∙ ap (drop 1) behind ∙ drop-drop 1 i olds
 
--- before the index are as many inputs as it says
+-- there are as many inputs before the index as it says
 front_length : {S : Type 0} (i : ℕ) (left : S → Option (List ℕ)) (stops : S → ℕ) (olds news : List S) → i < length olds → length news ≡ length olds → length (take i (each_drawn left stops olds news)) ≡ i
 front_length i left stops olds news within long =
     let all : i ≤ length (each_drawn left stops olds news) = omega (arith, each_drawn-length left stops olds news long) in
@@ -76,7 +76,7 @@ front_length i left stops olds news within long =
 take-front : {A : Type 0} (front : List A) (x : A) (behind : List A) → take (length front + 1) (front ++ x ∷ behind) ≡ front ++ x ∷ []
 take-front front x behind = take-append-add front (x ∷ behind) 1
 
--- one input more was read and joined
+-- one more input was read and joined
 pub joined_more : {S : Type 0} (left : S → Option (List ℕ)) (stops : S → ℕ) (i : ℕ) (olds news : List S) (d x : S) (old mid new : State) → i < length olds → length news ≡ length olds
     → HasJoined i (sources left stops olds news) old mid → Joins (drawn left stops (get_or news i d) x) mid new → HasJoined (i + 1) (sources left stops olds (set news i x)) old new
 joined_more left stops i olds news d x old mid new within long so_far more =

@@ -56,7 +56,7 @@ later m n e false false = grind (arith, nat_tests)
 uses-push : (batches : List BatchData) (batch : BatchData) → flat_map (λ b. b.uses) (batches ++ batch ∷ []) ≡ flat_map (λ b. b.uses) batches ++ batch.uses
 uses-push batches batch = flat_map-append (λ b. b.uses) batches (batch ∷ []) ∙ ap (λ r. flat_map (λ b. b.uses) batches ++ r) (append-nil batch.uses)
 
--- a use of the batches, or of one batch more
+-- a use of the batches, or of one more batch
 holds-push : (us vs : List Use) (m n : ℕ) (u : Use) → holds (live (uses_in (us ++ vs)) (max m n)) u ≡ (nat_lt (max m n) u.exp && (holds (uses_in vs) u || holds (live (uses_in us) m) u))
 holds-push us vs m n u =
     holds-live (uses_in (us ++ vs)) (max m n) u
@@ -65,19 +65,19 @@ holds-push us vs m n u =
     ∙ sym (ap (λ b. nat_lt (max m n) u.exp && (b || holds (live (uses_in us) m) u)) (holds-uses_in vs u)
     ∙ ap (λ b. nat_lt (max m n) u.exp && (list_any (eq_by_cmp use_cmp u) vs || b)) (holds-live (uses_in us) m u ∙ ap (λ b. nat_lt m u.exp && b) (holds-uses_in us u)))
 
--- one more batch is joined to what the others come to
+-- one more batch is joined to the record of the others
 pub joined-push : (batches : List BatchData) (batch : BatchData) → joined (batches ++ batch ∷ []) ≡ join (joined batches) (batch_state batch)
 unfolding joined
 joined-push batches batch =
     is_join (joined batches) (batch_state batch) (joined (batches ++ batch ∷ [])) (greatest-push batches batch)
     (λ u. rw (greatest-push batches batch, uses-push batches batch) (holds-push (flat_map (λ b. b.uses) batches) batch.uses (greatest batches) batch.moment u))
 
--- the batches, joined one after the other to what others come to
+-- the batches, joined one after the other to the record of earlier ones
 pub joined_one_by_one : JoinedOneByOne
 joined_one_by_one earlier [] = ap joined (sym (append-nil earlier))
 joined_one_by_one earlier (b ∷ batches) = ap (λ r. join_all r batches) (sym (joined-push earlier b)) ∙ joined_one_by_one (earlier ++ b ∷ []) batches ∙ ap joined (append_assoc earlier (b ∷ []) batches)
 
--- no batches come to the record of moment 0 with no uses
+-- the join of no batches is the record of moment 0 with no uses
 pub joined_none : state_of 0 [] ≡ joined []
 unfolding joined
 joined_none = ap (λ (s : Uses). let r : State = record { moment = 0; uses = s } in r) (uses_in-filter (λ u. nat_lt 0 u.exp) [])
@@ -90,7 +90,7 @@ pub join_all-append : (r : State) (batches more : List BatchData) → join_all r
 join_all-append r [] more = refl
 join_all-append r (b ∷ batches) more = join_all-append (join r (batch_state b)) batches more
 
--- the batches of one message more
+-- the batches of one more message
 pub joins-message : (r : State) (messages : List Message) (i : ℕ) (d : Message) → i < length messages → join_all (join_all r (batches_of (take i messages))) (batches_of (get_or messages i d ∷ [])) ≡ join_all r (batches_of (take (i + 1) messages))
 joins-message r messages i d within =
     let seen : take (i + 1) messages ≡ take i messages ++ get_or messages i d ∷ [] = rw (add-one i) (take-suc messages i d within) in
@@ -111,7 +111,7 @@ each_held : (moment : ℕ) (before : Option Use) (us : List Use) → AllByRecurs
 each_held moment before [] fields good = tt
 each_held moment before (u ∷ us) fields good = (fine_is_held moment before u fields.0 good.0, each_held moment (Some u) us fields.1 good.1)
 
--- what a batch tells is a record
+-- the content of a batch is a record
 batch_is_record : (b : BatchData) → IsBatch b → IsRecord (batch_state b)
 batch_is_record b is = record {
   moment = is.moment;
@@ -122,27 +122,27 @@ joins_record : (r : State) (batches : List BatchData) → IsRecord r → AllByRe
 joins_record r [] is all = is
 joins_record r (b ∷ batches) is all = joins_record (join r (batch_state b)) batches (join_closed r (batch_state b) is (batch_is_record b all.0)) all.1
 
--- what batches come to is a record
+-- the join of batches is a record
 pub joined_is_record : JoinedIsRecord
 joined_is_record batches all = subst IsRecord (joined_from_nothing batches) (joins_record (state_of 0 []) batches (new_is_record no_uses refl) all)
 
--- what the parts of a record come to is that record
+-- the parts of a record join to that record
 pub parts_come_to_record : PartsComeToRecord
 parts_come_to_record r is = sym (joined_from_nothing (parts_of r)) ∙ parts_give_record r is
 
--- what is joined to a join may be joined to its second part
+-- batches joined to a join may be joined to its second part
 join_all-join : (a b : State) (batches : List BatchData) → join_all (join a b) batches ≡ join a (join_all b batches)
 join_all-join a b [] = refl
 join_all-join a b (x ∷ batches) = ap (λ r. join_all r batches) (join_assoc a b (batch_state x)) ∙ join_all-join a (join b (batch_state x)) batches
 
--- what batches come to, joined to a record
+-- batches joined to a record give that record joined with their join
 joins_joined : (r : State) (batches : List BatchData) → IsRecord r → join_all r batches ≡ join r (joined batches)
 joins_joined r batches is =
     ap (λ s. join_all s batches) (sym (join_comm r (state_of 0 []) ∙ join_new r is))
     ∙ join_all-join r (state_of 0 []) batches
     ∙ ap (join r) (joined_from_nothing batches)
 
--- batches behind others: what both come to, joined
+-- batches after others: the join of both
 joined-append : (batches more : List BatchData) → AllByRecursion IsBatch batches → joined (batches ++ more) ≡ join (joined batches) (joined more)
 joined-append batches more all = sym (joined_one_by_one batches more) ∙ joins_joined (joined batches) more (joined_is_record batches all)
 
@@ -223,7 +223,7 @@ joined_by_which batches others same =
     ∙ sym (holds-uses_in vs u ∙ any-flat (eq_by_cmp use_cmp u) others))
     ∙ sym (holds-live (uses_in vs) (greatest others) u)))
 
--- what the same batches come to has one text
+-- the same batches give one text
 pub merged_by_which : MergedByWhich
 merged_by_which now told others same = ap (λ r. record_text (raised_to now r)) (joined_by_which (all_of told) (all_of others) same)
 

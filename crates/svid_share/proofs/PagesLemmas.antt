@@ -25,7 +25,7 @@ both_went told stops a b c front text first second = record {
   unstopped = second.unstopped ∙ first.unstopped;
 }
 
--- a part of a text went out behind one that went out whole
+-- a part of a text went out after one that went out whole
 pub part_went : {K : Type 0} (told : K → Option (List ℕ)) (stops : K → ℕ) (a b c : K) (front piece rest text : List ℕ) → text ≡ front ++ (piece ++ rest) → TookAll (taken told stops a b) front → TookPart (taken told stops b c) piece → TookPart (taken told stops a c) text
 part_went told stops a b c front piece rest text parts first second = record {
   count = length front + second.count;
@@ -35,7 +35,7 @@ part_went told stops a b c front piece rest text parts first second = record {
 
 -- through a room
 
--- the room was full: what stood in it went out, and then the text
+-- the room was full: its content went out, and then the text
 pub passed_full : {K : Type 0} (told : K → Option (List ℕ)) (stops : K → ℕ) (a b c : K) (before text after : List ℕ) → TookAll (taken told stops a b) before → TookAll (taken told stops b c) text → after ≡ [] → Passes (taken told stops a c) before text after
 passed_full told stops a b c before text after first second none = record {
   went = before ++ text;
@@ -59,29 +59,29 @@ passed_both told stops a b c before text mid next after first second = record {
   is = append_assoc first.went second.went after ∙ ap (λ x. first.went ++ x) second.is ∙ sym (append_assoc first.went mid next) ∙ ap (λ x. x ++ next) first.is ∙ append_assoc before text next;
 }
 
--- a text passed, and of what then stood in the room and of the next a part went out
+-- a text passed, and then a part of the room's content and the next text went out
 pub passed_part : {K : Type 0} (told : K → Option (List ℕ)) (stops : K → ℕ) (a b c : K) (before text mid next rest whole : List ℕ) → whole ≡ text ++ (next ++ rest) → Passes (taken told stops a b) before text mid → TookPart (taken told stops b c) (mid ++ next) → TookPart (taken told stops a c) (before ++ whole)
 passed_part told stops a b c before text mid next rest whole parts first second =
     part_went told stops a b c first.went (mid ++ next) rest (before ++ whole)
     (ap (λ x. before ++ x) parts ∙ sym (append_assoc before text (next ++ rest)) ∙ ap (λ x. x ++ (next ++ rest)) (sym first.is) ∙ append_assoc first.went mid (next ++ rest) ∙ ap (λ x. first.went ++ x) (sym (append_assoc mid next rest)))
     first.all second
 
--- the same into a room that was empty
+-- the same into an empty room
 pub stopped_in : {K : Type 0} (told : K → Option (List ℕ)) (stops : K → ℕ) (a b c : K) (before text mid next rest whole : List ℕ) → before ≡ [] → whole ≡ text ++ (next ++ rest) → Passes (taken told stops a b) before text mid → TookPart (taken told stops b c) (mid ++ next) → TookPart (taken told stops a c) whole
 stopped_in told stops a b c before text mid next rest whole none parts first second =
     subst (TookPart (taken told stops a c)) (ap (λ x. x ++ whole) none) (passed_part told stops a b c before text mid next rest whole parts first second)
 
--- a text passed into a room that was empty, and then all that stood in the room went out
+-- a text passed into an empty room, and then the room's whole content went out
 pub passed_whole : {K : Type 0} (told : K → Option (List ℕ)) (stops : K → ℕ) (a b c : K) (before text mid whole : List ℕ) → Passes (taken told stops a b) before text mid → TookAll (taken told stops b c) mid → before ≡ [] → whole ≡ text → TookAll (taken told stops a c) whole
 passed_whole told stops a b c before text mid whole first second none same =
     subst (TookAll (taken told stops a c)) (first.is ∙ ap (λ x. x ++ text) none ∙ sym same) (both_went told stops a b c first.went mid first.all second)
 
--- a text passed into a room that was empty, and then a part of what stood in the room went out
+-- a text passed into an empty room, and then a part of the room's content went out
 pub passed_in_part : {K : Type 0} (told : K → Option (List ℕ)) (stops : K → ℕ) (a b c : K) (before text mid whole : List ℕ) → Passes (taken told stops a b) before text mid → TookPart (taken told stops b c) mid → before ≡ [] → whole ≡ text → TookPart (taken told stops a c) whole
 passed_in_part told stops a b c before text mid whole first second none same =
     part_went told stops a b c first.went mid [] whole (same ∙ ap (λ x. x ++ text) (sym none) ∙ sym first.is ∙ ap (λ x. first.went ++ x) (sym (append-nil mid))) first.all second
 
--- a loop over things, of each of which a text passes
+-- a loop over things passes the text of each
 
 -- one more passed
 pub list_passes : {X : Type 0} (line : X → List ℕ) (front : List X) (x : X) {K : Type 0} (told : K → Option (List ℕ)) (stops : K → ℕ) (a b c : K) (before mid piece now : List ℕ) → piece ≡ line x → Passes (taken told stops a b) before (flat_map line front) mid → Passes (taken told stops b c) mid piece now → Passes (taken told stops a c) before (flat_map line (front ++ x ∷ [])) now
@@ -90,7 +90,7 @@ list_passes line front x told stops a b c before mid piece now is so_far next =
     (ap (λ t. flat_map line front ++ t) (is ∙ sym (append-nil (line x))) ∙ sym (flat_map-append line front (x ∷ [])))
     (passed_both told stops a b c before (flat_map line front) mid piece now so_far next)
 
--- of the next a part went out
+-- a part of the next text went out
 pub list_stops : {X : Type 0} (line : X → List ℕ) (all front rest : List X) (x : X) {K : Type 0} (told : K → Option (List ℕ)) (stops : K → ℕ) (a b c : K) (before mid piece : List ℕ) → all ≡ front ++ x ∷ rest → piece ≡ line x → Passes (taken told stops a b) before (flat_map line front) mid → TookPart (taken told stops b c) (mid ++ piece) → TookPart (taken told stops a c) (before ++ flat_map line all)
 list_stops line all front rest x told stops a b c before mid piece parts is so_far part =
     passed_part told stops a b c before (flat_map line front) mid piece (flat_map line rest) (flat_map line all)
@@ -109,11 +109,11 @@ item_stops line xs i d told stops a b c before mid piece within is so_far part =
 
 -- the next uses, so many
 
--- from a index on, a list is what stands there, and then the rest
+-- from an index on, a list is the item there, and then the rest
 at_index : (us : List Use) (i : ℕ) (d : Use) → i < length us → drop i us ≡ get_or us i d ∷ drop (i + 1) us
 at_index us i d within = rw (add-one, drop-cons us i d within)
 
--- what a walk gives is the use at the index
+-- a walk gives the use at the index
 pub next_there : (us left next : List Use) (u : Use) (i : ℕ) → left ≡ drop i us → left ≡ u ∷ next → (take (i + 1) us ≡ take i us ++ u ∷ []) × (next ≡ drop (i + 1) us)
 next_there us left next u i is given =
     let here : drop i us ≡ u ∷ next = sym is ∙ given in

@@ -47,7 +47,7 @@ Splits-of bytes rest messages came = rw came.grown came.splits
 Appended-of : (bytes rest : List ℕ) (messages : List Message) → Splits bytes messages rest → Appended bytes [] messages rest
 Appended-of bytes rest messages splits = record { came = messages; grown = refl; splits = splits }
 
--- a message has a byte at least
+-- a message has at least one byte
 length-texts : (written : List Written) → length written ≤ length (flat_map written_text written)
 length-texts [] = omega arith
 length-texts (w ∷ written) = omega (arith, ap length (flat_map-cons written_text w written), length-append (written_text w) (flat_map written_text written), some_bytes w, length-texts written)
@@ -139,7 +139,7 @@ module _ (a b c : Option (List ℕ)) (first before after : ℕ) where
       subst (λ x. Consumes a c x) (ap (λ t. bytes ++ t) (took_piece room piece given fits le is) ∙ sym (append_assoc bytes piece (drop fits (take given room))))
       (Consumes-trans a b c bytes (take given room) before now)
 
-  -- a piece came that went wrong
+  -- a piece came that is bad
   pub broken : (old : Reader) (told : List Message) (given fits count : ℕ) (room piece : List ℕ) (came : List Message) (why : WireFault) → HasCome so_far old told → Consumes b c (take given room) → after ≡ before
       → piece ≡ take fits room → fits ≡ min given old.still → length piece ≡ fits → 0 < given → count ≡ length came → IsPushFault old.feed [] came piece why
       → IsInputFault old.number now (wire_fault_at why.reason old.number (old.whole + count + 1) why.offset)
@@ -187,7 +187,7 @@ module _ (a b c : Option (List ℕ)) (first before after : ℕ) where
             why = field;
           })
 
-  -- a piece came that is beyond the limit
+  -- a piece came that goes past the limit
   pub beyond : (old : Reader) (next : Option (List ℕ)) (told : List Message) (given fits : ℕ) (room piece : List ℕ) (came : List Message) → HasCome so_far old told → Consumes b c (take given room) → after ≡ before
       → piece ≡ take fits room → fits ≡ old.still → old.still < given → given ≤ length room → Pushed old.feed next [] came piece → IsTooLong now
   beyond old next told given fits room piece came h took unstopped is all lt inside pushed = go next (rw h.holds at pushed)
@@ -269,14 +269,14 @@ wants_memory input reader told h less = record {
   within = omega (arith, h.few);
 }
 
--- what came of an input so far was joined
+-- the input so far was joined
 pub record JoinsSoFar (input : Drawn) (reader : Reader) (number : ℕ) (old new : State) : Type 0 where
   pub told : List Message
   pub come : HasCome input reader told
   pub numbered : reader.number ≡ number
   pub joins : new ≡ join_all old (batches_of told)
 
--- the messages of a piece more were joined
+-- the messages of one more piece were joined
 pub joins_more : (input later : Drawn) (before after : Reader) (number : ℕ) (old mid new : State) (more : List Message) → (j : JoinsSoFar input before number old mid) → HasCome later after (j.told ++ more) → after.number ≡ before.number → new ≡ join_all mid (batches_of more) → JoinsSoFar later after number old new
 joins_more input later before after number old mid new more j come same joins = record {
   told = j.told ++ more;
@@ -285,11 +285,11 @@ joins_more input later before after number old mid new more j come same joins = 
   joins = joins ∙ ap (λ r. join_all r (batches_of more)) j.joins ∙ sym (join_all-append old (batches_of j.told) (batches_of more)) ∙ ap (join_all old) (sym (batches_of-append j.told more));
 }
 
--- no piece came any more
+-- no further piece came
 pub joins_no_more : (input later : Drawn) (before after : Reader) (number : ℕ) (old new : State) (more : List Message) → (j : JoinsSoFar input before number old new) → HasCome later after (j.told ++ more) → after.number ≡ before.number → more ≡ [] → JoinsSoFar later after number old new
 joins_no_more input later before after number old new more j come same none = joins_more input later before after number old new new more j come same (ap (λ ms. join_all new (batches_of ms)) (sym none))
 
--- the input's end is that of what was joined
+-- the whole input is the one whose batches were joined
 pub joins_end : (input : Drawn) (reader : Reader) (number : ℕ) (old new : State) (r : Result Unit ToolFault) → (j : JoinsSoFar input reader number old new) → MatchResult r (λ _. IsWhole input j.told) (IsInputFault reader.number input) → OnOk r (Joins input old new) × IfErr r (IsInputFault number input)
 joins_end input reader number old new (Ok _) j whole = (record { told = j.told; whole = whole; joins = j.joins }, tt)
 joins_end input reader number old new (Err fault) j why = (tt, subst (λ n. IsInputFault n input fault) j.numbered why)

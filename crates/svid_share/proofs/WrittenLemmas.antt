@@ -16,11 +16,11 @@ use Rattle.svid_share.specs.Summary.{summary_due}
 use Rattle.svid_share.specs.Written.{IsDue}
 use Rattle.svid_share.proofs.JoinedLemmas.{joined_from_nothing}
 
--- what all inputs are joined to, if it was new, is what they come to
+-- a new record to which all inputs were joined is the join of their batches
 all_joined : (inputs : List Drawn) (second : State) → (joins : JoinsAll inputs (state_of 0 []) second) → second ≡ joined (all_of joins.told)
 all_joined inputs second joins = joins.joins ∙ joined_from_nothing (all_of joins.told)
 
--- what a new record is after all inputs were joined, and it was raised, is reported
+-- the report of a new record after all inputs were joined, advanced to the moment
 pub reported : (inputs : List Drawn) (now : Option ℕ) (text : List ℕ) (second third : State) → JoinsAll inputs (state_of 0 []) second → third ≡ raised_to now second → text ≡ report_of third → IsDue (report_due now) inputs text
 reported inputs now text second third joins raises tells = record {
   told = joins.told;
@@ -28,7 +28,7 @@ reported inputs now text second third joins raises tells = record {
   is = tells ∙ ap report_of (raises ∙ ap (raised_to now) (all_joined inputs second joins));
 }
 
--- the text of what a new record is after all inputs were joined, and it was raised, is the merge
+-- the text of a new record after all inputs were joined, advanced to the moment, is the merge
 pub merged : (inputs : List Drawn) (now : Option ℕ) (second third : State) → JoinsAll inputs (state_of 0 []) second → third ≡ raised_to now second → IsDue (merge_due now) inputs (record_text third)
 merged inputs now second third joins raises = record {
   told = joins.told;
@@ -36,7 +36,7 @@ merged inputs now second third joins raises = record {
   is = ap record_text (raises ∙ ap (raised_to now) (all_joined inputs second joins));
 }
 
--- the summary of what a new record is after all inputs were joined
+-- the summary of a new record after all inputs were joined
 pub summarized : (inputs : List Drawn) (summary : SummaryData) (second : State) → JoinsAll inputs (state_of 0 []) second → summary ≡ summary_of second → IsDue summary_due inputs (summary_text summary)
 summarized inputs summary second joins is = record {
   told = joins.told;
@@ -44,7 +44,7 @@ summarized inputs summary second joins is = record {
   is = ap summary_text (is ∙ ap summary_of (all_joined inputs second joins));
 }
 
--- the answer of what a new record is after all inputs were joined
+-- the answer of a new record after all inputs were joined
 pub answered : (inputs : List Drawn) (asked : SummaryData) (second : State) → JoinsAll inputs (state_of 0 []) second → IsDue (answer_due asked) inputs (flat_map batch_text (answer_to second asked))
 answered inputs asked second joins = record {
   told = joins.told;

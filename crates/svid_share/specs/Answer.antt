@@ -1,4 +1,4 @@
--- What `svid answer` writes of what it reads, and why it gives up.
+-- What `svid answer` writes for its inputs, and why it gives up.
 use Rattle.std.specs.Prelude.{◌≡◌, ◌≢◌, ◌⊎◌, ℕ, List, [], ◌∷◌, ◌++◌, Option, None, Some}
 use Rattle.std.specs.List.{flat_map}
 use Rattle.svid_replay.specs.Buckets.{answer_to}
@@ -14,7 +14,7 @@ use Rattle.svid_share.specs.Inputs.{IsInputFault, IsJoinFault, IsWhole, Sources,
 use Rattle.svid_share.specs.Joined.{joined}
 use Rattle.svid_share.specs.Written.{IsPartlyWritten, IsWritten}
 
--- the texts of the answer to a summary, of the record that the batches of all inputs come to
+-- the texts of the answer to a summary, by the join of the batches of all inputs
 abbrev pub answer_due : SummaryData → List (List Message) → List ℕ
 answer_due asked told = flat_map batch_text (answer_to (joined (all_of told)) asked)
 
@@ -33,13 +33,13 @@ abbrev pub IsLast : List Message → Option Message → Type 0
 IsLast told None = told ≡ []
 IsLast told (Some last) = (front : List Message) × (told ≡ front ++ last ∷ [])
 
--- why the input with this number, which is to be one summary, was refused: it is messages, but not one summary; or as any
--- input of messages
+-- why the input with this number, which must be one summary, was refused: it is messages, but not one summary; or as any input of
+-- messages
 abbrev pub IsSummaryFault : ℕ → Drawn → ToolFault → Type 0
 IsSummaryFault number input tool.NotSummary = IsNoSummary input
 IsSummaryFault number input given = IsInputFault number input given
 
--- the fault of inputs before which one more stands: the number is one greater, held at 2^64-1
+-- the fault of inputs that follow another one: the number is one greater, held at 2^64-1
 abbrev pub behind_one : ToolFault → ToolFault
 behind_one (tool.Wire input message offset reason) = tool.Wire (raised input) message offset reason
 behind_one (tool.Read input) = tool.Read (raised input)

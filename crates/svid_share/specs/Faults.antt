@@ -1,4 +1,4 @@
--- The faults of the engines: those that other faults become, the exit status of the program after each, and its text.
+-- The faults of the engines: how other faults become theirs, the exit status of the program after each, and its text.
 use Rattle.std.specs.Prelude.{ℕ, List, ◌++◌, codes}
 use Rattle.std.specs.Fmt.{decimal}
 use Rattle.svid_keys.specs.declared.bundle_fault.BundleFault.{BundleFault}
@@ -10,17 +10,17 @@ use Rattle.svid_wire.specs.declared.reason.Reason.TheVariants as wire
 use Rattle.svid_share.specs.declared.tool_fault.ToolFault.{ToolFault}
 use Rattle.svid_share.specs.declared.tool_fault.ToolFault.TheVariants as tool
 
--- the fault of bundles that are refused: want of memory is no fault of theirs
+-- the fault of bundles that are refused: out of memory is a fault of its own
 abbrev pub bundle_fault_of : BundleFault → ToolFault
 bundle_fault_of bundles.OutOfMemory = tool.OutOfMemory
 bundle_fault_of fault = tool.Bundles fault
 
--- the fault of a table that is refused: want of memory is no fault of its own
+-- the fault of a table that is refused: out of memory is a fault of its own
 abbrev pub table_fault_of : TableFault → ToolFault
 table_fault_of (table.Line line) = tool.Table line
 table_fault_of table.OutOfMemory = tool.OutOfMemory
 
--- of a fault that an engine answers: 2 where a file, a write or memory failed, and 1 where an input was refused
+-- the exit status after a fault of an engine: 2 where a file, a write or memory failed, and 1 where an input was refused
 abbrev pub status_of : ToolFault → ℕ
 status_of (tool.Read input) = 2
 status_of (tool.TooMuch input) = 2
@@ -28,7 +28,7 @@ status_of tool.Write = 2
 status_of tool.OutOfMemory = 2
 status_of _ = 1
 
--- the name of what is wrong with a message
+-- the name of the reason for which a message is bad
 abbrev pub reason_name : Reason → List ℕ
 reason_name wire.Magic = codes "Magic"
 reason_name wire.Kind = codes "Kind"
@@ -41,7 +41,7 @@ reason_name wire.Truncated = codes "Truncated"
 reason_name wire.OutOfMemory = codes "OutOfMemory"
 reason_name wire.Failed = codes "Failed"
 
--- the text of bundles that are refused
+-- the text for bundles that are refused
 abbrev pub bundles_text : BundleFault → List ℕ
 bundles_text bundles.NotObject = codes "svid: bundles: NotObject"
 bundles_text (bundles.Domain index) = codes "svid: bundles: Domain(" ++ decimal index ++ codes ")"

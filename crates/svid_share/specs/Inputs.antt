@@ -14,7 +14,7 @@ use Rattle.svid_wire.specs.declared.read_fault.ReadFault.TheVariants as reading
 use Rattle.svid_share.specs.declared.tool_fault.ToolFault.{ToolFault}
 use Rattle.svid_share.specs.declared.tool_fault.ToolFault.TheVariants as fault
 
--- how many bytes an input has at the most
+-- the most bytes that an input may have
 abbrev pub most_bytes : ℕ
 most_bytes = 67108864
 
@@ -30,7 +30,7 @@ pub record IsUnread (number : ℕ) (input : Drawn) (fault : ToolFault) : Type 0 
   pub due : IsReadFault input most_bytes why
   pub is : fault ≡ read_fault_of number why
 
--- the fault of bytes that are refused: want of memory has no offset
+-- the fault of bytes that are refused: out of memory has no offset
 abbrev pub wire_fault_at : Reason → ℕ → ℕ → ℕ → ToolFault
 wire_fault_at wire.OutOfMemory input message offset = fault.OutOfMemory
 wire_fault_at reason input message offset = fault.Wire input message offset reason
@@ -41,14 +41,14 @@ pub record IsWhole (input : Drawn) (messages : List Message) : Type 0 where
   pub read : IsRead input most_bytes bytes
   pub splits : Splits bytes messages []
 
--- the bytes are these messages, one after the other, and a rest in which each whole field is good: nothing is wrong
--- with them, whatever follows
+-- the bytes are these messages, one after the other, and a rest in which each whole field is good: nothing is wrong with them,
+-- whatever follows
 pub record IsGoodSoFar (bytes : List ℕ) (messages : List Message) (rest : List ℕ) : Type 0 where
   pub splits : Splits bytes messages rest
   pub unfinished : IsUnfinished rest
 
--- behind some messages among the first bytes of the input, at most as many as it may have, a field is bad: for this
--- reason, at this offset of the message with this number
+-- after some messages among the first bytes of the input, at most as many as it may have, a field is bad: for this reason, at
+-- this offset of the message with this number
 pub record HasBadField (input : Drawn) (message offset : ℕ) (reason : Reason) : Type 0 where
   pub bytes : List ℕ
   pub others : List ℕ
@@ -72,7 +72,7 @@ pub record EndsWithin (input : Drawn) (message offset : ℕ) : Type 0 where
   pub some : 0 < length rest
   pub at : offset ≡ length rest
 
--- what is wrong with the message of this number, for this reason: where the input ends within it, and else a field
+-- what is wrong with the message of this number, for this reason: a field, or the input ends within it
 abbrev pub IsBroken : Drawn → ℕ → ℕ → Reason → Type 0
 IsBroken input message offset wire.Truncated = EndsWithin input message offset
 IsBroken input message offset reason = HasBadField input message offset reason
@@ -109,8 +109,8 @@ pub record WantsMemory (input : Drawn) : Type 0 where
   pub some : 0 < length bytes
   pub within : length bytes ≤ most_bytes
 
--- why the input with this number, which is to be messages, was refused: something is wrong with its bytes, it could not
--- be read to its end and nothing is wrong with what came, or memory was refused for what came
+-- why the input with this number, which must be messages, was refused: something is wrong with its bytes, it could not be read to
+-- its end and nothing is wrong with what came, or memory was refused for what came
 abbrev pub IsInputFault : ℕ → Drawn → ToolFault → Type 0
 IsInputFault number input (fault.Wire told message offset reason) = (told ≡ number) × IsBroken input message offset reason
 IsInputFault number input (fault.Read told) = (told ≡ number) × StopsWithin input
@@ -118,14 +118,14 @@ IsInputFault number input (fault.TooMuch told) = (told ≡ number) × IsTooLong 
 IsInputFault number input fault.OutOfMemory = WantsMemory input
 IsInputFault number input _ = ⊥
 
--- the sources that a call goes over, before and after it, with the words by which such a source tells of itself
+-- the sources that a call reads, before and after it, with the definitions by which such a source describes itself
 pub record Sources (S : Type 0) : Type 0 where
   pub left : S → Option (List ℕ)
   pub stops : S → ℕ
   pub old : List S
   pub new : List S
 
--- that of sources, by their own words `left` and `stops`
+-- sources with their own definitions `left` and `stops`
 abbrev pub sources : {S : Type 0} → (S → Option (List ℕ)) → (S → ℕ) → List S → List S → Sources S
 sources left stops old new = record { left = left; stops = stops; old = old; new = new }
 
@@ -154,7 +154,7 @@ pub record AreAllWhole (inputs : List Drawn) : Type 0 where
   pub told : List (List Message)
   pub whole : AreWhole inputs told
 
--- an input was refused: those before it are whole, and the sources behind it are as they were
+-- an input was refused: those before it are whole, and the sources after it are as they were
 pub record IsRefused {S : Type 0} (s : Sources S) (fault : ToolFault) : Type 0 where
   pub before : List Drawn
   pub refused : Drawn
@@ -165,6 +165,6 @@ pub record IsRefused {S : Type 0} (s : Sources S) (fault : ToolFault) : Type 0 w
   pub why : IsInputFault (length before + 1) refused fault
   pub untouched : drop (length before + 1) s.new ≡ drop (length before + 1) s.old
 
--- why no text was made of inputs: one of them was refused, or all are whole, and memory was refused for what they come to
+-- why no text was made of inputs: one of them was refused, or all are whole, and memory was refused for their join
 abbrev pub IsJoinFault : {S : Type 0} → Sources S → ToolFault → Type 0
 IsJoinFault s given = IsRefused s given ⊎ ((given ≡ fault.OutOfMemory) × AreAllWhole (inputs_of s))

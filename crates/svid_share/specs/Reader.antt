@@ -5,7 +5,7 @@ use Rattle.svid_wire.specs.declared.message.Message.{Message}
 use Rattle.svid_share.specs.declared.reader.Reader.{Reader}
 use Rattle.svid_share.specs.Inputs.{IsGoodSoFar, most_bytes}
 
--- the bytes that came so far are these messages and what the reader holds, and so many more may come
+-- the bytes that came so far are these messages and what the reader holds, and at most so many more may come
 pub record HasCome (input : Drawn) (reader : Reader) (told : List Message) : Type 0 where
   pub bytes : List ℕ
   pub rest : List ℕ

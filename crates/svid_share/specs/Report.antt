@@ -12,15 +12,15 @@ use Rattle.svid_replay.specs.Sets.{rising}
 use Rattle.svid_replay.specs.Twice.{twice_of, used}
 use Rattle.svid_replay.specs.declared.twice.Twice.{Twice}
 
--- what stands at the end of the line of a withdrawal
+-- the end of the line of a withdrawal
 abbrev pub mark : Bool → List ℕ
 mark withdrawn = if withdrawn then codes " withdrawn" else []
 
--- a use in a report: exp, key, offset and at, with one blank between, and the mark of a withdrawal
+-- a use in a report: exp, key, validator ID and at, with one blank between, and the mark of a withdrawal
 abbrev pub use_line : Use → List ℕ
 use_line u = decimal u.exp ++ 32 ∷ [] ++ encode_lower u.key ++ 32 ∷ [] ++ encode_lower u.validator_id ++ 32 ∷ [] ++ decimal u.at ++ mark u.withdrawn ++ 10 ∷ []
 
--- a line that gives a number its name
+-- a line with a number and its name
 abbrev pub number_line : List ℕ → ℕ → List ℕ
 number_line name n = name ++ 32 ∷ [] ++ decimal n ++ 10 ∷ []
 
@@ -36,6 +36,6 @@ report_text moment uses twice = number_line (codes "moment") moment ++ number_li
 abbrev pub report_of : State → List ℕ
 report_of r = report_text r.moment (rising r.uses) (twice_of (used (rising r.uses)))
 
--- the report of the batches of all inputs, raised to the moment that is given
+-- the report of the batches of all inputs, advanced to the moment that is given
 abbrev pub report_due : Option ℕ → List (List Message) → List ℕ
 report_due now told = report_of (raised_to now (joined (all_of told)))

@@ -17,9 +17,9 @@ use std::alloc::Global;
 use svid_replay::{Record, RunUses, Summary, UseStore};
 use svid_wire::{Sink, Source};
 
-/// Raises a record to the summary's moment, and writes its answer: the uses of all buckets whose digest then
-/// differs from the summary's, as batches; as [`run_answer`] does. Answers `Write` where the sink stopped: then a
-/// part of them went out, and the record stays raised. Takes no memory.
+/// Advances a record to the summary's moment, and writes its answer as [`run_answer`] does: the uses of all buckets whose digest
+/// then differs from the summary's, as batches. `Write` where the sink stopped: then part of them went out, and the record keeps
+/// the moment. Takes no memory.
 pub fn put_answer<T: UseStore, K: Sink>(
     state: &mut Record<T>,
     asked: &Summary,
@@ -35,7 +35,7 @@ pub fn put_answer<T: UseStore, K: Sink>(
     put_walked(state.moment(), stale.len(), &mut stale, out)
 }
 
-// What all inputs tell: its answer to any summary is the one that is due.
+// The join of the batches of all inputs. Its answer to any summary is the one that is due.
 fn join_all<S: Source>(alloc: Global, inputs: &mut [S]) -> Result<Record<RunUses>, ToolFault>
     ensures ok { IfOk result (λ r. (asked : SummaryData) → IsDue (answer_due asked) (inputs_of (sources S.left S.stops inputs.old inputs.new)) (flat_map batch_text (answer_to r asked))) }
     ensures fault { IfErr result (IsJoinFault (sources S.left S.stops inputs.old inputs.new)) }
@@ -43,7 +43,7 @@ fn join_all<S: Source>(alloc: Global, inputs: &mut [S]) -> Result<Record<RunUses
     record_of(alloc, inputs)
 }
 
-// The fault of inputs before which one more stands.
+// The fault of inputs that follow another one.
 fn behind_one(fault: ToolFault) -> ToolFault
     ensures { result ≡ behind_one fault }
 {
@@ -69,17 +69,16 @@ fn behind_one(fault: ToolFault) -> ToolFault
     }
 }
 
-/// Reads the one summary that the input `summary` is, joins the batches of all other inputs, and writes the
-/// answer of the record that they come to: raised to the summary's moment, the uses of all buckets whose
-/// digest differs from the summary's, as batches; one with no use where there are no such uses. Summaries among
-/// the others are passed over.
+/// Reads the one summary that the input `summary` is, joins the batches of all other inputs, advances this record to the
+/// summary's moment, and writes its answer: the uses of all buckets whose digest differs from the summary's, as batches; one
+/// batch with no use where there are no such uses. Skips summaries among the other inputs.
 ///
-/// The input `summary` has the number 1, and the others follow it. They are read and judged in this order,
-/// before anything is written. Refused for the first that is not a row of whole messages (`Wire`), could not
-/// be read (`Read`) or has more than 67,108,864 bytes (`TooMuch`), where the first is not exactly one summary
-/// (`NotSummary`), for want of memory, and where the sink stopped (`Write`): then a part of the texts went
-/// out, and else nothing did. A bad field in what came before a failed read or the limit is answered before
-/// these. The inputs behind a refused one are as they were. The numbers of inputs are held at 2^64-1.
+/// The input `summary` has the number 1, and the others follow it. They are read and judged in this order, before anything is
+/// written. Errors, for the first input that is refused: `Wire` where it does not parse as whole messages, `Read` where it could
+/// not be read, `TooMuch` where it has more than 67,108,864 bytes, `NotSummary` where the first is not exactly one summary.
+/// Further errors: `OutOfMemory`, and `Write` where the sink stopped. After `Write` part of the texts went out, after the others
+/// nothing. A bad field that came before a failed read or the limit is reported instead of these. The inputs after a refused one
+/// are as they were. The numbers of inputs are held at 2^64-1.
 pub fn run_answer<Z: Source, S: Source, K: Sink>(
     alloc: Global,
     summary: &mut Z,

@@ -12,7 +12,7 @@ use std::alloc::{AllocError, Global};
 use svid_replay::{Record, RunUses, UseStore};
 use svid_wire::{Message, ReadFault, Source, read_up_to};
 
-/// How many bytes an input has at the most.
+/// The most bytes that an input may have.
 pub const MOST_BYTES: usize = 67_108_864;
 
 // (no `From`: a fault of the program has the number of the input)
@@ -26,8 +26,8 @@ fn read_fault(fault: ReadFault, input: usize) -> ToolFault
     }
 }
 
-/// All bytes of the input with this number. Refused where the source stopped (`Read`), where it gives more than
-/// 67,108,864 bytes (`TooMuch`), and for want of memory for what came.
+/// All bytes of the input with this number. Errors: `Read` where the source stopped, `TooMuch` where it gives more than
+/// 67,108,864 bytes, `OutOfMemory` where memory is refused for what came.
 pub fn read_input<S: Source>(
     alloc: Global,
     source: &mut S,
@@ -63,17 +63,15 @@ fn join_messages<T: UseStore>(
     Ok(())
 }
 
-/// Reads the messages of the input with this number piece by piece, and joins their batches; summaries
-/// are passed over. `messages` is room that is used anew for each piece of at most 4,096 bytes, which ends at
-/// most 241 messages, of about eight thousand bytes each beside their uses. Beside it and the record, the
-/// memory that is taken is that of one message, and for a moment what the store takes to join a batch:
-/// `RunUses` has room for the uses of a long batch once more while it makes a run of the new ones
+/// Reads the messages of the input with this number piece by piece, and joins their batches; skips summaries. `messages` is room
+/// that is used again for each piece of at most 4,096 bytes, which ends at most 241 messages, of about eight thousand bytes each
+/// beside their uses. In addition the call takes the memory of one message, of the record, and for a moment what the store takes
+/// to join a batch: `RunUses` has room for the uses of a long batch once more while it makes a run of the new ones
 /// (`insert_all`), and for those of two runs once more while it merges these.
 ///
-/// Refused for the first field that is bad (`Wire`), in the bytes that come before a call of the source stops,
-/// and before the limit; then for a source that stopped (`Read`), for one that gives more than 67,108,864
-/// bytes (`TooMuch`), and for one that ends within a message (`Wire`); and for want of memory (`OutOfMemory`).
-/// After a refusal the record is of no use: nothing is said of it.
+/// Errors: `Wire` for the first field that is bad, in the bytes that come before a call of the source stops, and before the
+/// limit; then `Read` where the source stopped, `TooMuch` where it gives more than 67,108,864 bytes, and `Wire` where it ends
+/// within a message; and `OutOfMemory`. Don't use the record after an error: it may be anything.
 pub fn join_input<S: Source, T: UseStore>(
     alloc: Global,
     source: &mut S,
@@ -93,8 +91,8 @@ pub fn join_input<S: Source, T: UseStore>(
 
 /// Reads the messages of all inputs, one input after the other, and joins their batches to a record.
 ///
-/// Refused for the first input that is no row of messages, or could not be read, as [`join_input`] says;
-/// those behind it are not read then, and nothing is said of the record.
+/// Fails with the error of the first input that does not parse as messages or could not be read, as [`join_input`] says. The
+/// inputs after it are not read then, and the record may be anything.
 pub fn join_inputs<S: Source, T: UseStore>(
     alloc: Global,
     inputs: &mut [S],
@@ -110,7 +108,7 @@ pub fn join_inputs<S: Source, T: UseStore>(
     Ok(())
 }
 
-// The record that the batches of all inputs come to, made quick to walk.
+// The join of the batches of all inputs, compacted so that it is quick to walk.
 pub(crate) fn record_of<S: Source>(
     alloc: Global,
     inputs: &mut [S],

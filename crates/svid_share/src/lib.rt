@@ -1,13 +1,12 @@
-//! What validators share: the engines that read messages, join their batches to a record, and write
-//! what it comes to.
+//! What validators share: the engines that read messages, join their batches to a record, and write that record or an answer from
+//! it.
 //!
-//! An engine is generic over the sources it reads and the sinks it writes to, and its contract says
-//! what it writes of what it reads, which fault it answers, and what it leaves as it was.
-//! [`run_report`] writes a record for people to read, and [`run_merge`] for validators, as the texts of
-//! its parts. [`run_summary`] writes the summary of a record, and [`run_answer`] answers one with the uses
-//! of all buckets whose digests differ from the summary's: whole buckets, so also uses that both records
-//! have. [`join_inputs`] joins the inputs of an engine. [`join_input`] serves the engines of the crates
-//! above, as [`read_summary`], [`read_input`], [`put_text`], [`put_record`], [`put_answer`] and [`put_report`] do.
+//! An engine is generic over the sources it reads and the sinks it writes to. Its contract says which output belongs to its
+//! inputs, which fault it returns, and what it leaves as it was. [`run_report`] writes a record for people to read, and
+//! [`run_merge`] for validators, as the texts of its parts. [`run_summary`] writes the summary of a record, and [`run_answer`]
+//! answers one with the uses of all buckets whose digests differ from the summary's: whole buckets, so also uses that both
+//! records have. [`join_inputs`] joins the inputs of an engine. The crates above call [`join_input`], [`read_summary`],
+//! [`read_input`], [`put_text`], [`put_record`], [`put_answer`] and [`put_report`].
 //!
 //! ```rust
 //! use svid_share::run_report;

@@ -10,7 +10,7 @@ use svid_replay::{Twice, Use};
 // The longest line of a report is that of a withdrawal, with two numbers of 20 digits.
 const LINE_LEN: usize = 150;
 
-/// A line of a report, made without memory.
+/// A line of a report. Takes no memory.
 #[derive(Drop)]
 pub(crate) struct Line {
     room: ArrayVec<u8, LINE_LEN>,
@@ -92,7 +92,7 @@ impl Line {
     }
 }
 
-// What stands at the end of the line of a withdrawal.
+// The end of the line of a withdrawal.
 fn mark(withdrawn: bool) -> &'static str
     ensures value { result.now ≡ mark withdrawn }
     ensures short { length result.now ≤ 10 }
@@ -117,7 +117,7 @@ pub(crate) fn use_line(used: &Use) -> Line
     line
 }
 
-/// The line of a number under its name.
+/// The line with a number and its name.
 pub(crate) fn number_line(name: &str, number: u64) -> Line
     requires { length name.now ≤ 100 }
     ensures { result ≡ number_line name.now number }

@@ -13,7 +13,7 @@ use std::alloc::Global;
 use svid_replay::{Record, RunUses};
 use svid_wire::{Sink, Source};
 
-// What all inputs tell, raised to the moment.
+// The join of the batches of all inputs, advanced to the moment.
 fn join_all<S: Source>(
     alloc: Global,
     inputs: &mut [S],
@@ -27,17 +27,15 @@ fn join_all<S: Source>(
     Ok(record)
 }
 
-/// Joins the batches of all inputs, advances the record that they come to up to the moment `now` (in seconds) where
-/// one is given, and writes it as the texts of its parts: batches of its moment that hold its uses in rising order,
-/// 65,536 in each but the last; one with no use where the record has none. What has expired by its moment is left
-/// out. Summaries among the inputs are passed over.
+/// Joins the batches of all inputs, advances this record to the moment `now` (in seconds) where one is given, and writes it as
+/// the texts of its parts: batches of its moment that hold its uses in rising order, 65,536 in each but the last; one with no use
+/// where the record has none. Leaves out what has expired by its moment. Skips summaries among the inputs.
 ///
-/// What is written depends on nothing but which batches there are, and the moment. The inputs are read and judged in their
-/// order, before anything is written. Refused for the first that is not a row of whole messages (`Wire`),
-/// could not be read (`Read`) or has more than 67,108,864 bytes (`TooMuch`), for want of memory, and where
-/// the sink stopped (`Write`): then a part of the texts went out, and else nothing did. A bad field in what
-/// came before a failed read or the limit is answered before these. The inputs behind a refused one are as
-/// they were.
+/// The output depends only on which batches there are, and the moment. The inputs are read and judged in their order, before
+/// anything is written. Errors, for the first input that is refused: `Wire` where it does not parse as whole messages, `Read`
+/// where it could not be read, `TooMuch` where it has more than 67,108,864 bytes. Further errors: `OutOfMemory`, and `Write`
+/// where the sink stopped. After `Write` part of the texts went out, after the others nothing. A bad field that came before a
+/// failed read or the limit is reported instead of these. The inputs after a refused one are as they were.
 pub fn run_merge<S: Source, K: Sink>(
     alloc: Global,
     inputs: &mut [S],

@@ -11,7 +11,7 @@ use std::alloc::Global;
 use svid_replay::Summary;
 use svid_wire::{Message, Source};
 
-// The last message of all, when these came behind the others.
+// The last message of all, when these came after the others.
 fn last_of(before: Option<Message>, messages: &mut Vec<Message>) -> Option<Message>
     ensures { (told : List Message) → IsLast told before → IsLast (told ++ messages.old.items) result }
 {
@@ -21,7 +21,7 @@ fn last_of(before: Option<Message>, messages: &mut Vec<Message>) -> Option<Messa
     }
 }
 
-// The summary that a message is.
+// The summary, if the message is one.
 fn summary_of(message: Message) -> Result<Summary, ToolFault>
     ensures ok { IfOk result (λ summary. message ≡ SummaryTold summary) }
     ensures fault { IfErr result (λ fault. (fault ≡ ToolFault.NotSummary) × ((summary : SummaryData) → message ≢ SummaryTold summary)) }
@@ -32,7 +32,7 @@ fn summary_of(message: Message) -> Result<Summary, ToolFault>
     }
 }
 
-// The summary that is the only one of so many messages, of which this is the last.
+// The last of so many messages, if it is the only one and a summary.
 fn only_summary(last: Option<Message>, count: usize) -> Result<Summary, ToolFault>
     ensures ok { IfOk result (λ summary. (told : List Message) → length told ≡ count → IsLast told last → told ≡ SummaryTold summary ∷ []) }
     ensures fault { IfErr result (λ fault. (fault ≡ ToolFault.NotSummary) × ((told : List Message) → length told ≡ count → IsLast told last → (summary : SummaryData) → told ≢ SummaryTold summary ∷ [])) }
@@ -46,10 +46,10 @@ fn only_summary(last: Option<Message>, count: usize) -> Result<Summary, ToolFaul
     }
 }
 
-/// Reads the input with this number, which is to be one summary.
+/// Reads the input with this number, which must be one summary.
 ///
-/// Refused as any input of messages is ([`join_input`](crate::join_input)), and then with `NotSummary` where it is
-/// whole messages but not exactly one, or where that one is a batch.
+/// Fails as for any input of messages ([`join_input`](crate::join_input)), and with `NotSummary` where it is whole messages but
+/// not exactly one, or where that one is a batch.
 pub fn read_summary<S: Source>(
     alloc: Global,
     source: &mut S,

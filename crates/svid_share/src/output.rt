@@ -4,7 +4,7 @@ ghost use Rattle.svid_wire.specs.Streams.{TookAll, TookPart, taken};
 use crate::ToolFault;
 use svid_wire::{Sink, put_all};
 
-// Writes all bytes, or answers `Write` where the sink stopped, and then a part of them went out.
+// Writes all bytes. `Write` where the sink stopped: then part of them went out.
 pub(crate) fn put_bytes<K: Sink>(out: &mut K, bytes: &[u8]) -> Result<(), ToolFault>
     ensures ok { OnOk result (TookAll (taken K.told K.stops out.old out.new) bytes.now) }
     ensures fault { IfErr result (λ e. e ≡ ToolFault.Write) }
@@ -16,7 +16,7 @@ pub(crate) fn put_bytes<K: Sink>(out: &mut K, bytes: &[u8]) -> Result<(), ToolFa
     }
 }
 
-/// Writes a whole text, or answers `Write` where the sink stopped, and then a part of the text went out.
+/// Writes a whole text. `Write` where the sink stopped: then part of the text went out.
 pub fn put_text<K: Sink>(out: &mut K, text: &str) -> Result<(), ToolFault>
     ensures ok { OnOk result (TookAll (taken K.told K.stops out.old out.new) text.now) }
     ensures fault { IfErr result (λ e. e ≡ ToolFault.Write) }

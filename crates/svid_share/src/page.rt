@@ -9,10 +9,10 @@ use arrayvec::ArrayVec;
 use std::marker::Model;
 use svid_wire::Sink;
 
-// How many bytes have room before they go out.
+// How many bytes are gathered before they go out.
 const PAGE_LEN: usize = 65536;
 
-/// Room of a fixed size before a sink: what is put gathers in it, and goes out when it is full. Takes no memory.
+/// A buffer of fixed size before a sink: it gathers what is put, and passes it on when it is full. Takes no memory.
 #[derive(Drop)]
 pub(crate) struct Page {
     room: ArrayVec<u8, PAGE_LEN>,
@@ -35,7 +35,7 @@ impl Page {
         }
     }
 
-    /// Puts a text behind what was put before, or answers `Write` where the sink stopped.
+    /// Appends a text to what was put before. `Write` where the sink stopped.
     pub(crate) fn put<K: Sink>(&mut self, out: &mut K, text: &[u8]) -> Result<(), ToolFault>
         ensures ok { OnOk result (Passes (taken K.told K.stops out.old out.new) self.old text.now self.new) }
         ensures fault { IfErr result (λ e. e ≡ Write) }
@@ -48,7 +48,7 @@ impl Page {
         Ok(())
     }
 
-    /// Lets all that was put go out, or answers `Write` where the sink stopped.
+    /// Passes on everything that was put. `Write` where the sink stopped.
     pub(crate) fn flush<K: Sink>(&mut self, out: &mut K) -> Result<(), ToolFault>
         ensures ok { OnOk result (TookAll (taken K.told K.stops out.old out.new) self.old) }
         ensures empty { OnOk result (self.new ≡ []) }

@@ -13,7 +13,7 @@ use crate::walked::Walked;
 use svid_replay::{MOST_USES, Record, UseStore};
 use svid_wire::{Sink, batch_head};
 
-// The texts of the next uses, so many.
+// Puts the texts of the next `count` uses.
 fn put_uses<W: Walked, K: Sink>(
     page: &mut Page,
     walked: &mut W,
@@ -34,7 +34,7 @@ fn put_uses<W: Walked, K: Sink>(
     Ok(())
 }
 
-// The batch of the next uses, so many.
+// Puts the batch of the next `count` uses.
 fn put_batch<W: Walked, K: Sink>(
     page: &mut Page,
     moment: u64,
@@ -53,7 +53,7 @@ fn put_batch<W: Walked, K: Sink>(
     put_uses(page, walked, count, out)
 }
 
-// The texts of the parts of a record of this moment with the uses that are left to the walk, which are so many.
+// Puts the texts of the parts of a record of this moment with the `count` uses that are left to the walk.
 fn put_parts<W: Walked, K: Sink>(
     page: &mut Page,
     moment: u64,
@@ -74,7 +74,7 @@ fn put_parts<W: Walked, K: Sink>(
     put_batch(page, moment, walked, left, out)
 }
 
-// All these parts, to the last byte.
+// Writes all these parts, to the last byte.
 pub(crate) fn put_walked<W: Walked, K: Sink>(
     moment: u64,
     count: usize,
@@ -92,8 +92,8 @@ pub(crate) fn put_walked<W: Walked, K: Sink>(
     Ok(())
 }
 
-/// Writes a record as the texts of its parts, as [`run_merge`](crate::run_merge) does, or answers `Write` where the
-/// sink stopped, and then a part of them went out. Takes no memory.
+/// Writes a record as the texts of its parts, as [`run_merge`](crate::run_merge) does. `Write` where the sink stopped: then part
+/// of them went out. Takes no memory.
 pub fn put_record<T: UseStore, K: Sink>(state: &Record<T>, out: &mut K) -> Result<(), ToolFault>
     ensures ok { OnOk result (TookAll (taken K.told K.stops out.old out.new) (record_text state.now)) }
     ensures fault { IfErr result (λ e. e ≡ Write) }

@@ -9,7 +9,7 @@ use crate::{MOST_BYTES, ToolFault};
 use std::alloc::Global;
 use svid_wire::{Feed, Message, Reason, Source, WireFault};
 
-// How many bytes are asked of a source in one call.
+// How many bytes a call asks of a source.
 const ROOM: usize = 4096;
 
 /// Reads the messages of one input, piece by piece.
@@ -40,7 +40,7 @@ fn wire_fault(fault: WireFault, input: usize, message: usize) -> ToolFault
 }
 
 impl Reader {
-    /// Before the first piece of the input with this number.
+    /// A reader before the first piece of the input with this number.
     pub fn new(alloc: Global, number: usize) -> Reader
         ensures feed { result.feed ≡ Some [] }
         ensures still { result.still ≡ 67108864 }
@@ -55,8 +55,7 @@ impl Reader {
         }
     }
 
-    /// Reads the next piece, and answers whether there was one. Its messages come to stand in `messages`,
-    /// in the place of those that were there.
+    /// Reads the next piece, and returns whether there was one. Its messages replace those in `messages`.
     pub fn next<S: Source>(
         &mut self,
         source: &mut S,

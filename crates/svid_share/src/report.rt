@@ -17,7 +17,7 @@ use std::alloc::Global;
 use svid_replay::{Record, RunUses, Twice, UseStore};
 use svid_wire::{Sink, Source};
 
-// A number under its name.
+// Puts a number and its name.
 fn put_number<K: Sink>(
     page: &mut Page,
     name: &str,
@@ -32,7 +32,7 @@ fn put_number<K: Sink>(
     page.put(out, number_line(name, number).bytes())
 }
 
-// The lines of the uses, as they are walked.
+// Puts the lines of the uses, in the order of the walk.
 fn put_uses<T: UseStore, K: Sink>(
     page: &mut Page,
     state: &Record<T>,
@@ -59,7 +59,7 @@ fn put_twice<K: Sink>(page: &mut Page, twice: &[Twice], out: &mut K) -> Result<(
     Ok(())
 }
 
-// The text of a report, line by line.
+// Puts the text of a report, line by line.
 fn put_lines<T: UseStore, K: Sink>(
     state: &Record<T>,
     twice: &[Twice],
@@ -82,8 +82,7 @@ fn put_lines<T: UseStore, K: Sink>(
 /// Writes the report of a record: its moment, its uses, and the keys that are used more than once; as
 /// [`run_report`] writes it.
 ///
-/// Refused for want of memory, before anything is written, and where the sink stopped (`Write`): then a part of
-/// the report went out.
+/// `OutOfMemory` before anything is written, and `Write` where the sink stopped: then part of the report went out.
 pub fn put_report<T: UseStore, K: Sink>(
     alloc: Global,
     state: &Record<T>,
@@ -96,7 +95,7 @@ pub fn put_report<T: UseStore, K: Sink>(
     put_lines(state, &twice, out)
 }
 
-// Raises a record to a moment, where one is given.
+// Advances a record to a moment, where one is given.
 pub(crate) fn raise_to<T: UseStore>(target: &mut Record<T>, now: Option<u64>)
     ensures { target.new ≡ raised_to now target.old }
 {
@@ -105,7 +104,7 @@ pub(crate) fn raise_to<T: UseStore>(target: &mut Record<T>, now: Option<u64>)
     }
 }
 
-// What all inputs tell, and its keys that are used more than once.
+// The join of the batches of all inputs, advanced to the moment, and its keys that are used more than once.
 fn join_all<S: Source>(
     alloc: Global,
     inputs: &mut [S],
@@ -120,15 +119,14 @@ fn join_all<S: Source>(
     Ok((record, twice))
 }
 
-/// Joins the batches of all inputs, raises the record that they come to up to the moment `now` (in seconds)
-/// where one is given, and writes its moment, its uses, and the keys that are used more than once. Summaries
-/// among the inputs are passed over.
+/// Joins the batches of all inputs, advances this record to the moment `now` (in seconds) where one is given, and writes its
+/// moment, its uses, and the keys that are used more than once. Skips summaries among the inputs.
 ///
-/// The inputs are read and judged in their order, before anything is written. Refused for the first
-/// that is not a row of whole messages (`Wire`), could not be read (`Read`) or has more than 67,108,864
-/// bytes (`TooMuch`), for want of memory, and where the sink stopped (`Write`): then a part of the text
-/// went out, and else nothing did. A bad field in what came before a failed read or the limit is answered
-/// before these. The inputs behind a refused one are as they were.
+/// The inputs are read and judged in their order, before anything is written. Errors, for the first input that is refused: `Wire`
+/// where it does not parse as whole messages, `Read` where it could not be read, `TooMuch` where it has more than 67,108,864
+/// bytes. Further errors: `OutOfMemory`, and `Write` where the sink stopped. After `Write` part of the text went out, after the
+/// others nothing. A bad field that came before a failed read or the limit is reported instead of these. The inputs after a
+/// refused one are as they were.
 pub fn run_report<S: Source, K: Sink>(
     alloc: Global,
     inputs: &mut [S],

@@ -11,7 +11,7 @@ use std::alloc::Global;
 use svid_replay::Summary;
 use svid_wire::{Sink, Source, write_summary};
 
-// The summary of what all inputs tell.
+// The summary of the join of the batches of all inputs.
 fn summary_of_inputs<S: Source>(alloc: Global, inputs: &mut [S]) -> Result<Summary, ToolFault>
     ensures ok { IfOk result (λ summary. IsDue summary_due (inputs_of (sources S.left S.stops inputs.old inputs.new)) (summary_text summary)) }
     ensures fault { IfErr result (IsJoinFault (sources S.left S.stops inputs.old inputs.new)) }
@@ -20,15 +20,14 @@ fn summary_of_inputs<S: Source>(alloc: Global, inputs: &mut [S]) -> Result<Summa
     Ok(record.summary())
 }
 
-/// Joins the batches of all inputs, and writes the summary of the record that they come to: its moment, and
-/// the digest of each of its 256 buckets. Summaries among the inputs are passed over.
+/// Joins the batches of all inputs, and writes the summary of this record: its moment, and the digest of each of its 256 buckets.
+/// Skips summaries among the inputs.
 ///
-/// What is written depends on nothing but which batches there are. The inputs are read and judged in their
-/// order, before anything is written. Refused for the first that is not a row of whole messages (`Wire`),
-/// could not be read (`Read`) or has more than 67,108,864 bytes (`TooMuch`), for want of memory, and where
-/// the sink stopped (`Write`): then a part of the text went out, and else nothing did. A bad field in what
-/// came before a failed read or the limit is answered before these. The inputs behind a refused one are as
-/// they were.
+/// The output depends only on which batches there are. The inputs are read and judged in their order, before anything is written.
+/// Errors, for the first input that is refused: `Wire` where it does not parse as whole messages, `Read` where it could not be
+/// read, `TooMuch` where it has more than 67,108,864 bytes. Further errors: `OutOfMemory`, and `Write` where the sink stopped.
+/// After `Write` part of the text went out, after the others nothing. A bad field that came before a failed read or the limit is
+/// reported instead of these. The inputs after a refused one are as they were.
 pub fn run_summary<S: Source, K: Sink>(
     alloc: Global,
     inputs: &mut [S],

@@ -11,7 +11,7 @@ use svid_wire::Reason;
 /// Why an engine gave up. Inputs and messages are numbered from 1.
 #[derive(Clone, Copy, Debug, PartialEq, Eq)]
 pub enum ToolFault {
-    /// The bytes of an input are no message from this offset of this message on.
+    /// The bytes of an input are no message, from this offset of this message on.
     Wire {
         /// The number of the input.
         input: usize,
@@ -22,7 +22,7 @@ pub enum ToolFault {
         /// What is wrong there.
         reason: Reason,
     },
-    /// An input that is to be one summary is not.
+    /// An input that must be one summary is something else.
     NotSummary,
     /// The bundles are refused.
     Bundles(BundleFault),
@@ -40,13 +40,12 @@ pub enum ToolFault {
     },
     /// The output could not be written.
     Write,
-    /// There was no memory.
+    /// Memory was refused.
     OutOfMemory,
 }
 
 impl ToolFault {
-    /// The exit status of the program after a fault that an engine answers: 1 where an input was refused, 2 where
-    /// something else went wrong.
+    /// The exit status of the program after this fault: 1 where an input was refused, 2 where something else went wrong.
     pub fn status(&self) -> u8
         ensures { result ≡ status_of self.now }
     {
@@ -80,7 +79,7 @@ fn reason_name(reason: Reason) -> &'static str
     }
 }
 
-// What main prints on standard error.
+// The text that main prints on standard error.
 impl fmt::Display for ToolFault {
     ghost output = { λ e. Some (fault_text e) };
 

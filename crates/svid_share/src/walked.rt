@@ -8,7 +8,7 @@ use svid_replay::{Stale, Use, UseStore, Walk};
 pub(crate) trait Walked {
     ghost left: { Self → List Use };
 
-    // The first of them, if there is one; it is left no more.
+    // Takes the first of them, if there is one.
     fn next_use(&mut self) -> Option<Use>
         ensures { YieldsFirst left self.old result self.new };
 }

@@ -18,7 +18,7 @@ use Rattle.svid_journal.proofs.PayloadsLemmas.{messages_have_no_position, none_i
 use Rattle.svid_check.proofs.LaterLemmas.{saves_lose_nothing}
 use Rattle.svid_snapshot.specs.Snapshots.{MessagesBearNoPosition, PiecesAreAllowed, SeesIn}
 
--- a use of what batches were joined to was there before, or is seen in one of their texts
+-- a use of a record after batches were joined to it was there before, or is seen in one of the batches' texts
 seen : (has : List ℕ → Bool) (u : Use) (sees : SeesIn has u) (r : State) (bs : List BatchData) → IsTrue (holds (join_all r bs).uses u) → IsTrue (holds r.uses u) ⊎ (list_any has (map batch_text bs) ≡ true)
 seen has u sees r [] h = inl h
 seen has u sees r (b ∷ bs) h =
@@ -31,7 +31,7 @@ seen has u sees r (b ∷ bs) h =
       | inr later ↦ inr (or_right (has (batch_text b)) (list_any has (map batch_text bs)) later)
     ]
 
--- what is seen in a row is seen behind others
+-- what is seen in a list is also seen after others
 seen_behind : (has : List ℕ → Bool) (front row : List (List ℕ)) → list_any has row ≡ true → list_any has (front ++ row) ≡ true
 seen_behind has [] row found = found
 seen_behind has (p ∷ front) row found = or_right (has p) (list_any has (front ++ row)) (seen_behind has front row found)

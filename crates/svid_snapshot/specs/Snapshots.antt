@@ -1,4 +1,4 @@
--- A snapshot of a state folder that is made of the pieces of a record, and what its payloads bear.
+-- A snapshot of a state folder that is made from the pieces of a record, and the content of its payloads.
 use Rattle.std.specs.Prelude.{◌≡◌, ℕ, ◌<◌, Bool, true, List, [], ◌++◌, None, IsTrue, map}
 use Rattle.std.specs.List.{list_any}
 use Rattle.svid_replay.specs.declared.token_use.Use.{Use}
@@ -17,13 +17,13 @@ use Rattle.svid_journal.specs.Payloads.{BeginsWithNoPosition}
 abbrev pub SeesIn : (List ℕ → Bool) → Use → Type 0
 SeesIn has u = (b : BatchData) → IsTrue (holds (batch_state b).uses u) → has (batch_text b) ≡ true
 
--- Where the payloads of a snapshot are the pieces of a save, behind others or none, of a record that had the use if it was noted as the journal
--- that grows began, the mark that ends the snapshot is allowed, as long as the use is live.
+-- Let the payloads of a snapshot be the pieces of a save, after others or none, of a record that had the use if the use was noted
+-- when the journal that grows began. Then the mark that ends the snapshot is allowed, as long as the use is live.
 abbrev pub PiecesAreAllowed : Type 0
 PiecesAreAllowed =
     (has : List ℕ → Bool) (t : Titles) (w : World) (u : Use) (a z : State) (front : List (List ℕ)) (batches : List BatchData) → SeesIn has u → (list_any has w.noted ≡ true → IsTrue (holds a.uses u)) → IsSaved a None batches z → z.moment < u.exp
     → w.parts ≡ front ++ map batch_text batches → (ok : Bool) (landed : List ℕ) → IsAllowed has t w (Piece [] ok landed)
 
--- no row of messages begins with the position of a member in its log
+-- no messages begin with the position of a member in its log
 abbrev pub MessagesBearNoPosition : Type 0
 MessagesBearNoPosition = (bytes : List ℕ) (messages : List Message) → Splits bytes messages [] → BeginsWithNoPosition bytes

@@ -1,4 +1,4 @@
-//! A snapshot of a state folder that is written piece by piece keeps what the laws of the folder ask of it.
+//! A snapshot of a state folder that is written piece by piece meets the premises of the folder's laws.
 #![tactic(auto)]
 
 pub mod laws;

@@ -1,4 +1,4 @@
-//! The program `svid`, all of which is `svid_cli`.
+//! The program `svid`. All of it is in `svid_cli`.
 #![tactic(auto)]
 
 use std::process::ExitCode;

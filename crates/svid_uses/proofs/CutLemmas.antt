@@ -15,7 +15,7 @@ use Rattle.svid_uses.specs.Batched.{AreCut, IsFullBefore, IsOfItsMoment, HasUse,
 use Rattle.svid_uses.specs.Time.{IsInTime, IsTellable}
 use Rattle.svid_uses.proofs.TimeLemmas.{each_both, in_time_drop, in_time_take, rises_at}
 
--- the uses in front that were made at a moment, as many as a batch has
+-- the first uses that were made at a moment, as many as a batch has
 take_passes : {X : Type 0} (p : X → Bool) (xs : List X) → AllByRecursion (λ x. p x ≡ true) (take (prefix_len p xs) xs)
 take_passes p [] = tt
 take_passes {X = X} p (x ∷ xs) =
@@ -41,7 +41,7 @@ front_at m us =
     subst (AllByRecursion (λ u. u.at ≡ m)) (take-take (count_at m us) 65536 us (count_few m us).0)
     (each_weaker (λ u. made_at m u ≡ true) (λ u. u.at ≡ m) (λ u e. same_number u.at m e) (take (count_at m us) (take 65536 us)) (take_passes (made_at m) (take 65536 us)))
 
--- the use behind them was made at another moment, unless they are as many as a batch may have
+-- the use after them was made at another moment, unless they are as many as a batch may have
 next_at : (m : ℕ) (us : List Use) (d : Use) → count_at m us < 65536 → count_at m us < length us → (get_or us (count_at m us) d).at ≢ m
 next_at m us d few some same =
     let stop = prefix_len_stops (made_at m) (take 65536 us) d (omega (arith, length-take 65536 us)) in
@@ -57,7 +57,7 @@ some_front u us = by_cases (cases_lt 0 (count_at u.at (u ∷ us)))
         let zero_is : count_at u.at (u ∷ us) ≡ 0 = omega arith in
         absurd (next_at u.at (u ∷ us) u (omega arith) (omega arith) (ap (λ n. (get_or (u ∷ us) n u).at) zero_is))
 
--- where the next use was made at the same moment, the batch has as many as it may
+-- where the next use was made at the same moment, the batch is full
 full_front : (m : ℕ) (us vs : List Use) (v : Use) → drop (count_at m us) us ≡ v ∷ vs → v.at ≡ m → length (take (count_at m us) us) ≡ 65536
 full_front m us vs v is same =
     let bounds = count_few m us in
@@ -82,7 +82,7 @@ pub record HasCut (us rest : List Use) (batches : List BatchData) : Type 0 where
 pub cut_none : (us : List Use) → IsInTime us → AllByRecursion IsTellable us → HasCut us us []
 cut_none us up good = record { in_time = up; tellable = good; goes_on = λ more are. are }
 
--- the batch of the uses in front
+-- the batch of the first uses
 pub front_is_batch : (u : Use) (us front : List Use) → IsInTime (u ∷ us) → AllByRecursion IsTellable (u ∷ us) → front ≡ take (count_at u.at (u ∷ us)) (u ∷ us) → IsBatch (record { moment = u.at; uses = front })
 front_is_batch u us front up good is =
     let n = count_at u.at (u ∷ us) in
@@ -95,7 +95,7 @@ front_is_batch u us front up good is =
     held : (v : Use) → v.at ≡ u.at → IsTellable v → IsHeldAt u.at v
     held v e t = let later : v.at < v.exp = t.later in record { fields = t.fields; made = omega (arith, e); live = omega (arith, e) }
 
--- the batch of the uses in front, and batches of the rest
+-- the batch of the first uses, and batches of the rest
 one_more : (u : Use) (us : List Use) (b : BatchData) (more : List BatchData) → IsBatch b → b ≡ record { moment = u.at; uses = take (count_at u.at (u ∷ us)) (u ∷ us) }
     → AreCut (drop (count_at u.at (u ∷ us)) (u ∷ us)) more → AreCut (u ∷ us) (b ∷ more)
 one_more u us b more good is cut =
@@ -149,7 +149,7 @@ fewer_left u rest others first is =
     let some : 0 < count_at u.at rest = subst (λ xs. 0 < count_at u.at xs) (sym first) (some_front u (drop 1 rest)) in
     omega (arith, ap length is, length-drop (count_at u.at rest) rest, (count_few u.at rest).1)
 
--- what the first of the uses that are left is
+-- the first of the uses that are left
 pub with_first : (rest : List Use) (u : Use) → slice_get rest 0 ≡ Some u → rest ≡ u ∷ drop 1 rest
 with_first [] u e = absurd (cc)
 with_first (v ∷ vs) u e = ap (λ w. w ∷ vs) (same_Some v u e)

@@ -34,14 +34,14 @@ at_moment m [] i d lt own = absurd (omega arith)
 at_moment m (u ∷ us) zero d lt own = own.0
 at_moment m (u ∷ us) (suc i) d lt own = at_moment m us i d (omega arith) own.1
 
--- of two lists that are cut alike in front, the use behind the shorter front stands in the longer one
+-- of two lists with equal prefixes, the use after the shorter prefix is in the longer one
 behind_front : (xs ys more rest : List Use) (v : Use) → xs ++ (v ∷ more) ≡ ys ++ rest → length xs < length ys → get_or ys (length xs) v ≡ v
 behind_front [] [] more rest v e lt = absurd (omega arith)
 behind_front [] (y ∷ ys) more rest v e lt = ap (λ (us : List Use). get_or us 0 v) (sym e)
 behind_front (x ∷ xs) [] more rest v e lt = absurd (omega arith)
 behind_front (x ∷ xs) (y ∷ ys) more rest v e lt = behind_front xs ys more rest v (ap (λ (us : List Use). drop 1 us) e) (omega arith)
 
--- what batches that come first tell: no more than those that others come first with
+-- the first batch of one cut has no fewer uses than that of another
 no_shorter : (us : List Use) (b c : BatchData) (bs cs : List BatchData) → b.moment ≡ c.moment → AreCut us (b ∷ bs) → AreCut us (c ∷ cs) → length b.uses < length c.uses → ⊥
 no_shorter us b c bs cs same cut other lt = by_next bs cut
   where

@@ -19,7 +19,7 @@ use Rattle.svid_uses.specs.Time.{HasSameUses, IsFirstExpired, IsInTime, IsTellab
 pub time_total : IsTotalOrder time_cmp
 time_total = then_total (on_total (λ (u : Use). u.at) nat_cmp_total) use_total
 
--- uses that tie are the same
+-- uses that compare as equal are the same
 second_equal : (a b : Ordering) → ordering_then a b ≡ Equal → b ≡ Equal
 second_equal Equal b e = e
 second_equal Less b e = absurd (cc)
@@ -36,7 +36,7 @@ equal_of Greater e = absurd (cc)
 pub time_same : (u v : Use) → eq_by_cmp time_cmp u v ≡ true → u ≡ v
 time_same u v e = time_exact u v (equal_of (time_cmp u v) e)
 
--- what holds of all that a list has
+-- what holds of everything that a list contains
 pub each_contained : (P : Use → Type 0) (us : List Use) → ((u : Use) → Contains us u → P u) → AllByRecursion P us
 each_contained P us f = recursion_from_All P us (All-weaker (Contains us) P f us (All-contains_itself us))
 

@@ -19,12 +19,12 @@ abbrev pub IsFullBefore : BatchData → List BatchData → Type 0
 IsFullBefore b [] = Unit {0}
 IsFullBefore b (c ∷ bs) = b.moment ≡ c.moment → length b.uses ≡ 65536
 
--- this holds of each batch and the ones behind it
+-- this holds of each batch and the ones after it
 abbrev pub AreFew : List BatchData → Type 0
 AreFew [] = Unit {0}
 AreFew (b ∷ bs) = IsFullBefore b bs × AreFew bs
 
--- batches that tell just these uses, in their order: each at the time at which it was made, in as few as hold them
+-- batches with just these uses, in their order: each at the time at which it was made, in as few as hold them
 pub record AreCut (us : List Use) (batches : List BatchData) : Type 0 where
   pub whole : uses_in batches ≡ us
   pub good : AllByRecursion IsBatch batches
@@ -32,7 +32,7 @@ pub record AreCut (us : List Use) (batches : List BatchData) : Type 0 where
   pub some : AllByRecursion HasUse batches
   pub few : AreFew batches
 
--- batches that tell the uses of a list, each use once, by the times at which they were made
+-- batches with the uses of a list, each use once, by the times at which they were made
 pub record AreBatched (uses : List Use) (batches : List BatchData) : Type 0 where
   pub sorted : List Use
   pub in_time : IsInTime sorted
@@ -43,6 +43,6 @@ pub record AreBatched (uses : List Use) (batches : List BatchData) : Type 0 wher
 abbrev pub made_at : ℕ → Use → Bool
 made_at moment u = u.at == moment
 
--- how many uses in front were made at this moment, up to 65,536
+-- how many of the first uses were made at this moment, up to 65,536
 abbrev pub count_at : ℕ → List Use → ℕ
 count_at moment us = prefix_len (made_at moment) (take 65536 us)

@@ -9,7 +9,7 @@ use Rattle.svid_replay.specs.Use.{IsUse, use_cmp}
 use Rattle.svid_uses.specs.declared.uses_fault.UsesFault.{UsesFault}
 use Rattle.svid_uses.specs.declared.uses_fault.UsesFault.TheVariants.{Expired, OutOfMemory}
 
--- the order of uses by when they were made, and of those of one time the order of uses
+-- the order of uses by the time at which they were made; uses of one time in the order of uses
 abbrev pub time_cmp : Use → Use → Ordering
 time_cmp u v = ordering_then (nat_cmp u.at v.at) (use_cmp u v)
 
@@ -21,12 +21,12 @@ IsInTime = IsStrictlySortedBy time_cmp
 abbrev pub HasSameUses : List Use → List Use → Type 0
 HasSameUses us vs = (u : Use) → Contains us u ↔ Contains vs u
 
--- a batch of the time at which a use was made can tell it: the use expires after that
+-- a batch of the time at which a use was made can have it: the use expires after that
 pub record IsTellable (u : Use) : Type 0 where
   pub fields : IsUse u
   pub later : u.at < u.exp
 
--- the use at this index is the first that no batch can tell: it expires when it was made, or before
+-- the use at this index is the first that no batch can have: it expires when it was made, or before
 pub record IsFirstExpired (uses : List Use) (index : ℕ) : Type 0 where
   pub front : List Use
   pub bad : Use
@@ -36,7 +36,7 @@ pub record IsFirstExpired (uses : List Use) (index : ℕ) : Type 0 where
   pub good : AllByRecursion IsTellable front
   pub expired : bad.exp ≤ bad.at
 
--- why uses are no batches: no batch can tell one of them, and which is the first; or memory was refused
+-- why uses make no batches: no batch can have one of them, and which is the first; or memory was refused
 abbrev pub IsUsesFault : List Use → UsesFault → Type 0
 IsUsesFault uses (Expired index) = IsFirstExpired uses index
 IsUsesFault uses OutOfMemory = Unit {0}

@@ -30,11 +30,11 @@ fn first_expired(uses: &[Use]) -> Option<usize>
     None
 }
 
-/// The batches that tell these uses: for each time at which uses were made one batch of that moment, or several where more than 65,536
-/// uses were made then. The uses may be given in any order. A use that is given twice is told once, and no uses are told by no batch.
+/// The batches of these uses: for each time at which uses were made one batch of that moment, or several where more than 65,536
+/// uses were made then. The uses may be in any order. A use that is given twice is in one batch once. No uses give no batch.
 ///
 /// `Expired` with the index, counted from 0, of the first use that expires when it was made, or before: no batch can have it.
-/// `OutOfMemory` where memory is refused. It takes room for the uses twice. The time that it takes is that of sorting them.
+/// `OutOfMemory` where memory is refused. The call takes room for the uses twice, and the time of sorting them.
 pub fn batches_of(alloc: Global, uses: &[Use]) -> Result<Vec<Batch>, UsesFault>
     ensures ok { IfOk result (λ batches. AreBatched uses.now batches.items) }
     ensures fault { IfErr result (IsUsesFault uses.now) }

@@ -11,7 +11,7 @@ fn by_time(one: &Use, other: &Use) -> Ordering
     one.at.cmp(&other.at).then(one.cmp(other))
 }
 
-// The uses by the times at which they were made; one that stands there twice comes once. Takes no memory.
+// The uses by the times at which they were made, each once. Takes no memory.
 pub(crate) fn in_time(uses: Vec<Use>) -> Vec<Use>
     ensures in_time { IsInTime result.items }
     ensures same { HasSameUses uses.items result.items }

@@ -12,7 +12,7 @@ fn is_made_at(moment: u64, used: &Use) -> bool
     used.at == moment
 }
 
-// The uses in front that one batch of this moment tells: those that were made at it, up to 65,536; and the rest.
+// Splits off the first uses that one batch of this moment can have: those that were made at it, up to 65,536.
 fn split_moment(moment: u64, uses: &[Use]) -> (&[Use], &[Use])
     ensures front { result.0.now ≡ take (count_at moment uses.now) uses.now }
     ensures rest { result.1.now ≡ drop (count_at moment uses.now) uses.now }
@@ -25,7 +25,7 @@ fn split_moment(moment: u64, uses: &[Use]) -> (&[Use], &[Use])
     uses.split_at(count)
 }
 
-// The batches of uses that stand in the order of their times. Each use is looked at once, and the first of a batch once more.
+// The batches of uses that are in the order of their times. Looks at each use once, and at the first of a batch twice.
 pub(crate) fn cut(alloc: Global, uses: &[Use]) -> Result<Vec<Batch>, AllocError>
     requires in_time { IsInTime uses.now }
     requires tellable { AllByRecursion IsTellable uses.now }

@@ -1,9 +1,9 @@
 //! Uses as messages: a batch for each time at which uses were made.
 //!
-//! A batch has one moment, and a record that takes it is raised to that. So uses that were made at several times, as the claims that
-//! a log brought or what a save has, are told by [`batches_of`] in batches of these times, which rise; and a use that is
-//! given twice is told once. [`write_batches`] writes them as messages. [`Value::read`](svid_log::Value::read) gives the uses of messages
-//! back, in the order in which they stand there; [`laws`] says that it finds just what was written.
+//! A batch has one moment, and a record that takes the batch advances to that moment. So uses that were made at several times,
+//! like the claims from a log or the content of a save, need several batches. [`batches_of`] makes them, with rising times; a use
+//! that is given twice is in them once. [`write_batches`] writes them as messages. [`Value::read`](svid_log::Value::read) gives
+//! the uses of messages back, in the order of the messages; [`laws`] says that it finds just what was written.
 //!
 //! ```rust
 //! use svid_replay::Use;

@@ -4,7 +4,7 @@ ghost use Rattle.svid_uses.specs.declared.uses_fault.UsesFault.TheVariants.{OutO
 use std::alloc::AllocError;
 use thiserror::Error;
 
-/// Why uses are no batches.
+/// Why uses make no batches.
 #[derive(Clone, Copy, Debug, PartialEq, Eq, Error)]
 pub enum UsesFault {
     /// The use at this index, counted from 0, expires when it was made, or before: no batch can have it. It is the first such use.

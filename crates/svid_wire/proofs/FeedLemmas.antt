@@ -1,4 +1,4 @@
--- What is held between pieces, and what a piece does to it.
+-- What is held between pieces, and how a piece changes it.
 use Rattle.std.proofs.Common.{◌≡◌, ℕ, ◌+◌, ◌*◌, ◌<◌, ◌≤◌, List, [], ◌∷◌, ◌++◌, length, take, refl, sym, ap, ◌∙◌, subst, arith, append_assoc, length-append, Option, None, Some, IfErr, inl}
 use Rattle.std.proofs.lemmas.List.{length-take}
 use Rattle.std.specs.List.{flat_map, AllByRecursion}
@@ -68,12 +68,12 @@ IsPartial-held p h = record {
   few = omega (arith, h.short, length-take p.filled p.part, length-append (stage_text p.stage) (take p.filled p.part), length-stage p.stage h.stage);
 }
 
--- a piece went on with an unfinished message, and left another
+-- a piece continued an unfinished message, and left another
 pub Pushed-piece : (before : Option (List ℕ)) (p q : Partial) (old new : List Message) (piece : List ℕ) → Some (held_of p) ≡ before → IsPartial q → Appended (held_of p ++ piece) old new (held_of q) → Pushed before (Some (held_of q)) old new piece
 Pushed-piece before p q old new piece same next came =
     subst (λ o. Pushed o (Some (held_of q)) old new piece) same (came, IsPartial-held q next)
 
--- a field became whole, and more of the piece is behind it
+-- a field became whole, and more of the piece follows
 pub Appended-next : (bytes held rest last after next : List ℕ) (a b c : List Message) → rest ≡ last ++ after → Appended bytes a b (held ++ rest) → Appended (held ++ last) b c next → Appended bytes a c (next ++ after)
 Appended-next bytes held rest last after next a b c parts before now =
     Appended-trans bytes (held ++ rest) (next ++ after) a b c before (subst (λ (x : List ℕ). Appended x b c (next ++ after)) (append_assoc held last after ∙ ap (λ x. held ++ x) (sym parts)) (Appended-more (held ++ last) after next b c now))
@@ -87,7 +87,7 @@ StopsIn-next bytes held rest last after a b c fault parts some before same why =
   why = IsFieldRefusal-append (held ++ rest) (held ++ last) after fault (ap (λ x. held ++ x) parts ∙ sym (append_assoc held last after)) why;
 }
 
--- the answer at the end, where one piece was all bytes
+-- the result at the end, where one piece was all bytes
 pub ended : (held : Option (List ℕ)) (old new : List Message) (bytes : List ℕ) → Pushed (Some []) held old new bytes → IfErr (end_of held) (StopsAt bytes old new)
 ended None old new bytes h = absurd h
 ended (Some []) old new bytes h = tt

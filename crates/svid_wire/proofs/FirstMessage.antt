@@ -25,7 +25,7 @@ use Rattle.svid_wire.specs.declared.wire_fault.WireFault.{WireFault}
 use Rattle.svid_wire.specs.declared.reason.Reason.{Reason}
 use Rattle.svid_wire.specs.declared.reason.Reason.TheVariants as reason
 
--- what bytes begin with: a message, with the bytes behind it, a fault, or a message that is cut
+-- what bytes begin with: a message, with the bytes after it, a fault, or a message that is cut
 pub data Found : Type 0 where
   message : Written → List ℕ → Found
   fault : WireFault → Found
@@ -34,7 +34,7 @@ pub data Found : Type 0 where
 abbrev pub fault_at : ℕ → Reason → Found
 fault_at offset reason = fault (record { offset = offset; reason = reason })
 
--- looks at the first n bytes, where there are as many, and at those behind them
+-- looks at the first n bytes, where there are as many, and at those after them
 unfoldable pub at_field : ℕ → List ℕ → (List ℕ → List ℕ → Found) → Found
 at_field n x next = if nat_lt (length x) n then cut else next (take n x) (drop n x)
 
@@ -96,7 +96,7 @@ pub length-use_text : (v : Version) (u : Use) → IsUse u → length (use_text v
 length-use_text One u h = length-front u h
 length-use_text Two u h = omega (arith, ap length (text_of-front u), length-append (front_text u) (from_bool u.withdrawn ∷ []), length-front u h)
 
--- the use whose bytes these are, or none, since the last is that of no kind
+-- the use with these bytes, or none, where the last is no kind
 abbrev pub kind_of : List ℕ → Option Bool
 kind_of k = if bytes_eq k (0 ∷ []) then Some false else (if bytes_eq k (1 ∷ []) then Some true else None)
 
@@ -123,7 +123,7 @@ use_in-text Two u h tells =
     ∙ ap (use_with (front_text u)) (kind_of-bool u.withdrawn)
     ∙ ap Some (front_of-front u h)
 
--- goes on behind a good use
+-- goes on after a good use
 abbrev pub judged : Version → Option Flaw → List Use → Found → Found
 judged v None us next = next
 judged v (Some f) us next = fault_at (17 + use_len_of v * length us) (flaw_reason f)
@@ -133,7 +133,7 @@ abbrev pub with_use : Version → Option Use → ℕ → List Use → (Use → F
 with_use v None m us next = fault_at (17 + use_len_of v * length us) reason.UseKind
 with_use v (Some u) m us next = judged v (flaw m (last_of None us) u) us (next u)
 
--- so many uses more, behind those that were found good
+-- so many more uses, after those that were found good
 unfoldable pub find_uses : Version → ℕ → ℕ → List Use → List ℕ → Found
 find_uses v zero m us x = message (batch_in v (record { moment = m; uses = us })) x
 find_uses v (suc n) m us x = at_field (use_len_of v) x (λ f rest. with_use v (use_in v f) m us (λ u. find_uses v n m (us ++ u ∷ []) rest))
@@ -144,7 +144,7 @@ found_uses v m c rest = if nat_lt (most_of v) c then fault_at 13 reason.Count el
 unfoldable pub find_moment_and_count : Version → List ℕ → Found
 find_moment_and_count v x = at_field 12 x (λ f rest. found_uses v (from_be_bytes w64 (take 8 f)) (from_be_bytes w32 (drop 8 f)) rest)
 
--- so many digests more, behind those that came
+-- so many more digests, after those that came
 unfoldable pub find_digests : ℕ → ℕ → List (List ℕ) → List ℕ → Found
 find_digests zero m ds x = message (summary (record { moment = m; digests = ds })) x
 find_digests (suc n) m ds x = at_field 32 x (λ f rest. find_digests n m (ds ++ f ∷ []) rest)
@@ -221,7 +221,7 @@ find_head v m c x fm fc = ap find_magic (head_parts v m c x) ∙ find_magic-good
     head_parts One m c x = refl
     head_parts Two m c x = refl
 
--- no version has batches of more uses than a count of 32 bits tells
+-- no version has batches with more uses than a count of 32 bits can give
 most_fits : (v : Version) → most_of v < 2 ^ 32
 most_fits One = omega arith
 most_fits Two = omega arith
@@ -232,7 +232,7 @@ find_head-few v m c x fm few =
     let small : nat_lt (most_of v) c ≡ false = grind (arith, nat_tests) in
     find_head v m c x fm (omega (arith, few, most_fits v)) ∙ ap (λ b. if b then fault_at 13 reason.Count else find_uses v c m [] x) small
 
--- a batch, and the bytes behind it
+-- a batch, and the bytes after it
 find_batch : (v : Version) (b : BatchData) (rest : List ℕ) → IsBatchIn v b → find_magic (batch_text_in v b ++ rest) ≡ message (batch_in v b) rest
 unfolding find_uses
 find_batch v b rest good =
@@ -276,7 +276,7 @@ find_summary_digests : (m n : ℕ) (ds : List (List ℕ)) (x : List ℕ) → m <
 find_summary_digests m n ds x fm left fits =
     find_magic-good Two _ ∙ find_kind-summary _ ∙ find_moment-next m _ fm ∙ find_digests-more ds [] 256 n m x left fits
 
--- a summary, and the bytes behind it
+-- a summary, and the bytes after it
 find_summary : (s : SummaryData) (rest : List ℕ) → IsSummary s → find_magic (summary_text s ++ rest) ≡ message (summary s) rest
 find_summary s rest good =
     ap find_magic (append_assoc (summary_head s.moment) (flat_map digest_text s.digests) rest)
@@ -315,7 +315,7 @@ false_of false ne = refl
 bytes_eq-false : (xs ys : List ℕ) → xs ≢ ys → bytes_eq xs ys ≡ false
 bytes_eq-false xs ys ne = false_of (bytes_eq xs ys) (λ e. ne ((bytes_eq-Decides xs ys).0 e))
 
--- a byte that is that of no kind of use
+-- a byte that is no kind of use
 no_kind_of : (k : ℕ) → k ≢ 0 → k ≢ 1 → kind_of (k ∷ []) ≡ None
 no_kind_of k no_use no_withdrawal =
     ap (λ b. if b then Some false else (if bytes_eq (k ∷ []) (1 ∷ []) then Some true else None)) (bytes_eq-false (k ∷ []) (0 ∷ []) (λ e. no_use cc))
@@ -368,7 +368,7 @@ find_count_fault bytes h =
     ∙ find_head v h.moment h.count h.after h.moment_fits h.count_fits
     ∙ ap (λ b. if b then fault_at 13 reason.Count else find_uses v h.count h.moment [] h.after) many
 
--- each fault is what is found
+-- the function finds each fault
 finds_fault : (r : Reason) (bytes : List ℕ) (offset : ℕ) → IsFaultFor r bytes offset → first_message bytes ≡ fault_at offset r
 unfolding first_message
 finds_fault reason.Magic bytes offset (at, long, bad) = ap (settled bytes) (find_magic_fault bytes long bad) ∙ ap (λ n. fault_at n reason.Magic) (sym at)
@@ -382,7 +382,7 @@ finds_fault reason.Truncated bytes offset (at, some, h) = ap (settled bytes) (fi
 finds_fault reason.OutOfMemory bytes offset h = absurd h
 finds_fault reason.Failed bytes offset h = absurd h
 
--- a message is what is found, and the bytes behind it
+-- the function finds a message, and the bytes after it
 finds_message : (m : Written) (rest : List ℕ) → IsWritten m → first_message (written_text m ++ rest) ≡ message m rest
 unfolding first_message
 finds_message (batch_in v b) rest good = ap (settled (batch_text_in v b ++ rest)) (find_batch v b rest good)

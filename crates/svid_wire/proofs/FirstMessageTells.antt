@@ -1,4 +1,4 @@
--- What `first_batch` finds is true of the bytes, so that all bytes begin with a message or have a fault.
+-- What `first_message` finds is true of the bytes, so that all bytes begin with a message or have a fault.
 use Rattle.std.proofs.Common.{◌≡◌, ◌≢◌, ℕ, zero, suc, ◌+◌, ◌*◌, ◌^◌, ◌<◌, ◌≤◌, ◌⊎◌, inl, inr, Bool, true, false, nat_lt, if◌then◌else◌, List, [], ◌∷◌, ◌++◌, length, take, drop, get_or, refl, sym, ap, ◌∙◌, subst, arith, append_assoc, append-nil, length-append, length-drop, Option, None, Some, All}
 use Rattle.std.specs.Int.{from_be_bytes, from_bool, to_be_bytes, w32, w64}
 use Rattle.std.specs.List.{flat_map, AllByRecursion}
@@ -76,7 +76,7 @@ from_be_bytes-lt bytes h =
     let at = AreBytes-at bytes h in
     omega (arith, at 0, at 1, at 2, at 3, at 4, at 5, at 6, at 7)
 
--- the moment and the number of uses that a field tells
+-- the moment and the number of uses in a field
 moment_and_count_text-of : (f : List ℕ) → length f ≡ 12 → AreBytes f → moment_and_count_text (from_be_bytes w64 (take 8 f)) (from_be_bytes w32 (drop 8 f)) ≡ f
 unfolding moment_and_count_text
 moment_and_count_text-of f size h =
@@ -116,7 +116,7 @@ record IsReadAs (v : Version) (f : List ℕ) (u : Use) : Type 0 where
   fields : IsUse u
   tells : CanTell v u
 
--- a field of version 2 whose last byte is that of no kind
+-- a field of version 2 whose last byte is no kind
 record HasNoKind (v : Version) (f : List ℕ) : Type 0 where
   two : v ≡ Two
   front : List ℕ
@@ -131,7 +131,7 @@ IsReading : Version → List ℕ → Option Use → Type 0
 IsReading v f None = HasNoKind v f
 IsReading v f (Some u) = IsReadAs v f u
 
--- a byte that says of which kind a use is
+-- a byte that gives the kind of a use
 IsKind : ℕ → Option Bool → Type 0
 IsKind k None = (k ≢ 0) × (k ≢ 1)
 IsKind k (Some w) = from_bool w ≡ k
@@ -182,7 +182,7 @@ unfolding Tells
 Tells-judged bytes v us None next good bad = good refl
 Tells-judged bytes v us (Some f) next good bad = (IsFieldFault-use bytes _ f (bad f refl)).0
 
--- a use that was read behind the good ones, or not
+-- a use that was read after the good ones, or not
 Tells-use : (bytes : List ℕ) (v : Version) (f rest : List ℕ) (m c : ℕ) (us : List Use) (o : Option Use) (next : Use → Found) → IsReading v f o → IsBegun v m c us → bytes ≡ head_text v m c ++ (flat_map (use_text v) us ++ (f ++ rest)) → ((u : Use) → IsReadAs v f u → flaw m (last_of None us) u ≡ None → Tells bytes (next u)) → Tells bytes (with_use v o m us next)
 unfolding Tells IsReading
 Tells-use bytes One f rest m c us None next is begun parts good = absurd (no_two is.two)
@@ -223,7 +223,7 @@ most_is_most : (v : Version) → most_of v ≤ 65536
 most_is_most One = omega arith
 most_is_most Two = omega arith
 
--- the uses of a batch of which some were found good
+-- the uses of a batch after some were found good
 Tells-uses : (v : Version) (n m c : ℕ) (us : List Use) (x bytes : List ℕ) → c ≡ length us + n → m < 2 ^ 64 → c ≤ most_of v → AllByRecursion IsUse us → AllByRecursion (CanTell v) us → AllGood m None us → AreBytes x → bytes ≡ head_text v m c ++ (flat_map (use_text v) us ++ x) → Tells bytes (find_uses v n m us x)
 unfolding Tells find_uses
 Tells-uses v zero m c us x bytes left fits few fields tells good h parts =
@@ -246,7 +246,7 @@ is_over most c test = grind (arith, nat_tests)
 is_within : (most c : ℕ) → nat_lt most c ≡ false → c ≤ most
 is_within most c test = grind (arith, nat_tests)
 
--- the head of a batch, and what is behind it
+-- the head of a batch, and the bytes after it
 Tells-head : (bytes : List ℕ) (v : Version) (m c : ℕ) (rest : List ℕ) (b : Bool) → m < 2 ^ 64 → c < 2 ^ 32 → AreBytes rest → bytes ≡ head_text v m c ++ rest → nat_lt (most_of v) c ≡ b → Tells bytes (if b then fault_at 13 reason.Count else find_uses v c m [] rest)
 unfolding Tells
 Tells-head bytes v m c rest true fm fc h parts test =
@@ -267,7 +267,7 @@ find_moment_and_count-tells v x bytes h parts =
     head_parts One m c x = refl
     head_parts Two m c x = refl
 
--- the digests of a summary of which some came
+-- the digests of a summary after some came
 Tells-digests : (n m : ℕ) (ds : List (List ℕ)) (x bytes : List ℕ) → 256 ≡ length ds + n → m < 2 ^ 64 → AllByRecursion (IsBytes 32) ds → AreBytes x → bytes ≡ summary_head m ++ (flat_map digest_text ds ++ x) → Tells bytes (find_digests n m ds x)
 unfolding Tells find_digests AreBytes
 Tells-digests zero m ds x bytes left fits fields h parts =

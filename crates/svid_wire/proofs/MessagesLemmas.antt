@@ -21,7 +21,7 @@ batches_of-append [] ns = refl
 batches_of-append (Batch b ∷ ms) ns = ap (λ x. b ∷ x) (batches_of-append ms ns)
 batches_of-append (Summary s ∷ ms) ns = batches_of-append ms ns
 
--- messages behind messages
+-- messages after messages
 Splits-append : (bytes : List ℕ) (ms ns : List Message) (mid rest : List ℕ) → Splits bytes ms mid → Splits mid ns rest → Splits bytes (ms ++ ns) rest
 Splits-append bytes ms ns mid rest p q = record {
   written = p.written ++ q.written;
@@ -30,14 +30,14 @@ Splits-append bytes ms ns mid rest p q = record {
   parts = p.parts ∙ ap (λ x. flat_map written_text p.written ++ x) q.parts ∙ sym (append_assoc (flat_map written_text p.written) (flat_map written_text q.written) rest) ∙ ap (λ x. x ++ rest) (sym (flat_map-append written_text p.written q.written));
 }
 
--- more bytes behind the rest
+-- more bytes after the rest
 Splits-more : (bytes more : List ℕ) (ms : List Message) (rest : List ℕ) → Splits bytes ms rest → Splits (bytes ++ more) ms (rest ++ more)
 Splits-more bytes more ms rest p = record { written = p.written; good = p.good; told = p.told; parts = ap (λ x. x ++ more) p.parts ∙ append_assoc (flat_map written_text p.written) rest more }
 
 pub cut_anywhere : CutAnywhere
 cut_anywhere first others ms ns rest last p q = record { splits = Splits-append (first ++ others) ms ns (rest ++ others) last (Splits-more first others ms rest p.splits) q.splits; ends = q.ends }
 
--- messages came of some bytes, and others of their rest
+-- messages from some bytes, and others from their rest
 pub Appended-trans : (bytes mid rest : List ℕ) (a b c : List Message) → Appended bytes a b mid → Appended mid b c rest → Appended bytes a c rest
 Appended-trans bytes mid rest a b c p q = record {
   came = p.came ++ q.came;
@@ -59,7 +59,7 @@ no_bytes_begin h = none h.message h.rest h.parts where
   none (batch_in Two b) rest e = cc
   none (summary s) rest e = cc
 
--- what has a fault begins with no message
+-- bytes with a fault do not begin with a message
 fault_begins_none : (bytes : List ℕ) → HasFault bytes → ¬ BeginsMessage bytes
 fault_begins_none bytes (fault, bad) h =
     text_has_no_fault h.message h.rest fault h.good (subst (λ (x : List ℕ). IsFault x fault) h.parts bad)
@@ -68,7 +68,7 @@ pub parse_ends : ParseEnds
 parse_ends bytes ms rest splits (inl none) = record { splits = splits; ends = subst (λ (x : List ℕ). ¬ BeginsMessage x) (sym none) no_bytes_begin }
 parse_ends bytes ms rest splits (inr faulty) = record { splits = splits; ends = fault_begins_none rest faulty }
 
--- messages and a rest are one list of bytes in one way
+-- bytes split into messages and a rest in one way
 one_way : (ms ns : List Written) (x y : List ℕ) → AllByRecursion IsWritten ms → AllByRecursion IsWritten ns → ¬ BeginsMessage x → ¬ BeginsMessage y → flat_map written_text ms ++ x ≡ flat_map written_text ns ++ y → (ms ≡ ns) × (x ≡ y)
 one_way [] [] x y good_m good_n end_x end_y same = (refl, same)
 one_way [] (n ∷ ns) x y good_m good_n end_x end_y same =
@@ -113,7 +113,7 @@ pub written_is : (m : Message) → IsMessage m → IsWritten (as_written m)
 written_is (Batch b) good = in_two b good
 written_is (Summary s) good = good
 
--- a message came whose text the bytes are
+-- a message was appended whose text is the bytes
 pub came_whole : (bytes text held : List ℕ) (w : Written) (a b : List Message) → IsWritten w → written_text w ≡ text → text ≡ bytes → b ≡ a ++ read_as w ∷ [] → held ≡ [] → Appended bytes a b held
 came_whole bytes text held w a b good is whole grown none = record {
   came = read_as w ∷ [];
@@ -132,7 +132,7 @@ old_batches_are_read b good = (one_is_read (batch_in One b) good, one_is_read (b
 IsParsed : List ℕ → Type 0
 IsParsed bytes = (messages : List Message) × (rest : List ℕ) × Parses bytes messages rest
 
--- one message in front of bytes that parse
+-- one message before bytes that parse
 parse_more : (bytes : List ℕ) (h : BeginsMessage bytes) → IsParsed h.rest → IsParsed bytes
 unfolding IsParsed
 parse_more bytes h (ms, rest, p) = (
@@ -149,7 +149,7 @@ parse_more bytes h (ms, rest, p) = (
   },
 )
 
--- bytes behind others
+-- bytes after others
 All-behind : (P : ℕ → Type 0) (bytes front rest : List ℕ) → bytes ≡ front ++ rest → All P bytes → All P rest
 All-behind P bytes front rest parts h =
     All-same P rest (drop (length front) bytes) (sym (ap (drop (length front)) parts ∙ drop_at front rest (length front) refl)) (All-drop P (length front) bytes h)
@@ -160,7 +160,7 @@ some_bytes (batch_in One b) = omega arith
 some_bytes (batch_in Two b) = omega arith
 some_bytes (summary s) = omega arith
 
--- bytes of which there are at most so many parse
+-- at most so many bytes are parsed
 parses_within : (n : ℕ) (bytes : List ℕ) → length bytes ≤ n → All (λ b. b < 256) bytes → IsParsed bytes
 unfolding IsParsed
 parses_within n [] few h = ([], [], record { splits = record { written = []; good = tt; told = refl; parts = refl }; ends = no_bytes_begin })

@@ -9,7 +9,7 @@ use Rattle.svid_wire.specs.declared.message.Message.TheVariants.{Batch}
 use Rattle.svid_wire.proofs.FirstMessage.{begins_one_message}
 use Rattle.svid_wire.proofs.MessagesLemmas.{as_written, written_is}
 
--- texts of batches, one after the other, are those of one list of batches alone
+-- texts of batches, one after the other, belong to only one list of batches
 one_list : (bs cs : List BatchData) → AllByRecursion IsBatch bs → AllByRecursion IsBatch cs → flat_map batch_text bs ≡ flat_map batch_text cs → bs ≡ cs
 one_list [] [] good_b good_c same = refl
 one_list [] (c ∷ cs) good_b good_c same = cc

@@ -46,7 +46,7 @@ IsCountFault-last v m c field e mf cf many = record {
   many = many;
 }
 
--- a digest more, and its text
+-- one more digest, and its text
 pub AllBytes-push : (ds now : List (List ℕ)) (d : List ℕ) → now ≡ ds ++ d ∷ [] → AllByRecursion (IsBytes 32) ds → IsBytes 32 d → AllByRecursion (IsBytes 32) now
 AllBytes-push ds now d grown all is = subst (AllByRecursion (IsBytes 32)) (sym grown) (AllByRecursion-push (IsBytes 32) ds d all is)
 

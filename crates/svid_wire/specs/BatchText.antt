@@ -7,15 +7,15 @@ use Rattle.svid_wire.specs.Versions.{CanTell, magic_of, most_of, use_text}
 use Rattle.svid_wire.specs.declared.version.Version.{Version}
 use Rattle.svid_wire.specs.declared.version.Version.TheVariants.{Two}
 
--- the byte of a batch that follows what its version begins with
+-- the byte of a batch that follows the magic of its version
 abbrev pub batch_kind : ℕ
 batch_kind = 1
 
--- the moment and the number of uses, each with its greatest byte first
+-- the moment and the number of uses, each with its most significant byte first
 unfoldable pub moment_and_count_text : ℕ → ℕ → List ℕ
 moment_and_count_text moment count = to_be_bytes w64 moment ++ to_be_bytes w32 count
 
--- what stands before the first use
+-- the bytes before the first use
 abbrev pub head_text : Version → ℕ → ℕ → List ℕ
 head_text v moment count = magic_of v ++ batch_kind ∷ [] ++ moment_and_count_text moment count
 

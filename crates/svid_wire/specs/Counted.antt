@@ -1,4 +1,4 @@
--- What a clause reads of a `Counted`.
+-- What a clause sees of a `Counted`.
 use Rattle.std.specs.Prelude.{ℕ}
 use Rattle.svid_wire.specs.declared.counted.Counted.{Counted}
 

@@ -1,4 +1,4 @@
--- What sinks and sources in memory are seen as.
+-- How contracts see sinks and sources in memory.
 use Rattle.std.specs.Prelude.{ℕ, ◌-◌, List, Option, option_map}
 
 -- the calls that are left until the one that fails, after a call

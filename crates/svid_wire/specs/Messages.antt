@@ -17,12 +17,12 @@ abbrev pub message_text : Message → List ℕ
 message_text (Batch b) = batch_text b
 message_text (Summary s) = summary_text s
 
--- it is a message: its numbers and byte rows have the ranges and lengths of their fields, and it breaks no rule
+-- a message: its numbers and byte lists have the ranges and lengths of their fields, and it breaks no rule
 abbrev pub IsMessage : Message → Type 0
 IsMessage (Batch b) = IsBatch b
 IsMessage (Summary s) = IsSummary s
 
--- A message as it stands in bytes: a batch in either version, or a summary.
+-- A message in the form of its bytes: a batch in either version, or a summary.
 pub data Written : Type 0 where
   batch_in : Version → BatchData → Written
   summary : SummaryData → Written
@@ -55,20 +55,20 @@ pub record Splits (bytes : List ℕ) (messages : List Message) (rest : List ℕ)
   pub told : messages ≡ map read_as written
   pub parts : bytes ≡ flat_map written_text written ++ rest
 
--- messages of which the bytes are texts, up to a rest, came behind those that were there
+-- messages were appended whose texts are the bytes, up to a rest
 pub record Appended (bytes : List ℕ) (old new : List Message) (rest : List ℕ) : Type 0 where
   pub came : List Message
   pub grown : new ≡ old ++ came
   pub splits : Splits bytes came rest
 
--- behind the messages that came there are bytes that were refused for this
+-- after the appended messages come bytes that were refused for this
 pub record StopsAt (bytes : List ℕ) (old new : List Message) (fault : WireFault) : Type 0 where
   pub rest : List ℕ
   pub some : 0 < length rest
   pub read : Appended bytes old new rest
   pub why : IsRefusal rest fault
 
--- behind the messages that came there are bytes of which a field is bad, or for which memory was refused
+-- after the appended messages come bytes with a bad field, or memory was refused for them
 pub record StopsIn (bytes : List ℕ) (old new : List Message) (fault : WireFault) : Type 0 where
   pub rest : List ℕ
   pub some : 0 < length rest
@@ -95,11 +95,11 @@ HasFault bytes = (fault : WireFault) × IsFault bytes fault
 abbrev pub BeginsOneMessage : Type 0
 BeginsOneMessage = (a b : Written) (x y : List ℕ) → IsWritten a → IsWritten b → written_text a ++ x ≡ written_text b ++ y → (a ≡ b) × (x ≡ y)
 
--- the text that is written of a message is read as that message
+-- reading the text that is written of a message gives that message
 abbrev pub WrittenIsRead : Type 0
 WrittenIsRead = (m : Message) → IsMessage m → Splits (message_text m) (m ∷ []) []
 
--- a batch of version 1 is read as the batch that its text of version 2 is read as
+-- a batch of version 1 is read as the batch that its text of version 2 gives
 abbrev pub OldBatchIsRead : Type 0
 OldBatchIsRead = (b : BatchData) → IsBatchIn One b → Splits (batch_text_in One b) (Batch b ∷ []) [] × Splits (batch_text b) (Batch b ∷ []) []
 
@@ -111,7 +111,7 @@ TextHasNoFault = (m : Written) (rest : List ℕ) (fault : WireFault) → IsWritt
 abbrev pub BeginsOrFaults : Type 0
 BeginsOrFaults = (bytes : List ℕ) → All (λ b. b < 256) bytes → 0 < length bytes → BeginsMessage bytes ⊎ HasFault bytes
 
--- the text of a message with bytes behind it is no message's text
+-- the text of a message with bytes after it is no message's text
 abbrev pub NoTextIsLonger : Type 0
 NoTextIsLonger = (a b : Written) (more : List ℕ) → IsWritten a → IsWritten b → written_text a ++ more ≡ written_text b → more ≡ []
 
@@ -123,10 +123,10 @@ ParsesOneWay = (bytes : List ℕ) (messages others : List Message) (rest other :
 abbrev pub EachParses : Type 0
 EachParses = (bytes : List ℕ) → All (λ b. b < 256) bytes → (messages : List Message) × (rest : List ℕ) × Parses bytes messages rest
 
--- messages and then no bytes, or bytes that have a fault, are a parse
+-- messages up to the end of the bytes, or up to bytes that have a fault, are a parse
 abbrev pub ParseEnds : Type 0
 ParseEnds = (bytes : List ℕ) (messages : List Message) (rest : List ℕ) → Splits bytes messages rest → (rest ≡ []) ⊎ HasFault rest → Parses bytes messages rest
 
--- however bytes are cut: a parse of the first, and one of its rest followed by the others, make the parse of all
+-- bytes may be cut anywhere: a parse of the first part, and one of its rest followed by the others, make the parse of all
 abbrev pub CutAnywhere : Type 0
 CutAnywhere = (first others : List ℕ) (messages more : List Message) (rest last : List ℕ) → Parses first messages rest → Parses (rest ++ others) more last → Parses (first ++ others) (messages ++ more) last

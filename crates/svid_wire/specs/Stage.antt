@@ -23,7 +23,7 @@ stage_text (Uses v moment count uses) = head_text v moment count ++ flat_map (us
 stage_text Moment = magic_of Two ++ summary_kind ∷ []
 stage_text (Digests moment digests) = summary_head moment ++ flat_map digest_text digests.items
 
--- such fields are those of a message of which more is to come
+-- such fields can begin a message, and more of it is to come
 abbrev pub IsStage : Stage → Type 0
 IsStage Magic = Unit {0}
 IsStage (Kind v) = Unit {0}
@@ -32,7 +32,7 @@ IsStage (Uses v moment count uses) = IsBegun v moment count uses.items
 IsStage Moment = Unit {0}
 IsStage (Digests moment digests) = AreBegun moment digests.items
 
--- how many bytes the field has that comes next
+-- how many bytes the next field has
 abbrev pub field_len : Stage → ℕ
 field_len Magic = 4
 field_len (Kind v) = 1
@@ -52,6 +52,6 @@ abbrev pub IsNoUse : Version → List ℕ → Type 0
 IsNoUse One field = ⊥
 IsNoUse Two field = (front : List ℕ) × (kind : ℕ) × (field ≡ front ++ kind ∷ []) × (kind ≢ 0) × (kind ≢ 1)
 
--- what a judge says of these bytes, all of them in whole fields: how far they reach, or that the last field is bad
+-- the result of judging these bytes, all of them in whole fields: how far they reach, or that the last field is bad
 abbrev pub Judges : List ℕ → Result Progress WireFault → Type 0
 Judges bytes r = MatchResult r (Reaches bytes) (IsFieldRefusal bytes)

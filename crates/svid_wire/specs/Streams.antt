@@ -1,5 +1,4 @@
--- What a call did to a source or to a sink, and words for it. Where a stream tells nothing of its bytes, the words say
--- nothing of them either.
+-- What a call did to a source or to a sink. Where a stream does not give its bytes, these definitions say nothing of them either.
 use Rattle.std.specs.Prelude.{◌≡◌, ℕ, ◌<◌, ◌≤◌, List, length, take, Option}
 use Rattle.std.specs.Io.KnownBytes.{Appends, Consumes, IsAtEnd}
 use Rattle.svid_wire.specs.Faults.{raised}
@@ -13,7 +12,7 @@ pub record Drawn : Type 0 where
   pub stops_before : ℕ
   pub stops_after : ℕ
 
--- that of a source, by its own words `left` and `stops`
+-- the same for a source, by its own definitions `left` and `stops`
 abbrev pub drawn : {S : Type 0} → (S → Option (List ℕ)) → (S → ℕ) → S → S → Drawn
 drawn left stops old new = record { left_before = left old; left_after = left new; stops_before = stops old; stops_after = stops new }
 
@@ -21,7 +20,7 @@ drawn left stops old new = record { left_before = left old; left_after = left ne
 abbrev pub Gave : Drawn → List ℕ → Type 0
 Gave source bytes = Consumes source.left_before source.left_after bytes
 
--- the source was read to its end without a stop, and these were its bytes, of which there are at most so many
+-- the source was read to its end without a stop, and these were its bytes, at most so many
 pub record IsRead (source : Drawn) (limit : ℕ) (bytes : List ℕ) : Type 0 where
   pub given : Gave source bytes
   pub ended : IsAtEnd source.left_after
@@ -64,7 +63,7 @@ pub record Taken : Type 0 where
   pub stops_before : ℕ
   pub stops_after : ℕ
 
--- that of a sink, by its own words `told` and `stops`
+-- the same for a sink, by its own definitions `told` and `stops`
 abbrev pub taken : {K : Type 0} → (K → Option (List ℕ)) → (K → ℕ) → K → K → Taken
 taken told stops old new = record { told_before = told old; told_after = told new; stops_before = stops old; stops_after = stops new }
 
@@ -73,13 +72,13 @@ pub record TookAll (sink : Taken) (text : List ℕ) : Type 0 where
   pub gained : Appends sink.told_before sink.told_after text
   pub unstopped : sink.stops_after ≡ sink.stops_before
 
--- the sink stopped when it had taken so many bytes of the text, its first, and not all
+-- the sink stopped after it took exactly so many bytes of the text, from the start, and not all
 pub record StoppedAfter (sink : Taken) (text : List ℕ) (count : ℕ) : Type 0 where
   pub short : count < length text
   pub gained : Appends sink.told_before sink.told_after (take count text)
   pub stopped : sink.stops_after ≡ raised sink.stops_before
 
--- the sink stopped when it had taken a part of the text: its first bytes, and not all
+-- the sink stopped after it took a part of the text: its first bytes, and not all
 pub record TookPart (sink : Taken) (text : List ℕ) : Type 0 where
   pub count : ℕ
   pub part : StoppedAfter sink text count

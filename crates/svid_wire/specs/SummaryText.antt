@@ -6,20 +6,20 @@ use Rattle.svid_replay.specs.Summary.{SummaryData}
 use Rattle.svid_wire.specs.Versions.{magic_of}
 use Rattle.svid_wire.specs.declared.version.Version.TheVariants.{Two}
 
--- the byte of a summary that follows what version 2 begins with; a summary of version 1 tells digests of other texts,
--- and is none
+-- the byte of a summary that follows the magic of version 2; a summary of version 1 has digests of other texts, and does not
+-- count as one
 abbrev pub summary_kind : ℕ
 summary_kind = 2
 
--- the moment, with its greatest byte first
+-- the moment, with its most significant byte first
 unfoldable pub moment_text : ℕ → List ℕ
 moment_text moment = to_be_bytes w64 moment
 
--- what stands before the first digest
+-- the bytes before the first digest
 abbrev pub summary_head : ℕ → List ℕ
 summary_head moment = magic_of Two ++ summary_kind ∷ [] ++ moment_text moment
 
--- a digest stands as its bytes
+-- a digest is written as its bytes
 abbrev pub digest_text : List ℕ → List ℕ
 digest_text digest = digest
 

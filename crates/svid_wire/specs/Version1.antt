@@ -1,4 +1,4 @@
--- Version 1 of messages, which knew no withdrawals: its batches are still read, and nothing is written in it.
+-- Version 1 of messages, which has no withdrawals: its batches are read, and nothing is written in it.
 use Rattle.std.specs.Prelude.{◌≡◌, ℕ, false, List, [], ◌∷◌}
 use Rattle.svid_replay.specs.declared.token_use.Use.{Use}
 use Rattle.svid_replay.specs.Use.{front_text}
@@ -7,11 +7,11 @@ use Rattle.svid_replay.specs.Use.{front_text}
 abbrev pub old_magic : List ℕ
 old_magic = 74 ∷ 83 ∷ 82 ∷ 1 ∷ []
 
--- how many uses its batches have at most
+-- the most uses that its batches may have
 abbrev pub old_most : ℕ
 old_most = 4096
 
--- it tells of no withdrawal
+-- it has no withdrawals
 abbrev pub OldTells : Use → Type 0
 OldTells u = u.withdrawn ≡ false
 

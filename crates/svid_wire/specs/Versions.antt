@@ -1,4 +1,4 @@
--- What differs in the batches of the two versions.
+-- How the batches of the two versions differ.
 use Rattle.std.specs.Prelude.{ℕ, List, [], ◌∷◌}
 use Rattle.svid_replay.specs.declared.token_use.Use.{Use}
 use Rattle.svid_replay.specs.Use.{text_of}
@@ -11,7 +11,7 @@ abbrev pub magic_of : Version → List ℕ
 magic_of One = old_magic
 magic_of Two = 74 ∷ 83 ∷ 82 ∷ 2 ∷ []
 
--- how many uses a batch has at most
+-- the most uses that a batch may have
 abbrev pub most_of : Version → ℕ
 most_of One = old_most
 most_of Two = 65536

@@ -1,4 +1,4 @@
--- What is wrong with bytes that begin with no message.
+-- What is wrong with bytes that do not begin with a message.
 use Rattle.std.specs.Prelude.{◌≡◌, ◌≢◌, ℕ, ◌+◌, ◌*◌, ◌^◌, ◌<◌, ◌≤◌, ◌⊎◌, List, ◌∷◌, ◌++◌, length, take, None, Some}
 use Rattle.std.specs.List.{AllByRecursion, flat_map}
 use Rattle.svid_replay.specs.declared.token_use.Use.{Use}
@@ -30,7 +30,7 @@ pub record AreBegun (moment : ℕ) (digests : List (List ℕ)) : Type 0 where
   pub more : length digests < 256
   pub fields : AllByRecursion (IsBytes 32) digests
 
--- something is wrong with the use behind the good ones
+-- something is wrong with the use after the good ones
 pub record IsUseFault (bytes : List ℕ) (offset : ℕ) (found : Flaw) : Type 0 where
   pub version : Version
   pub moment : ℕ
@@ -45,7 +45,7 @@ pub record IsUseFault (bytes : List ℕ) (offset : ℕ) (found : Flaw) : Type 0 
   pub flawed : flaw moment (last_of None uses) bad ≡ Some found
   pub at : offset ≡ 17 + use_len_of version * length uses
 
--- in version 2 the last byte of a use behind the good ones is neither 0 nor 1
+-- in version 2 the last byte of the use after the good ones is neither 0 nor 1
 pub record IsUseKindFault (bytes : List ℕ) (offset : ℕ) : Type 0 where
   pub moment : ℕ
   pub count : ℕ
@@ -60,7 +60,7 @@ pub record IsUseKindFault (bytes : List ℕ) (offset : ℕ) : Type 0 where
   pub no_withdrawal : kind ≢ 1
   pub at : offset ≡ 17 + 65 * length uses
 
--- a summary can stand in this version
+-- this version has summaries
 abbrev pub HasSummaries : Version → Type 0
 HasSummaries One = ⊥
 HasSummaries Two = Unit {0}
@@ -74,7 +74,7 @@ pub record IsKindFault (bytes : List ℕ) : Type 0 where
   pub no_batch : kind ≢ batch_kind
   pub no_summary : HasSummaries version → kind ≢ summary_kind
 
--- the batch tells of too many uses
+-- the batch announces too many uses
 pub record IsCountFault (bytes : List ℕ) : Type 0 where
   pub version : Version
   pub moment : ℕ
@@ -94,9 +94,9 @@ pub data IsUnfinished (bytes : List ℕ) : Type 0 where
   in_moment : (part : List ℕ) → bytes ≡ magic_of Two ++ summary_kind ∷ part → length part < 8 → IsUnfinished bytes
   in_digests : (moment : ℕ) (digests : List (List ℕ)) (part : List ℕ) → AreBegun moment digests → bytes ≡ summary_head moment ++ (flat_map digest_text digests ++ part) → length part < 32 → IsUnfinished bytes
 
--- The first field that lies whole in the bytes and is bad begins at this offset, and is bad for this reason; or no
--- such field is bad, and the bytes, of which there are so many, end before a message does. Want of memory and an
--- earlier refusal are no faults of bytes.
+-- The first bad field that lies whole in the bytes begins at this offset, and is bad for this reason; or no such field is bad,
+-- the bytes end before a message does, and the offset is their number. Out of memory and an earlier refusal are no faults of
+-- bytes.
 abbrev pub IsFaultFor : Reason → List ℕ → ℕ → Type 0
 IsFaultFor reason.Magic bytes offset = (offset ≡ 0) × (4 ≤ length bytes) × ((v : Version) → take 4 bytes ≢ magic_of v)
 IsFaultFor reason.Kind bytes offset = (offset ≡ 4) × IsKindFault bytes
@@ -109,7 +109,7 @@ IsFaultFor reason.Truncated bytes offset = (offset ≡ length bytes) × (0 < len
 IsFaultFor reason.OutOfMemory bytes offset = ⊥
 IsFaultFor reason.Failed bytes offset = ⊥
 
--- such a offset and reason, together
+-- such an offset and reason, together
 abbrev pub IsFault : List ℕ → WireFault → Type 0
 IsFault bytes fault = IsFaultFor fault.reason bytes fault.offset
 
@@ -123,15 +123,15 @@ flaw_reason Expired = reason.UseExpired
 flaw_reason Future = reason.UseFuture
 flaw_reason Order = reason.UseOrder
 
--- want of memory
+-- out of memory
 abbrev pub no_memory : WireFault
 no_memory = record { offset = 0; reason = reason.OutOfMemory }
 
--- what a reader may refuse such bytes for, whatever follows them: a bad field, or want of memory
+-- the possible refusals of such bytes, whatever follows them: a bad field, or out of memory
 abbrev pub IsFieldRefusal : List ℕ → WireFault → Type 0
 IsFieldRefusal bytes fault = IsFieldFault bytes fault ⊎ (fault ≡ no_memory)
 
--- what a reader of such bytes may refuse them for, where none follow
+-- the possible refusals of such bytes, where none follow
 abbrev pub IsRefusal : List ℕ → WireFault → Type 0
 IsRefusal bytes fault = IsFault bytes fault ⊎ (fault ≡ no_memory)
 
@@ -139,6 +139,6 @@ IsRefusal bytes fault = IsFault bytes fault ⊎ (fault ≡ no_memory)
 abbrev pub FaultIsUnique : Type 0
 FaultIsUnique = (bytes : List ℕ) (x y : WireFault) → IsFault bytes x → IsFault bytes y → x ≡ y
 
--- a bad field stays the fault when bytes follow
+-- a bad field is still the fault when bytes follow
 abbrev pub FieldFaultStays : Type 0
 FieldFaultStays = (bytes more : List ℕ) (fault : WireFault) → IsFieldFault bytes fault → IsFieldFault (bytes ++ more) fault

@@ -5,7 +5,7 @@ use std::io::{Read, Write};
 
 /// A sink over a writer of std, and a source over a reader of std.
 ///
-/// Any error of theirs is `Stopped`, and so is a write that takes nothing of a piece.
+/// Any error of the inner one is `Stopped`, and so is a write that takes nothing of a piece.
 #[derive(Drop)]
 pub struct Counted<T> {
     inner: T,
@@ -15,7 +15,7 @@ pub struct Counted<T> {
 impl<T> Counted<T> {
     ghost use Rattle.svid_wire.specs.Counted.{counted_inner, counted_faults};
 
-    /// With no fault counted yet.
+    /// Starts with no fault counted.
     pub fn new(inner: T) -> Counted<T>
         ensures inner { counted_inner result ≡ inner }
         ensures faults { counted_faults result ≡ 0 }

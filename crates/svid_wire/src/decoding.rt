@@ -22,8 +22,8 @@ fn summary_of(moment: u64, digests: &[[u8; DIGEST_LEN]]) -> Summary
     Summary::make(moment, all)
 }
 
-// Appends a batch. (A function of its own, and so is the next: where room for a message lies on the stack,
-// it is cleared, 8 KiB, and of most fields no message comes.)
+// Appends a batch. (This and the next are functions of their own: where room for a message lies on the stack, its 8 KiB are
+// cleared, and most fields end no message.)
 #[inline(never)]
 fn append_batch(batch: Batch, out: &mut Vec<Message>) -> Result<(), WireFault>
     ensures ok { OnOk result (out.new.items ≡ out.old.items ++ Message.Batch batch ∷ []) }
@@ -46,7 +46,7 @@ fn append_summary(
     Ok(out.push(Message::Summary(summary_of(moment, digests)))?)
 }
 
-// Judges the field that `last` makes whole, and appends the message that it ends.
+// Judges the field that `last` completes, and appends the message that it ends.
 fn end_field(
     alloc: Global,
     state: Partial,
@@ -79,7 +79,7 @@ fn end_field(
     }
 }
 
-/// Goes on with a piece, and appends each message that it makes whole.
+/// Goes on with a piece, and appends each message that it completes.
 pub(crate) fn take_piece(
     alloc: Global,
     state: Partial,
@@ -105,10 +105,10 @@ pub(crate) fn take_piece(
 
 /// Reads bytes that are the texts of messages, one after the other, and appends the messages to `out`.
 ///
-/// Refused with the fault of the first text that is bad, its offset counted from that text's first
-/// byte: `Truncated` only where the bytes end within it, with the number of its bytes. The messages
-/// before it are appended; for want of memory, the first of them. `out` only grows. Each message takes
-/// about 8 KiB of it, a batch too, for a message has room for a summary.
+/// On an error, returns the fault of the first text that is bad, with an offset counted from that text's first byte: `Truncated`
+/// only where the bytes end within it, with the number of its bytes. The messages before it are appended; after `OutOfMemory`,
+/// those read so far. `out` only grows. Each message takes about 8 KiB of it, a batch too, since a message has room for a
+/// summary.
 pub fn read_all(alloc: Global, bytes: &[u8], out: &mut Vec<Message>) -> Result<(), WireFault>
     ensures ok { OnOk result (Appended bytes.now out.old.items out.new.items []) }
     ensures fault { IfErr result (StopsAt bytes.now out.old.items out.new.items) }

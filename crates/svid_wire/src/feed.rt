@@ -12,7 +12,7 @@ const FAILED: WireFault = WireFault {
     reason: Reason::Failed,
 };
 
-/// Reads the texts of messages, one after the other, that come in pieces of any lengths.
+/// Reads the texts of messages, one after the other, from pieces of any lengths.
 ///
 /// It holds the bytes of the message that is not whole yet, and nothing after a refusal.
 #[derive(Drop)]
@@ -35,7 +35,7 @@ impl Model for Feed {
 }
 
 impl Feed {
-    /// Before the first byte. Takes no memory.
+    /// A feed before the first byte. Takes no memory.
     pub fn new(alloc: Global) -> Feed
         ensures { result ≡ Some [] }
     {
@@ -45,13 +45,12 @@ impl Feed {
         }
     }
 
-    /// Takes the next piece, and appends to `out` each message that it makes whole.
+    /// Takes the next piece, and appends to `out` each message that it completes.
     ///
-    /// Refused with the first field that is bad, by the push that makes it whole, and the offset where it
-    /// begins, counted from the first byte of its message; or for want of memory. The messages before it
-    /// are appended. From then on nothing is held, and each push answers `Failed` at offset 0 and appends
-    /// nothing. `out` only grows. Each message takes about 8 KiB of it, a batch too, for a message has
-    /// room for a summary.
+    /// The push that completes the first bad field returns its fault, with the offset where the field begins, counted from the
+    /// first byte of its message; `OutOfMemory` where memory is refused. The messages before it are appended. From then on
+    /// nothing is held, and each push returns `Failed` at offset 0 and appends nothing. `out` only grows. Each message takes
+    /// about 8 KiB of it, a batch too, since a message has room for a summary.
     pub fn push(&mut self, piece: &[u8], out: &mut Vec<Message>) -> Result<(), WireFault>
         ensures ok { OnOk result (Pushed self.old self.new out.old.items out.new.items piece.now) }
         ensures fault { IfErr result (IsPushFault self.old out.old.items out.new.items piece.now) }
@@ -65,10 +64,10 @@ impl Feed {
         Ok(())
     }
 
-    /// Says that no more bytes come. Takes no memory.
+    /// Ends the feed: no more bytes come. Takes no memory.
     ///
-    /// Refused where a message is not whole, with `Truncated` and the number of its bytes that came; and
-    /// with `Failed` at offset 0 after a refusal.
+    /// `Truncated` where a message is not whole, with the number of its bytes that came; and `Failed` at offset 0 after a
+    /// refusal.
     pub fn finish(self) -> Result<(), WireFault>
         ensures { result ≡ end_of self }
     {
@@ -84,8 +83,7 @@ impl Feed {
         }
     }
 
-    /// How many bytes are held of the message that is not whole: at most 4,259,856, and none after a
-    /// refusal. Takes no memory.
+    /// How many bytes of the message that is not whole are held: at most 4,259,856, and none after a refusal. Takes no memory.
     pub fn held(&self) -> usize
         ensures value { result ≡ held_len self.now }
         ensures most { result ≤ 4259856 }

@@ -64,7 +64,7 @@ fn withdrawn_of(kind: u8) -> Option<bool>
     }
 }
 
-/// The use with this text, or none where the last byte is that of no kind.
+/// The use with this text, or none where the last byte is no kind.
 pub(crate) fn use_of(field: &[u8]) -> Option<Use>
     requires { length field.now ≡ 65 }
     ensures { MatchOption result (IsNoUse Version.Two field.now) (λ used. text_of used ≡ field.now) }
@@ -76,7 +76,7 @@ pub(crate) fn use_of(field: &[u8]) -> Option<Use>
     }
 }
 
-/// The moment and the number of uses that such bytes tell.
+/// The moment and the number of uses in these bytes.
 #[tactic(auto, using(std::proofs::lemmas::Grind::common_steps), unfolding(crate::specs::BatchText::moment_and_count_text))]
 pub(crate) fn moment_and_count_of(field: &[u8]) -> (u64, u32)
     requires { length field.now ≡ 12 }
@@ -86,7 +86,7 @@ pub(crate) fn moment_and_count_of(field: &[u8]) -> (u64, u32)
     (u64_of(moment), u32_of(count))
 }
 
-/// The moment that such bytes tell.
+/// The moment in these bytes.
 #[tactic(auto, unfolding(crate::specs::SummaryText::moment_text))]
 pub(crate) fn moment_of(field: &[u8]) -> u64
     requires { length field.now ≡ 8 }
@@ -95,7 +95,7 @@ pub(crate) fn moment_of(field: &[u8]) -> u64
     u64_of(field)
 }
 
-/// The digest that such bytes are.
+/// The digest with these bytes.
 pub(crate) fn digest_of(field: &[u8]) -> [u8; DIGEST_LEN]
     requires { length field.now ≡ 32 }
     ensures value { result ≡ field.now }

@@ -56,7 +56,7 @@ fn judge_kind(version: Version, field: &[u8]) -> Result<Progress, WireFault>
     }
 }
 
-// What good uses of a batch lead to: the batch, where there are as many as it tells of.
+// The progress after good uses of a batch: the batch itself, where there are as many as it announces.
 fn next(version: Version, moment: u64, count: u32, uses: Vec<Use>) -> Progress
     requires few { count ≤ most_of version }
     requires within { length uses.items ≤ count }
@@ -139,7 +139,7 @@ fn judge_moment(alloc: Global, field: &[u8]) -> Progress
     })
 }
 
-// What the digests of a summary that came lead to: the summary, where they are all.
+// The progress after some digests of a summary: the summary itself, where all are there.
 fn next_digest(moment: u64, digests: Vec<[u8; DIGEST_LEN]>) -> Progress
     requires within { length digests.items ≤ 256 }
     requires fields { AllByRecursion (IsBytes 32) digests.items }
@@ -165,7 +165,7 @@ fn judge_digest(
     Ok(next_digest(moment, digests))
 }
 
-/// Judges the field that comes next.
+/// Judges the next field.
 pub(crate) fn judge(alloc: Global, stage: Stage, field: &[u8]) -> Result<Progress, WireFault>
     requires good { IsStage stage }
     requires whole { length field.now ≡ field_len stage }

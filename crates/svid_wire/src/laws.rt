@@ -1,5 +1,5 @@
-//! Laws of the definitions that this crate's contracts cite. Each is the contract of a function with
-//! nothing in it, so that the check proves it like any other promise.
+//! Laws of the definitions that this crate's contracts cite. Each is the contract of a function with an empty body, so that the
+//! check proves it like any other promise.
 
 ghost use Rattle.svid_replay.specs.Parts.{PartsGiveRecord};
 ghost use Rattle.svid_wire.specs.Feed.{PushesJoin};
@@ -12,12 +12,12 @@ pub fn begins_one_message()
     ensures { BeginsOneMessage }
 {}
 
-/// The text that is written of a message is read as that message.
+/// Reading the text that is written of a message gives that message.
 pub fn written_is_read()
     ensures { WrittenIsRead }
 {}
 
-/// A batch of version 1 is read as the batch that its text of version 2 is read as.
+/// A batch of version 1 is read as the batch that its text of version 2 gives.
 pub fn old_batches_are_read()
     ensures { OldBatchIsRead }
 {}
@@ -47,14 +47,12 @@ pub fn no_text_is_longer()
     ensures { NoTextIsLonger }
 {}
 
-/// Bytes are in at most one way the texts of some messages, one after the other, and a rest that
-/// begins with no message.
+/// Bytes parse in at most one way: as the texts of some messages, one after the other, and a rest that begins with no message.
 pub fn parses_one_way()
     ensures { ParsesOneWay }
 {}
 
-/// All bytes are the texts of some messages, one after the other, and a rest that begins with no
-/// message.
+/// All bytes parse: as the texts of some messages, one after the other, and a rest that begins with no message.
 pub fn each_parses()
     ensures { EachParses }
 {}
@@ -65,13 +63,13 @@ pub fn parse_ends()
     ensures { ParseEnds }
 {}
 
-/// However bytes are cut, there is one parse: that of the first bytes, and then that of its rest
-/// followed by the other bytes, make the parse of all, with the same rest.
+/// Bytes may be cut anywhere: the parse of the first part, and then that of its rest followed by the other bytes, make the parse
+/// of all, with the same rest.
 pub fn cut_anywhere()
     ensures { CutAnywhere }
 {}
 
-/// Two pushes that succeed do to a feed what one of both pieces together does.
+/// Two pushes that succeed do to a feed what one push of both pieces together does.
 pub fn pushes_join()
     ensures { PushesJoin }
 {}

@@ -1,4 +1,4 @@
-//! Where the fields of a message's text stand, and how long they are.
+//! The layout of a message's text: the offsets and lengths of its fields.
 
 /// What every message that is written begins with: `JSR`, and 2 for the version.
 pub(crate) const MAGIC: [u8; 4] = [b'J', b'S', b'R', 2];
@@ -21,7 +21,7 @@ pub(crate) const MOMENT_AND_COUNT_LEN: usize = 12;
 /// How many bytes a use has in version 2.
 pub(crate) const USE_LEN: usize = 65;
 
-/// How many bytes stand before the first use.
+/// How many bytes come before the first use.
 pub(crate) const HEAD_LEN: usize = 17;
 
 /// How many bytes the moment of a summary has.
@@ -33,14 +33,14 @@ pub(crate) const DIGEST_LEN: usize = 32;
 /// How many digests a summary has.
 pub(crate) const DIGESTS: usize = 256;
 
-/// How many bytes stand before the first digest.
+/// How many bytes come before the first digest.
 pub(crate) const SUMMARY_HEAD_LEN: usize = 13;
 
-/// Where the kind stands.
+/// The offset of the kind.
 pub(crate) const KIND_OFFSET: usize = 4;
 
-/// Where the moment stands.
+/// The offset of the moment.
 pub(crate) const MOMENT_OFFSET: usize = 5;
 
-/// Where the number of uses stands.
+/// The offset of the number of uses.
 pub(crate) const COUNT_OFFSET: usize = 13;

@@ -1,17 +1,16 @@
 //! Messages between validators: what their bytes mean, and how they are read and written.
 //!
-//! A [`Source`] gives bytes and a [`Sink`] takes them, piece by piece, and each counts its faults.
-//! [`Counted`] makes them of the readers and writers of `std`, [`MemSource`] and [`MemSink`] keep
-//! their bytes in memory. [`read_up_to`] reads a source to its end, [`put_all`] puts a whole piece.
+//! A [`Source`] gives bytes and a [`Sink`] takes them, piece by piece, and each counts its faults. [`Counted`] makes them from
+//! the readers and writers of `std`, [`MemSource`] and [`MemSink`] keep their bytes in memory. [`read_up_to`] reads a source to
+//! its end, [`put_all`] puts a whole piece.
 //!
-//! A [`Message`] is a batch or a summary. [`write_batch`] and [`write_summary`] put the text of one. A
-//! [`Feed`] reads messages whose texts come in pieces, one after the other, or finds the first that is
-//! bad, with its fault and its offset; [`read_all`] does so where all bytes are there. The grammar is a
-//! definition of its own, in `specs/BatchText.antt`, `specs/SummaryText.antt`, `specs/Messages.antt`
-//! and `specs/WireFault.antt`; [`laws`] says that it leaves no doubt: bytes are
-//! in exactly one way the texts of some messages and a rest that begins with none, and such a rest,
-//! unless it is empty, has one fault. Messages are written in version 2; batches of version 1, which knew
-//! no withdrawals, are read as well (`specs/Version1.antt`).
+//! A [`Message`] is a batch or a summary. [`write_batch`] and [`write_summary`] put the text of one. A [`Feed`] reads messages
+//! whose texts come in pieces, one after the other, or finds the first that is bad, with its fault and its offset; [`read_all`]
+//! does so where all bytes are there. The grammar is a definition of its own, in `specs/BatchText.antt`,
+//! `specs/SummaryText.antt`, `specs/Messages.antt` and `specs/WireFault.antt`. [`laws`] says that it is unambiguous: all bytes
+//! are in exactly one way the texts of some messages and a rest that begins with none, and such a rest, unless it is empty, has
+//! one fault. Messages are written in version 2; batches of version 1, which has no withdrawals, are read as well
+//! (`specs/Version1.antt`).
 //!
 //! ```rust
 //! let bytes = b"JSR\x02\x01\x00\x00\x00\x00\x00\x00\x00\x64\x00\x00\x00\x00";

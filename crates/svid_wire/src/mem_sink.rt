@@ -28,9 +28,9 @@ impl Model for MemSink {
 }
 
 impl MemSink {
-    /// Takes at most `step` bytes a call, and no byte yet.
+    /// A sink that takes at most `step` bytes a call, and has no byte yet.
     ///
-    /// Where `fail_at` is given, the call of `put` with that number, counted from 1, answers `Stopped`.
+    /// Where `fail_at` is given, the call of `put` with that number, counted from 1, returns `Stopped`.
     pub fn new(alloc: Global, step: usize, fail_at: Option<u64>) -> MemSink
         requires { 0 < step }
         ensures { result ≡ record { bytes = []; step = step; calls_left = fail_at; stops = 0 } }
@@ -43,7 +43,7 @@ impl MemSink {
         }
     }
 
-    /// What it took so far.
+    /// The bytes that it took so far.
     pub fn bytes(&self) -> &[u8]
         ensures { result.now ≡ self.now.bytes }
     {
@@ -56,7 +56,7 @@ impl Sink for MemSink {
 
     ghost stops = { λ s. s.stops };
 
-    /// Takes the lesser of the step and the piece. `Stopped` also where it finds no memory for them.
+    /// Takes `step` bytes, or the piece where that is shorter. `Stopped` also where memory for them is refused.
     fn put(&mut self, piece: &[u8]) -> Result<usize, Stopped>
         ensures count { IfOk result (λ k. (k ≤ length piece.now) × (0 < length piece.now → 0 < k)) }
         ensures bytes { WriteAppends (Some self.old.bytes) (Some self.new.bytes) result piece.now }

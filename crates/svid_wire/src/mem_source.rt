@@ -28,9 +28,9 @@ impl Model for MemSource {
 }
 
 impl MemSource {
-    /// Gives `bytes`, at most `step` of them a call.
+    /// A source that gives `bytes`, at most `step` of them a call.
     ///
-    /// Where `fail_at` is given, the call of `get` with that number, counted from 1, answers `Stopped`, and no other.
+    /// Where `fail_at` is given, the call of `get` with that number, counted from 1, returns `Stopped`, and no other.
     pub fn new(bytes: Vec<u8>, step: usize, fail_at: Option<u64>) -> MemSource
         requires { 0 < step }
         ensures { result ≡ record { bytes = bytes.items; step = step; calls_left = fail_at; stops = 0 } }

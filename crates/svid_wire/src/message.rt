@@ -1,6 +1,6 @@
 use svid_replay::{Batch, Summary};
 
-/// What one validator tells another.
+/// A message from one validator to another.
 #[derive(Debug, Drop)]
 pub enum Message {
     /// A moment, and uses of tokens that are live at it.

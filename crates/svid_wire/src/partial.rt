@@ -13,7 +13,7 @@ pub(crate) struct Partial {
     pub(crate) filled: usize,
 }
 
-/// Puts bytes behind the first `filled` of a field.
+/// Puts bytes after the first `filled` of a field.
 pub(crate) fn put_behind(part: &mut [u8; USE_LEN], filled: usize, more: &[u8])
     requires { filled + length more.now ≤ 65 }
     ensures { take (filled + length more.now) part.new ≡ take filled part.old ++ more.now }
@@ -22,7 +22,7 @@ pub(crate) fn put_behind(part: &mut [u8; USE_LEN], filled: usize, more: &[u8])
 }
 
 impl Partial {
-    /// What comes behind good fields.
+    /// The state after good fields.
     pub(crate) fn behind(stage: Stage) -> Partial
         requires { IsStage stage }
         ensures partial { IsPartial result }
@@ -35,7 +35,7 @@ impl Partial {
         }
     }
 
-    /// Before the first byte of a message.
+    /// The state before the first byte of a message.
     pub(crate) fn start() -> Partial
         ensures partial { IsPartial result }
         ensures held { held_of result ≡ [] }
@@ -52,7 +52,7 @@ impl Partial {
         self.stage.field_len() - self.filled
     }
 
-    /// With more bytes of the next field, which don't make it whole.
+    /// The state with more bytes of the next field, which don't complete it.
     pub(crate) fn with(self, more: &[u8]) -> Partial
         requires partial { IsPartial self }
         requires short { length more.now + self.filled < field_len self.stage }

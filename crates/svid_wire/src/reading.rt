@@ -4,14 +4,14 @@ ghost use Rattle.svid_wire.specs.Streams.{IsRead, IsReadFault, drawn};
 use crate::{ReadFault, Source, Stopped};
 use std::alloc::Global;
 
-// How many bytes are asked of a source in one call.
+// How many bytes a call asks of a source.
 const ROOM: usize = 65536;
 
 /// All bytes of a source to its end, where they are at most `limit`.
 ///
-/// Refused where a call of the source stopped (`Stopped`), where more than `limit` bytes came
-/// (`TooMuch`), or for want of memory for bytes that came. What came is dropped then, and the source
-/// stands behind it. It keeps at most `limit` bytes and one buffer of 64 KiB.
+/// Errors: `Stopped` where a call of the source stopped, `TooMuch` where more than `limit` bytes came, `OutOfMemory` where memory
+/// was refused for bytes that came. Then it drops these bytes, and the source has given them. It keeps at most `limit` bytes and
+/// one buffer of 64 KiB.
 pub fn read_up_to<S: Source>(
     alloc: Global,
     source: &mut S,

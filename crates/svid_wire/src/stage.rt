@@ -6,7 +6,7 @@ use crate::layout::{
 use crate::version::Version;
 use svid_replay::{Batch, Use};
 
-/// The field of a message that comes next, with what the fields before it told.
+/// The next field of a message, with the content of the fields before it.
 #[derive(Drop)]
 pub(crate) enum Stage {
     Magic,
@@ -60,8 +60,7 @@ impl Stage {
     }
 }
 
-/// What a good field leads to. A whole summary is told by its digests, so that no 8 KiB are moved
-/// for each field.
+/// The progress after a good field. A whole summary is given by its digests, so that no 8 KiB are moved for each field.
 #[derive(Drop)]
 pub(crate) enum Progress {
     More(Stage),

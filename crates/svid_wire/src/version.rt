@@ -7,7 +7,7 @@ use crate::layout::{MAGIC, USE_LEN};
 use crate::version_1::{OLD_MAGIC, OLD_MOST_USES, OLD_USE_LEN, old_use_of};
 use svid_replay::{MOST_USES, Use};
 
-/// A version of messages. All are written in version 2; of version 1, batches are read.
+/// A version of messages. All messages are written in version 2; batches are also read in version 1.
 #[derive(Clone, Copy)]
 pub(crate) enum Version {
     One,
@@ -30,7 +30,7 @@ impl Version {
         }
     }
 
-    /// How many uses a batch has at most.
+    /// The most uses that a batch may have.
     pub(crate) fn most_uses(self) -> usize
         ensures { result ≡ most_of self }
     {
@@ -50,7 +50,7 @@ impl Version {
         }
     }
 
-    /// The use with these bytes, or none where the last byte is that of no kind.
+    /// The use with these bytes, or none where the last byte is no kind.
     pub(crate) fn use_of(self, field: &[u8]) -> Option<Use>
         requires { length field.now ≡ use_len_of self }
         ensures { MatchOption result (IsNoUse self field.now) (λ used. (use_text self used ≡ field.now) × CanTell self used) }

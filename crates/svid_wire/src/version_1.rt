@@ -1,5 +1,4 @@
-//! Version 1 of messages, which knew no withdrawals: its batches are still read, and nothing is written in
-//! it.
+//! Version 1 of messages, which has no withdrawals: its batches are read, and nothing is written in it.
 
 ghost use Rattle.std.specs.Prelude.{◌≡◌, length};
 ghost use Rattle.svid_wire.specs.Version1.{OldTells, old_use_text};
@@ -10,7 +9,7 @@ use svid_replay::Use;
 /// What its messages begin with.
 pub(crate) const OLD_MAGIC: [u8; 4] = [b'J', b'S', b'R', 1];
 
-/// How many uses its batches have at most.
+/// The most uses that its batches may have.
 pub(crate) const OLD_MOST_USES: usize = 4096;
 
 /// How many bytes a use has in it.

@@ -5,12 +5,12 @@ use crate::Reason;
 use std::alloc::{AllocError, AllocFailed};
 use thiserror::Error;
 
-/// Why bytes begin with no message.
+/// Why bytes do not begin with a message.
 #[derive(Clone, Copy, Debug, PartialEq, Eq, Error)]
 #[error("{reason:?} at offset {offset}")]
 pub struct WireFault {
-    /// Where the bad field begins, or where the bytes end too early, counted from the first byte of
-    /// the message; 0 for `OutOfMemory` and `Failed`.
+    /// Where the bad field begins, or where the bytes end too early, counted from the first byte of the message; 0 for
+    /// `OutOfMemory` and `Failed`.
     pub offset: usize,
     /// What is wrong there.
     pub reason: Reason,

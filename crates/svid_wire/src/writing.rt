@@ -11,7 +11,7 @@ use svid_replay::Batch;
 
 /// Puts the whole of `piece`, by as many calls of `put` as that takes.
 ///
-/// Refused with the number of bytes that the sink took: it took exactly the first of them.
+/// On an error, returns the number of bytes that the sink took: it took exactly the first of them.
 pub fn put_all<K: Sink>(sink: &mut K, piece: &[u8]) -> Result<(), WriteFault>
     ensures ok { OnOk result (TookAll (taken K.told K.stops sink.old sink.new) piece.now) }
     ensures err { IfErr result (λ e. StoppedAfter (taken K.told K.stops sink.old sink.new) piece.now e.written) }
@@ -26,8 +26,7 @@ pub fn put_all<K: Sink>(sink: &mut K, piece: &[u8]) -> Result<(), WriteFault>
     Ok(())
 }
 
-/// What stands before the uses of a batch of this moment (in seconds) that has so many of them: its first 17
-/// bytes. Takes no memory.
+/// The bytes before the uses of a batch of this moment (in seconds) with `count` uses: the first 17. Takes no memory.
 pub fn batch_head(moment: u64, count: u32) -> [u8; HEAD_LEN]
     ensures { result ≡ head_text Version.Two moment count }
 {
@@ -41,8 +40,7 @@ pub fn batch_head(moment: u64, count: u32) -> [u8; HEAD_LEN]
 
 /// Puts the text of a batch: its head as one piece, and then each use as a piece of its own.
 ///
-/// Refused with the number of bytes that the sink took: it took exactly the first of them. Takes no
-/// memory.
+/// On an error, returns the number of bytes that the sink took: it took exactly the first of them. Takes no memory.
 pub fn write_batch<K: Sink>(batch: &Batch, sink: &mut K) -> Result<(), WriteFault>
     ensures ok { OnOk result (TookAll (taken K.told K.stops sink.old sink.new) (batch_text batch.now)) }
     ensures err { IfErr result (λ e. StoppedAfter (taken K.told K.stops sink.old sink.new) (batch_text batch.now) e.written) }

@@ -9,7 +9,7 @@ use crate::layout::{
 use crate::{Sink, WriteFault, put_all};
 use svid_replay::Summary;
 
-// What stands before the first digest.
+// The bytes before the first digest.
 fn head_of(summary: &Summary) -> [u8; SUMMARY_HEAD_LEN]
     ensures value { result ≡ summary_head summary.now.moment }
     ensures summary { IsSummary summary.now }
@@ -23,8 +23,7 @@ fn head_of(summary: &Summary) -> [u8; SUMMARY_HEAD_LEN]
 
 /// Puts the text of a summary: its head as one piece, and then each digest as a piece of its own.
 ///
-/// Refused with the number of bytes that the sink took: it took exactly the first of them. Takes no
-/// memory.
+/// On an error, returns the number of bytes that the sink took: it took exactly the first of them. Takes no memory.
 pub fn write_summary<K: Sink>(summary: &Summary, sink: &mut K) -> Result<(), WriteFault>
     ensures ok { OnOk result (TookAll (taken K.told K.stops sink.old sink.new) (summary_text summary.now)) }
     ensures err { IfErr result (λ e. StoppedAfter (taken K.told K.stops sink.old sink.new) (summary_text summary.now) e.written) }

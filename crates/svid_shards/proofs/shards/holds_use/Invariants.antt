@@ -6,7 +6,7 @@ use Rattle.svid_replay.specs.Sets.{rising}
 use Rattle.svid_replay.specs.Use.{use_cmp}
 use Rattle.svid_shards.proofs.shards.holds_use.Given as goal
 
--- what is sought is among the uses that are left, if it is among all
+-- the use is among those that are left, if it is in the set
 abbrev pub invariant-loop-used : goal.invariant-loop-used
 invariant-loop-used g l =
     let us = rising (g.S.UseStore.content l.store) in

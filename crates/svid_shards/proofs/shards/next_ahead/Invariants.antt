@@ -6,7 +6,7 @@ use Rattle.svid_replay.specs.Walks.{exp_if_any}
 use Rattle.svid_shards.specs.Shards.{all_in, heads_of}
 use Rattle.svid_shards.proofs.shards.next_ahead.Given as goal
 
--- the room has what is in front of what is left, and it is known when the first of each shard expires
+-- the room has the uses before those that are left, and the expiry of the next use in each shard is known
 abbrev pub invariant-loop-used : goal.invariant-loop-used
 invariant-loop-used g l = let ss = map g.S.UseStore.content l.shards in record {
   known : l.ahead.known ≡ true;

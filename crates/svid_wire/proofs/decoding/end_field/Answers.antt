@@ -4,7 +4,7 @@ use Rattle.svid_wire.specs.declared.message.Message.TheVariants.{Summary}
 use Rattle.svid_wire.proofs.MessagesLemmas.{came_whole}
 use Rattle.svid_wire.proofs.decoding.end_field.Goals as goal
 
--- a field whose last bytes came is behind the good ones
+-- a field whose last bytes came follows the good ones
 behind : (good begun last field part : List ℕ) → field ≡ part → part ≡ begun ++ last → good ++ field ≡ (good ++ begun) ++ last
 behind good begun last field part is parts = ap (λ x. good ++ x) (is ∙ parts) ∙ sym (append_assoc good begun last)
 

@@ -4,7 +4,7 @@ use Rattle.svid_replay.specs.Batches.{is_after}
 use Rattle.svid_replay.specs.Sets.{rising}
 use Rattle.svid_replay.proofs.store.UseStore.next_uses.Given as goal
 
--- the room has what is in front of what is left
+-- the room has the uses before those that are left
 abbrev pub invariant-loop-used : goal.invariant-loop-used
 invariant-loop-used g l = let us = rising (g.Self.UseStore.content l.self) in record {
   few : length l.room ≤ 64;
