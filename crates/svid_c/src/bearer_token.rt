@@ -25,8 +25,8 @@ fn bearer_number(why: NoBearer) -> u32
     }
 }
 
-/// Finds the bearer token of a request with `fields` header fields `Authorization`, the first of which has the value `value` (RFC 9110,
-/// section 11.4; RFC 6750, section 2.1). Returns 0, and `out` says where in the value it stands.
+/// Finds the bearer token of a request. `fields` is how many header fields `Authorization` it has, and `value` is the value of the
+/// first (RFC 9110, section 11.4; RFC 6750, section 2.1). Returns 0, and `out` says where in the value it stands.
 ///
 /// Otherwise returns the first that holds: 81 if the request has no such field, 82 if it has more than one, 83 if the scheme is not
 /// `Bearer` (in any case), 84 if what follows is not one token, 101 if the token has more than 65,536 bytes. Allocates nothing.

@@ -17,7 +17,7 @@ use svid_check::Reading;
 use svid_keys::Candidates;
 use svid_token::Refusal;
 
-// Adds the length of what a signature covers, and the signature.
+// Adds the length of the signed bytes, and the signature.
 fn push_signing(rows: &mut Vec<u8>, reading: &Reading) -> Result<(), AllocError>
     ensures { OnOk result (rows.new.items ≡ rows.old.items ++ signing_of (said_in reading.now)) }
 {
