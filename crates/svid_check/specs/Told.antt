@@ -22,7 +22,7 @@ pub record Told : Type 0 where
 abbrev pub begun : State → Told
 begun a = record { greatest = a.moment; uses = a.uses }
 
--- the record of what was learned: the greatest moment, and the uses that are live at it
+-- the record for what was learned: the greatest moment, and the uses that are live at it
 abbrev pub record_of : Told → State
 record_of x = record { moment = x.greatest; uses = live x.uses x.greatest }
 

@@ -83,7 +83,7 @@ use_of s moment t = record { exp = t.exp; key = key_of t; validator_id = s.valid
 abbrev pub acceptance : Setting → ℕ → Said → Accepted
 acceptance s moment t = record { id = t.sub; used = use_of s moment t }
 
--- the verdict: the first refusal that holds, and else the acceptance of what the token says, which is then there
+-- the verdict: the first refusal that holds, and else the acceptance with all that the token says, which then is there
 unfoldable pub verdict : Setting → ℕ → Uses → List ℕ → Result (Option Accepted) Refusal
 verdict s moment uses token = judged (first_row (verdict_rows s moment uses token)) (option_map (acceptance s moment) (said_of token))
 

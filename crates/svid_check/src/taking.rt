@@ -12,7 +12,7 @@ use svid_replay::{Batch, UseStore};
 
 // What a validator learns from the clock and from others.
 impl<V: Verifier, S: UseStore> Validator<V, S> {
-    /// Raises the record to a moment, in seconds. No memory is taken.
+    /// Advances the record to a moment, in seconds. Allocates nothing.
     pub fn tick(&mut self, now: u64)
         ensures { self.new ≡ with_state self.old (raised_to self.old.state now) }
     {
@@ -23,8 +23,7 @@ impl<V: Verifier, S: UseStore> Validator<V, S> {
     ///
     /// The record is first advanced to `now`, whatever the answer is. If the batch's moment is past `now`
     /// plus `ahead` (at most 2^64-1), the answer is `TooFarAhead`, and nothing is joined. Else the batch is
-    /// joined. If out of memory, the batch's moment is joined, and those of its uses that come before the
-    /// first one without memory. A batch without a new live use needs no memory.
+    /// joined. If out of memory, the batch's moment is joined, and its uses before some new live one. A batch without a new live use needs no memory.
     pub fn take(&mut self, now: u64, batch: &Batch) -> Result<(), TakeFault>
         ensures taken { Takes (raised_to self.old.state now) (horizon now self.old.ahead) batch.now result self.new.state }
         ensures rest { self.new ≡ with_state self.old self.new.state }

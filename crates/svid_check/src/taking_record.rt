@@ -16,7 +16,7 @@ impl<V: Verifier, S: UseStore> Validator<V, S> {
     ///
     /// The record is first advanced to `now`, whatever the answer is. If the sent record's moment is past `now` plus
     /// `ahead` (at most 2^64-1), the answer is `TooFarAhead`, and nothing is joined. Else it is joined. If out of
-    /// memory, its moment is joined, and those of its uses that are less than the first one without memory. A record
+    /// memory, its moment is joined, and its uses that are less than some new live one. A record
     /// without a new live use needs no memory.
     pub fn take_record<T: UseStore>(&mut self, now: u64, sent: &Record<T>) -> Result<(), TakeFault>
         ensures taken { TakesRecord (raised_to self.old.state now) (horizon now self.old.ahead) sent.now result self.new.state }

@@ -1,4 +1,4 @@
--- What a validator learns by reading the log, in terms of the log and of what it had learned before.
+-- What a validator learns by reading the log, in terms of the log and of its earlier knowledge.
 use Rattle.std.specs.Prelude.{◌≡◌, ◌⊎◌, ℕ, ◌<◌, ◌≤◌, true, false, List, slice_get, Some, IsTrue}
 use Rattle.svid_replay.specs.declared.token_use.Use.{Use}
 use Rattle.svid_replay.specs.Buckets.{raised_to}

@@ -38,9 +38,8 @@ impl Model for Member {
 impl Member {
     /// A member without requests. No memory is taken.
     ///
-    /// `kept` says that there is a state folder. `life` is 16 random bytes, which each start takes anew. `ahead` is how many seconds the store's
-    /// time may be ahead of the own clock, and `lasts` how many seconds past the store's time a token may expire. Each request is answered within
-    /// `wait`.
+    /// `kept` says that there is a state folder. `life` is 16 random bytes, new at each start. `ahead` is how many seconds the store's time may be
+    /// ahead of this process's clock, and `lasts` how many seconds past the store's time a token may expire. Each request is answered within `wait`.
     pub fn new(
         alloc: Global,
         mode: Mode,
