@@ -129,7 +129,9 @@ pub fn equal_tellings_give_equal_records()
 {}
 
 /// A validator that took all parts of a record has learned all uses that the sender had learned by then, including expired ones. So it is
-/// along every chain of records taken whole. It accepts no token, at any moment, if it has learned a use of its signing input. A validator learns of what its own check accepts, so acceptances pass along every such chain.
+/// along every chain of records taken whole. It accepts no token, at any moment, if it has learned a use of its
+/// signing input. A validator learns each use that its own check accepts, so acceptances pass along every such
+/// chain.
 pub fn sends_tell_all()
     ensures whole { SendsTellAll }
     ensures chains { ChainsTell }

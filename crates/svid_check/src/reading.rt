@@ -63,7 +63,7 @@ impl Reading {
     }
 
     /// The keys that may have signed the token, in the order of the bundle's list; or why there are
-    /// none: `UnknownDomain`, and then `NoKey`. No memory is taken.
+    /// none: `UnknownDomain`, and then `NoKey`. Allocates nothing.
     pub fn candidates<'b>(&'b self, bundles: &'b Bundles) -> Result<Candidates<'b>, Refusal>
         ensures { seen candidates_left result ≡ keys_due bundles.now (said_in self.now) }
     {

@@ -51,7 +51,7 @@ impl<V: Verifier, S: UseStore> Model for Validator<V, S> {
 }
 
 impl<V: Verifier, S: UseStore> Validator<V, S> {
-    /// A validator that begins with a record. No memory is taken.
+    /// A validator that begins with a record. Allocates nothing.
     ///
     /// `own` are the audiences that it answers to, `validator_id` tells it from every other validator that
     /// shares its record, and `ahead` is how many seconds the moment of a message may lie ahead of its
@@ -83,7 +83,7 @@ impl<V: Verifier, S: UseStore> Validator<V, S> {
         }
     }
 
-    /// The record of used and withdrawn tokens. No memory is taken.
+    /// The record of used and withdrawn tokens. Allocates nothing.
     pub fn replay(&self) -> &Record<S>
         ensures value { result.now ≡ self.now.state }
         ensures is_record { IsRecord result.now }
