@@ -58,7 +58,7 @@ impl Pattern {
         self.text.as_str()
     }
 
-    /// Whether the pattern allows an ID. Takes no memory.
+    /// Whether the pattern allows an ID. Allocates nothing.
     ///
     /// What is below a path is so by whole segments: `/billing/*` allows `/billing/a` and
     /// `/billing/a/b`, and neither `/billing` nor `/billingx/a`.

@@ -102,7 +102,7 @@ module _ (key : List ℕ) (exp : ℕ) where
   abbrev test : Use → Bool
   test = is_token key exp
 
-  -- none is answered or on its way, or one is, of which the record knows
+  -- none is answered or on its way, or one is, and the record knows its use
   abbrev AtMostOne : Life → Type 0
   AtMostOne w = (sure test w.given w.requests ≤ 0) ⊎ ((sure test w.given w.requests ≤ 1) × IsKnown key exp w.held)
 

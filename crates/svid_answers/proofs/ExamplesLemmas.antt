@@ -22,7 +22,7 @@ use Rattle.svid_requests.specs.declared.judgment.Judgment.TheVariants.{Passes}
 have_owners : HaveOwners (group_of true 3 3 own)
 have_owners v w life other exp is = (ap (λ (o : List ℕ). get_or o 1 0) is, ap (λ (o : List ℕ). get_or o 2 0) is)
 
--- the use that is found is the one that is told
+-- the use that is found is the one that the request hears of
 finds_used : (t : Terms) (w : World) (v now index : ℕ) (u : Use) → Some used ≡ Some u → FindsUse t w v now index used → FindsUse t w v now index u
 finds_used t w v now index u is f = record {
   answer = f.answer;

@@ -51,7 +51,7 @@ weaker_on Q R (deed.Append n u) f h = tt
 weaker_on Q R (deed.Claim n u) f h = tt
 weaker_on Q R (deed.Answer n v next) f h = f v h
 
--- what holds of all that was given, and of what is given now
+-- what holds of everything that was given, and of the answer given now
 pub all_given_by : (Q : Given → Type 0) (v : ℕ) (owner : Option (List ℕ)) (d : Deed) (given : List Given)
     → ((n : ℕ) → OnDeed (λ verdict. Q (record { member = v; number = n; verdict = verdict; owner = owner })) d) → AllByRecursion Q given → AllByRecursion Q (given_by v owner d given)
 all_given_by Q v owner deed.Nothing given h all = all

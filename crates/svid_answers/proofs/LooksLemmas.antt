@@ -1,4 +1,4 @@
--- What a member is told of a store's answer is a look at it.
+-- What a member hears of a store's answer is a look at that answer.
 use Rattle.std.proofs.Common.{◌≡◌, inl, ℕ, ◌<◌, ◌≤◌, ◌^◌, ◌-◌, max, Bool, true, false, cond, List, [], ◌∷◌, refl, sym, ap, ◌∙◌, subst, arith, Option, Some, None, slice_get, Ok, Err, Result}
 use Rattle.std.specs.Prelude.{◌==◌}
 use Rattle.std.specs.List.{AllByRecursion}
@@ -109,7 +109,7 @@ module _ (t : Terms) (events : List Event) (told : List ℕ → ℕ) (v now inde
       (λ strict. (claim.owner strict, fresh h strict (subst (λ (k : List ℕ). has_use_of raised.uses k ≡ false) (sym key) said_is.unused))) in
       (both.0, key, ap (λ (e : claims.Entry). e.exp) both.1 ∙ sym (said_is.exp_is ∙ of.0), ap (λ (e : claims.Entry). e.owner) both.1)
 
--- what is told, by the outcome: a use that passes is found, and expires with the claim
+-- what the request hears, by the outcome: a use that passes is found, and expires with the claim
 abbrev pub IsLook : (t : Terms) (w : World) (v now index up n exp : ℕ) → MemberData → MemberData → Deed → Type 0
 IsLook t w v now index up n exp m m_new deed = (j : Judgment) × Hears up (Found n j) m deed m_new × ((u : Use) → passing j ≡ Some u → FindsUse t w.claims v now index u × (u.exp ≡ exp))
 

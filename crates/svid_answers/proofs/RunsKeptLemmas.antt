@@ -136,7 +136,7 @@ module _ (tells : Use → List ℕ → Bool) (t : Titles) where
   quietly a b c r x same does is fit given =
       by_member a b c r same does (subst (λ (y : alone.Now). AreFit Write y.member.requests) (sym is) fit) (λ u was. r.kept u (subst (λ (given : List Verdict). WasGiven given u) (ap (λ (y : alone.Now). y.given) is ∙ given) was))
 
-  -- what was answered 200 is read of what is left
+  -- every use that was answered 200 is read back from the files that are left
   is_read : (a : Now) (o : Outcome) (u : Use) → Reached a → WasGiven a.alone.given u → IsLeft a.folder.disk o → IsRead (tells u) t o
   is_read a o u r was left =
       acknowledged_is_read (tells u) t r.events (r.allowed u) (subst (Has (tells u)) (sym r.is) (r.kept u was)) o (subst (λ (w : World). IsLeft w.disk o) (sym r.is) left)

@@ -142,7 +142,7 @@ module _ (V : Type 0) (t : Terms) (told : List ℕ → ℕ) where
     owner = λ strict. c.owner strict ∙ ap (λ life. t.owner v life own.exp) (sym (r.lives v));
   }
 
-  -- what a member is told to know is no event
+  -- setting what a member knows is no event
   knowing : (events : List Event) (v : ℕ) (x : records.State) (m : MemberData) (knows : Readiness) → AreAllowed t events → Mirrors t v (history t events) x m → AreEvents t false events v None x (with_readiness m knows) deed.Nothing
   knowing events v x m knows allowed h = record {
     more = [];

@@ -20,15 +20,15 @@ use Rattle.svid_answers.specs.Group.{comes, granted, passing}
 use Rattle.svid_answers.specs.Promises.{accepts, is_token}
 use Rattle.svid_answers.specs.Records.{Knows}
 
--- its record, its open requests, and all answers of all of its lives, the last one first
+-- its record, its open requests, and all answers of all of its lives, last first
 pub record Life : Type 0 where
   pub held : records.State
   pub requests : State
   pub given : List Verdict
 
--- What may happen. Memory may be refused wherever something comes or is heard of.
--- - `Join`: its record is joined with another, as every call does that takes a moment, a message or a withdrawal.
--- - `Come`: a request comes.
+-- What may happen. At each arrival and each event that requests hear of, memory may be refused.
+-- - `Join`: its record is joined with another, as by each call that takes a moment, a message or a withdrawal.
+-- - `Come`: a request arrives.
 -- - `Judges`: its validator judges the token of request n at the time `now`, and accepts it with this use.
 -- - `Hear`: its requests hear of something else.
 -- - `Start`: it ends, and starts with the record that it reads, with a state folder or without.
@@ -79,8 +79,8 @@ abbrev pub WasGiven : List Verdict → Use → Type 0
 WasGiven [] u = ⊥
 WasGiven (v ∷ given) u = (v ≡ Accept u) ⊎ WasGiven given u
 
--- What the program and its disk see to. A token is accepted only as the verdict says: it is live, and the record has no use of its key. That a
--- token was accepted is told in no other way. At a start the record that is read knows each use with which a request was answered 200.
+-- Conditions on the program and its disk. A token is accepted only by the verdict: it is live, and the record has no use of its key. No other event
+-- says that a token was accepted. At a start, the record that is read knows each use with which a request was answered 200.
 abbrev pub IsAllowed : Life → Event → Type 0
 IsAllowed w (Join b) = Unit {0}
 IsAllowed w (Come up refused) = Unit {0}
@@ -100,7 +100,7 @@ answered key exp given = count_by (accepts (is_token key exp)) given
 abbrev pub TokensAreAnsweredOnceHere : Type 0
 TokensAreAnsweredOnceHere = (events : List Event) (key : List ℕ) (exp : ℕ) → AreAllowed events → answered key exp (history events).given ≤ 1
 
--- Where an acceptance needs a write, and the validator tells no other acceptance, a request is answered 200 as its use is on the disk, and at no other event.
+-- Where an acceptance needs a write, and only the validator accepts, a request is answered 200 when its use is on the disk, and at no other event.
 abbrev pub AnsweredIsWritten : Type 0
 AnsweredIsWritten = (events : List Event) (up n : ℕ) (refused : Bool) (e : requests.Event) (u : Use) (next : Option ℕ)
     → let s = at_moment (history events).requests up in

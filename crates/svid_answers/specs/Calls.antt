@@ -45,8 +45,8 @@ pub record Mirrors (t : Terms) (v : ℕ) (w : World) (x : records.State) (m : Me
   pub moment : x.moment ≡ (w.claims.members v).moment
   pub knows : t.strict ≡ true → AllByRecursion (KnowsOf x) (w.claims.members v).uses
 
--- Member v claims a token for a use, and is told a store's answer to a put of its key. The claim's owner tells the expiry. In a strict group it is of
--- the member's life.
+-- Member v claims a token for a use, and has a store's answer to a put of its key. The claim's owner determines the expiry. In a strict group the
+-- owner is of the member's current life.
 pub record IsClaimed (t : Terms) (told : List ℕ → ℕ) (v index : ℕ) (w : World) (m : MemberData) (own : Use) (caller : List ℕ) (a : Answer) : Type 0 where
   pub given : slice_get w.claims.answers index ≡ Some a
   pub key_is : a.key ≡ own.key
@@ -54,7 +54,8 @@ pub record IsClaimed (t : Terms) (told : List ℕ → ℕ) (v index : ℕ) (w : 
   pub fits : own.exp < 2 ^ 64
   pub owner : t.strict ≡ true → owner_for m own caller ≡ t.owner v (w.claims.members v).life own.exp
 
--- What a member's request is told of a store's answer is what a look at that answer may tell: that the token passes, only where the group accepts it by that.
+-- What a member reports to a request about a store's answer is what a look at that answer may report: that the token passes, only if the group
+-- accepts it by that answer.
 abbrev pub FoundIsALook : (V : Type 0) → Type 0
 FoundIsALook V = (t : Terms) (events : List Event) (told : List ℕ → ℕ) (v now index up n : ℕ) (a : Answer) (own : Use) (caller : List ℕ) (s : Setting) (said : Said) (h h_new : Held V) (m m_new : MemberData) (c : Claimed)
     → let w = history t events in
@@ -66,9 +67,9 @@ FoundIsALook V = (t : Terms) (events : List Event) (told : List ℕ → ℕ) (v 
 abbrev pub life_after : Bool → (v n life : ℕ) → ℕ
 life_after born v n life = if born && n == v then life + 1 else life
 
--- What a call did is done by allowed events of the group. They leave member v as it is then, and the others as they were. What the call's deed answers
--- was given by them, for a claim of this owner if for any. They put nothing into a store, and each store and its answers stay as they were. A member's
--- next life begins by a start, and by nothing else.
+-- Allowed events of the group do what a call did. They leave member v as the call leaves it, and the others as they were. They give the answer of the
+-- call's deed, for a claim of this owner if for any. They put nothing into a store, and each store and its answers stay as they were. Only a start
+-- begins a member's next life.
 pub record AreEvents (t : Terms) (born : Bool) (events : List Event) (v : ℕ) (claimed : Option (List ℕ)) (x : records.State) (m : MemberData) (deed : Deed) : Type 0 where
   pub more : List Event
   pub owner : Option (List ℕ)
@@ -82,35 +83,35 @@ pub record AreEvents (t : Terms) (born : Bool) (events : List Event) (v : ℕ) (
   pub others : (n : ℕ) (y : records.State) (d : MemberData) → n ≢ v → Mirrors t n (history t events) y d → Mirrors t n (history t (more ++ events)) y d
   pub given : (history t (more ++ events)).given ≡ given_by v owner deed (history t events).given
 
--- So it is of the answer of a store: what it answers 200 is for the claim's owner
+-- This holds for a store's answer: a 200 is for the claim's owner.
 abbrev pub FindsAreEvents : (V : Type 0) → Type 0
 FindsAreEvents V = (t : Terms) (events : List Event) (told : List ℕ → ℕ) (v now index up n : ℕ) (a : Answer) (own : Use) (caller : List ℕ) (s : Setting) (said : Said) (h h_new : Held V) (m m_new : MemberData) (c : Claimed)
     → let w = history t events in
     AreAllowed t events → Mirrors t v w h.state m → AllByRecursion (PutsTelling told) (in_claims events) → IsClaimed t told v index w m own caller a
     → awaited m up n said ≡ Some own → Finds s now up n own caller (found_by a) said h h_new m m_new c → AreEvents t false events v (Some (owner_for m own caller)) h_new.state m_new c.deed
 
--- of a judgment
+-- for a judgment
 abbrev pub JudgesAreEvents : Type 0
 JudgesAreEvents = (t : Terms) (events : List Event) (v now up n : ℕ) (answer : Result Accepted Refusal) (x : records.State) (m m_new : MemberData) (asked : Asked)
     → AreAllowed t events → Mirrors t v (history t events) x m → IsTold up n answer m asked m_new
     → AreEvents t false events v None (judged_by (adds_at_judgment m.mode) (raised_to x now) answer) m_new asked.deed
 
--- of all else that the requests hear
+-- for everything else that the requests hear of
 abbrev pub HearsAreEvents : Type 0
 HearsAreEvents = (t : Terms) (events : List Event) (v up : ℕ) (e : requests.Event) (x : records.State) (m m_new : MemberData) (deed : Deed)
     → AreAllowed t events → Mirrors t v (history t events) x m → granted e ≡ None → Hears up e m deed m_new → AreEvents t false events v None x m_new deed
 
--- of a request that comes
+-- for a request that arrives
 abbrev pub ComesAreEvents : Type 0
 ComesAreEvents = (t : Terms) (events : List Event) (v up : ℕ) (refused : Bool) (x : records.State) (m : MemberData)
     → AreAllowed t events → Mirrors t v (history t events) x m → AreEvents t false events v None x (with_requests m (comes refused (at_moment m.requests up))) Nothing
 
--- of what a record is joined with
+-- for joining the record with another
 abbrev pub JoinsAreEvents : Type 0
 JoinsAreEvents = (t : Terms) (events : List Event) (v : ℕ) (x b : records.State) (m : MemberData)
     → AreAllowed t events → Mirrors t v (history t events) x m → AreEvents t false events v None (records.join x b) m Nothing
 
--- and of a start with any record
+-- and for a start with any record
 abbrev pub BeginsAreEvents : Type 0
 BeginsAreEvents = (t : Terms) (events : List Event) (v wait : ℕ) (life : List ℕ) (knows : Readiness) (x : records.State)
     → AreAllowed t events → AreEvents t true events v None x (member_of (mode_of t) life (t.ahead v) t.lasts knows (begun Claim wait)) Nothing

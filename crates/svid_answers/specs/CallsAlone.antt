@@ -30,39 +30,40 @@ pub record IsLife (w : Life) (x : records.State) (m : MemberData) : Type 0 where
   pub held : w.held ≡ x
   pub requests : w.requests ≡ m.requests
 
--- What a call did is done by allowed events: they leave the member, and what its deed answers was given by them.
+-- Allowed events do what a call did: they leave the member as the call leaves it, and give the answer of its
+-- deed.
 pub record AreEvents (events : List Event) (x : records.State) (m : MemberData) (deed : Deed) : Type 0 where
   pub more : List Event
   pub allowed : AreAllowed (more ++ events)
   pub leaves : IsLife (history (more ++ events)) x m
   pub given : (history (more ++ events)).given ≡ given_by deed (history events).given
 
--- So it is of a judgment
+-- This holds for a judgment
 abbrev pub JudgesAreEvents : Type 0
 JudgesAreEvents = (events : List Event) (now up n : ℕ) (s : Setting) (said : Said) (answer : Result Accepted Refusal) (x : records.State) (m m_new : MemberData) (asked : Asked)
     → let raised = raised_to x now in
     AreAllowed events → IsLife (history events) x m → Answers Some answer (verdict_on s raised.moment raised.uses said) → IsTold up n answer m asked m_new
     → AreEvents events (judged_by (adds_at_judgment m.mode) raised answer) m_new asked.deed
 
--- of all else that the requests hear
+-- for everything else that the requests hear of
 abbrev pub HearsAreEvents : Type 0
 HearsAreEvents = (events : List Event) (up : ℕ) (e : requests.Event) (x : records.State) (m m_new : MemberData) (deed : Deed)
     → AreAllowed events → IsLife (history events) x m → approved e ≡ None → Hears up e m deed m_new → AreEvents events x m_new deed
 
--- of a request that comes
+-- for a request that arrives
 abbrev pub ComesAreEvents : Type 0
 ComesAreEvents = (events : List Event) (up : ℕ) (refused : Bool) (x : records.State) (m : MemberData)
     → AreAllowed events → IsLife (history events) x m → AreEvents events x (with_requests m (comes refused (at_moment m.requests up))) Nothing
 
--- of what a record is joined with
+-- for joining the record with another
 abbrev pub JoinsAreEvents : Type 0
 JoinsAreEvents = (events : List Event) (x b : records.State) (m : MemberData) → AreAllowed events → IsLife (history events) x m → AreEvents events (records.join x b) m Nothing
 
--- and of a start, if the record that it reads knows what was answered 200
+-- and for a start, if the record that it reads knows what was answered 200
 abbrev pub BeginsAreEvents : Type 0
 BeginsAreEvents = (events : List Event) (kept : Bool) (wait ahead lasts : ℕ) (life : List ℕ) (known : Readiness) (x : records.State)
     → AreAllowed events → ((u : Use) → WasGiven (history events).given u → Knows x u) → AreEvents events x (member_of Once life ahead lasts known (begun (needs_of Once kept) wait)) Nothing
 
--- None of its requests waits for a claim: so the answer of a store does nothing.
+-- None of its requests waits for a claim, so a store's answer does nothing.
 abbrev pub NoneIsClaimed : Type 0
 NoneIsClaimed = (events : List Event) (up n : ℕ) (said : Said) (x : records.State) (m : MemberData) → IsLife (history events) x m → awaited m up n said ≡ None

@@ -16,7 +16,8 @@ use Rattle.svid_answers.specs.Promises.{answered}
 abbrev pub used : Use
 used = record { exp = 8; key = one_key; validator_id = []; at = 1; withdrawn = false }
 
--- A request comes to member v, is judged, and its claim for this owner goes out: the last one first. Its owner is of the member's first life after its start.
+-- Member v gets a request, its token is judged, and its claim for this owner is sent; last first. The owner is of the member's first life after its
+-- start.
 abbrev pub claims_for : (v : ℕ) (owner : List ℕ) → List Event → List Event
 claims_for v owner events = Group (Put one_key owner 8 2) ∷ Hear v 0 false (Send 0) ∷ Hear v 0 false (Judged 0 (Passes used)) ∷ Come v 0 false ∷ Begin v 7 0 [] ∷ events
 

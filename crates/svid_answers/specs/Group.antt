@@ -13,22 +13,23 @@ use Rattle.svid_requests.specs.declared.event.Event as requests
 use Rattle.svid_requests.specs.declared.event.Event.TheVariants.{Judged, Wrote, Send, Found, Leave, Overdue}
 use Rattle.svid_requests.specs.Tables.{State, at_moment, begun, came, heard, heard_deed}
 
--- an answer to a request: by which member, to which of its requests, and what; and whose claim was found, where the member looked at an answer of a store
+-- an answer to a request: from which member, to which of its requests, the verdict, and the owner of the claim that was found if the member looked at
+-- a store's answer
 pub record Given : Type 0 where
   pub member : ℕ
   pub number : ℕ
   pub verdict : Verdict
   pub owner : Option (List ℕ)
 
--- a group: its members and stores, the open requests of each member, and all answers to requests, the last one first
+-- a group: its members and stores, the open requests of each member, and all answers to requests, last first
 pub record World : Type 0 where
   pub claims : claims.World
   pub requests : ℕ → State
   pub given : List Given
 
--- What may happen. Memory may be refused wherever something comes or is heard of.
+-- What may happen. At each arrival and each event that requests hear of, memory may be refused.
 -- - `Group`: anything in the members' records and in the stores.
--- - `Come`: a request comes to member v.
+-- - `Come`: member v gets a request.
 -- - `Hear`: its requests hear of something.
 -- - `Looks`: it looks at a store's answer, and its request n hears of that.
 -- - `Begin`: it begins its next life, with any record, and with no requests.
@@ -115,8 +116,8 @@ module _ (t : Terms) where
     pub key_is : answer.key ≡ u.key
     pub exp_is : answer.found.exp ≡ u.exp
 
-  -- What the program sees to. That a token is accepted without more is told by a look at a store's answer alone, and only where the member accepts by
-  -- that the token of this use.
+  -- Conditions on the program. Only a look at a store's answer accepts a token that needs nothing more, and only if the member accepts the token of
+  -- this use by that answer.
   abbrev pub IsAllowed : World → Event → Type 0
   IsAllowed w (Group e) = Unit {0}
   IsAllowed w (Come v up refused) = Unit {0}

@@ -1,4 +1,4 @@
--- What is promised of a group that answers requests.
+-- What we prove of a group that answers requests.
 use Rattle.std.specs.Prelude.{◌≡◌, ℕ, ◌≤◌, Bool, true, false, ◌==◌, ◌&&◌, List, slice_get, Option, Some, bytes_eq, count_by}
 use Rattle.std.specs.List.{AllByRecursion}
 use Rattle.svid_replay.specs.declared.token_use.Use.{Use}
@@ -22,17 +22,17 @@ accepts p _ = false
 abbrev pub answered : List ℕ → ℕ → List Given → ℕ
 answered key exp given = count_by (λ g. accepts (is_token key exp) g.verdict) given
 
--- In a strict group no token is answered 200 twice.
+-- A strict group answers no token 200 twice.
 abbrev pub TokensAreAnsweredOnce : Type 0
 TokensAreAnsweredOnce = (t : Terms) (events : List Event) (key : List ℕ) (exp : ℕ)
     → t.strict ≡ true → HasMargin t → HaveOwners t → AreAllowed t events → answered key exp (history t events).given ≤ 1
 
--- strict or not, all claims by which a token is answered 200 are of one owner
+-- strict or not, all claims by which one token is answered 200 have one owner
 abbrev pub TokensAreAnsweredToOneOwner : Type 0
 TokensAreAnsweredToOneOwner = (t : Terms) (events : List Event) (key : List ℕ) (exp : ℕ)
     → HasMargin t → AreAllowed t events → (owner : List ℕ) × AllByRecursion (λ g. accepts (is_token key exp) g.verdict ≡ true → g.owner ≡ Some owner) (history t events).given
 
--- one of the answers is 200 for a token, and comes of a claim of this owner
+-- one of the answers is 200 for a token, by a claim of this owner
 pub record IsAnsweredTo (given : List Given) (key : List ℕ) (exp : ℕ) (owner : List ℕ) : Type 0 where
   pub index : ℕ
   pub answer : Given
@@ -40,13 +40,13 @@ pub record IsAnsweredTo (given : List Given) (key : List ℕ) (exp : ℕ) (owner
   pub accepted : accepts (is_token key exp) answer.verdict ≡ true
   pub owner_is : answer.owner ≡ Some owner
 
--- so where no two callers have one owner, no token is answered 200 to two callers
+-- so if no two callers have one owner, no token is answered 200 to two callers
 abbrev pub TokensAreAnsweredToOneCaller : Type 0
 TokensAreAnsweredToOneCaller = (t : Terms) (events : List Event) (key : List ℕ) (exp : ℕ) (owner_of : List ℕ → ℕ → List ℕ) (a b : List ℕ)
     → let given = (history t events).given in
     HasMargin t → AreAllowed t events → (owner_of a exp ≡ owner_of b exp → a ≡ b) → IsAnsweredTo given key exp (owner_of a exp) → IsAnsweredTo given key exp (owner_of b exp) → a ≡ b
 
--- Earlier in a group's history, member v looked at a store's answer and accepted by it the token of a use. Since then something has happened.
+-- Earlier in a group's history, member v looked at a store's answer and accepted the token of a use by it. Something has happened since.
 pub record WasFound (t : Terms) (w : claims.World) (v : ℕ) (owner : Option (List ℕ)) (u : Use) : Type 0 where
   pub before : List claims.Event
   pub between : List claims.Event
@@ -62,6 +62,6 @@ pub record WasFound (t : Terms) (w : claims.World) (v : ℕ) (owner : Option (Li
 abbrev pub IsFounded : Terms → claims.World → Given → Type 0
 IsFounded t w g = (u : Use) → g.verdict ≡ Accepted u → WasFound t w g.member g.owner u
 
--- Each 200 comes of a claim that its member had found in a store, and accepted.
+-- Each 200 is for a claim that its member had found in a store, and accepted.
 abbrev pub AnsweredIsFound : Type 0
 AnsweredIsFound = (t : Terms) (events : List Event) → AreAllowed t events → let w = history t events in AllByRecursion (IsFounded t w.claims) w.given

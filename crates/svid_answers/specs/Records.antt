@@ -9,7 +9,7 @@ use Rattle.svid_member.specs.declared.readiness.Readiness.{Readiness}
 use Rattle.svid_member.specs.Members.{MemberData}
 use Rattle.svid_requests.specs.Tables.{State as Requests}
 
--- a record has a use, or that has expired
+-- a record has a use, or the use has expired
 abbrev pub Knows : State → Use → Type 0
 Knows x u = IsTrue (holds x.uses u) ⊎ (u.exp ≤ x.moment)
 

@@ -39,8 +39,8 @@ pub record Response : Type 0 where
   pub verdict : Verdict
   pub caller : Option (List ℕ)
 
--- The stores and all answers that they gave; of each member the number of its lives before this one, its record, and itself; and all answers to
--- requests, the last one first.
+-- The stores and all answers that they gave; for each member, the number of its lives before this one, its record, and the member itself; and all
+-- answers to requests, last first.
 pub record Now : Type 0 where
   pub stores : ℕ → Store
   pub answers : List Answer
@@ -51,7 +51,7 @@ pub record Now : Type 0 where
 
 -- What happens.
 -- - `InStore`: a put, a removal, or the end of an epoch.
--- - `Find`: request n of member v hears what a store answered to a put of its claim. `caller` presents the token.
+-- - `Find`: request n of member v hears a store's answer to a put of its claim. `caller` presents the token.
 -- - `Judge`, `Hear`, `Come`, `Join`, `Know`: as for one member alone, by member v.
 -- - `Begin`: member v ends, and starts with any record.
 pub data Call (V : Type 0) : Type 0 where
@@ -88,8 +88,8 @@ moved a v caller x m d = record {
   given = given_by caller d a.given;
 }
 
--- Member v claims a token for a use, and is told a store's answer to a put of its key. The claim's owner tells the expiry. In a strict group it is of
--- this life of the member.
+-- Member v claims a token for a use, and has a store's answer to a put of its key. The claim's owner determines the expiry. In a strict group the
+-- owner is of this life of the member.
 pub record Claims (t : Terms) (told : List ℕ → ℕ) (a : Now) (v index : ℕ) (own : Use) (caller : List ℕ) (answer : Answer) : Type 0 where
   pub given : slice_get a.answers index ≡ Some answer
   pub key_is : answer.key ≡ own.key
@@ -98,7 +98,7 @@ pub record Claims (t : Terms) (told : List ℕ → ℕ) (a : Now) (v index : ℕ
   pub owner : t.strict ≡ true → owner_for (a.members v) own caller ≡ t.owner v (a.lives v) own.exp
 
 module _ (V : Type 0) (t : Terms) (told : List ℕ → ℕ) where
-  -- What that does, as the contracts of the calls say it. A call that finds nothing to do does nothing. A store's answer is told by `Find` alone.
+  -- What a call does, by the contracts. A call that finds nothing to do does nothing. Only `Find` gives a member a store's answer.
   abbrev pub Does : Call V → Now → Now → Type 0
   Does (InStore e) a b =
       IsOfStores e × PutsTelling told e
@@ -123,7 +123,7 @@ module _ (V : Type 0) (t : Terms) (told : List ℕ → ℕ) where
     given = a.given;
   }
 
-  -- A group that nothing happened in, whose members judge no token yet. Each has a life of its own.
+  -- A group in which nothing has happened, and whose members judge no token yet. Each has a life of its own.
   abbrev pub nothing : (ℕ → List ℕ) → Readiness → Now
   nothing life knows = record {
     stores = λ n. new_store;
@@ -143,7 +143,7 @@ module _ (V : Type 0) (t : Terms) (told : List ℕ → ℕ) where
 abbrev pub verdicts : List Response → List Verdict
 verdicts given = map (λ r. r.verdict) given
 
--- Whatever is called and happens, in a strict group no token is answered 200 twice.
+-- Whatever the calls and events, a strict group answers no token 200 twice.
 abbrev pub RunsAnswerOnce : (V : Type 0) → Type 0
 RunsAnswerOnce V = (t : Terms) (told : List ℕ → ℕ) (calls : List (Call V)) (b : Now) (key : List ℕ) (exp : ℕ)
     → t.strict ≡ true → HasMargin t → HaveOwners t → Run V t told calls b → answered key exp (verdicts b.given) ≤ 1
@@ -153,7 +153,7 @@ abbrev pub IsAnsweredTo : List Response → List ℕ → ℕ → List ℕ → Ty
 IsAnsweredTo [] key exp caller = ⊥
 IsAnsweredTo (r ∷ given) key exp caller = ((accepts (is_token key exp) r.verdict ≡ true) × (r.caller ≡ Some caller)) ⊎ IsAnsweredTo given key exp caller
 
--- Where tokens are bound to callers, none is answered 200 to two callers, unless both have one owner.
+-- If tokens are bound to callers, none is answered 200 to two callers, unless both have one owner.
 abbrev pub RunsAnswerOneCaller : (V : Type 0) → Type 0
 RunsAnswerOneCaller V = (t : Terms) (told : List ℕ → ℕ) (calls : List (Call V)) (b : Now) (key : List ℕ) (exp : ℕ) (x y : List ℕ)
     → t.strict ≡ false → HasMargin t → (owner_of_caller x exp ≡ owner_of_caller y exp → x ≡ y) → Run V t told calls b
@@ -163,6 +163,6 @@ RunsAnswerOneCaller V = (t : Terms) (told : List ℕ → ℕ) (calls : List (Cal
 abbrev pub HasCaller : Response → Type 0
 HasCaller r = (u : Use) → r.verdict ≡ Accept u → (caller : List ℕ) × (r.caller ≡ Some caller)
 
--- So does each one: it comes of a `Find`, the only call that names a caller.
+-- Each 200 does: it follows a `Find`, the only call that names a caller.
 abbrev pub RunsAnswerCallers : (V : Type 0) → Type 0
 RunsAnswerCallers V = (t : Terms) (told : List ℕ → ℕ) (calls : List (Call V)) (b : Now) → Run V t told calls b → AllByRecursion HasCaller b.given

@@ -29,12 +29,12 @@ pub record Now : Type 0 where
   pub member : MemberData
   pub given : List Verdict
 
--- What is called.
+-- The calls.
 -- - `Judge`: the validator judges the token of request n at the time `now`, by this setting.
--- - `Hear`: the member hears of anything else, a refusal among it.
--- - `Come`: a request comes.
+-- - `Hear`: the member hears of anything else, for example a refusal.
+-- - `Come`: a request arrives.
 -- - `Join`: the record is joined with another, as by each call that takes a moment, a message or a withdrawal.
--- - `Know`: the member is told what it is to know.
+-- - `Know`: the member gets the facts that it is to know.
 -- - `Begin`: it ends, and starts with the record that it reads, with a state folder or without.
 pub data Call : Type 0 where
   Judge : (now up n : ℕ) (s : Setting) (said : Said) → Call
@@ -44,8 +44,8 @@ pub data Call : Type 0 where
   Know : (knows : Readiness) → Call
   Begin : (read : records.State) (kept : Bool) (wait ahead lasts : ℕ) (life : List ℕ) (knows : Readiness) → Call
 
--- What a call does, by its contract. One that finds nothing to do does nothing. That the validator accepted a token is told by `Judge` alone. A start reads
--- a record that knows each use with which a request was answered 200.
+-- What a call does, by its contract. A call that finds nothing to do does nothing. Only `Judge` says that the validator accepted a token. A start
+-- reads a record that knows each use with which a request was answered 200.
 abbrev pub Does : Call → Now → Now → Type 0
 Does (Judge now up n s said) a b =
     (b ≡ a) ⊎ ((answer : Result Accepted Refusal) × (asked : Asked) × Answers Some answer (verdict_on s (raised_to a.held now).moment (raised_to a.held now).uses said)
@@ -70,6 +70,6 @@ abbrev pub Run : List Call → Now → Type 0
 Run [] b = b ≡ nothing
 Run (c ∷ calls) b = (a : Now) × Run calls a × Does c a b
 
--- Whatever was called, no token was answered 200 twice.
+-- Whatever the calls, no token was answered 200 twice.
 abbrev pub RunsAnswerOnce : Type 0
 RunsAnswerOnce = (calls : List Call) (b : Now) (key : List ℕ) (exp : ℕ) → Run calls b → answered key exp b.given ≤ 1

@@ -36,19 +36,19 @@ pub data Call : Type 0 where
 abbrev pub IsWriting : State → ℕ → Use → Type 0
 IsWriting s n u = (r : Request) × (find n s.table.requests ≡ Some r) × (r.stage ≡ Writing u)
 
--- `tells` says of a use and a payload whether the payload tells the use, or a time by which it has expired.
+-- `tells` says whether a payload has a use, or a time by which the use has expired.
 module _ (tells : Use → List ℕ → Bool) (t : Titles) where
-  -- What a shell sees to in its calls: it says that a use is on the disk only where the folder acknowledged a payload that tells the use.
+  -- A condition on the shell: it reports that a use is on the disk only if the folder acknowledged a payload that has the use.
   abbrev pub IsReported : Now → alone.Call → Type 0
   IsReported a (Hear up e) = (n : ℕ) (u : Use) → e ≡ Wrote n true → IsWriting a.alone.member.requests n u → list_any (tells u) a.folder.acknowledged ≡ true
   IsReported a (Begin read kept wait ahead lasts life knows) = ⊥
   IsReported a _ = Unit {0}
 
-  -- the laws of a folder allow this event, of each use
+  -- the laws of a folder allow this event, for each use
   abbrev pub InFolder : World → Event → World → Type 0
   InFolder x e y = ((u : Use) → IsAllowed (tells u) t x e) × (y ≡ happens t x e)
 
-  -- What that does. A start takes the payloads that are read of the folder. Its record knows each use that one of them tells.
+  -- What a call does. A start takes the payloads that are read from the folder. Its record knows each use that one of them has.
   abbrev pub Does : Call → Now → Now → Type 0
   Does (Member c) a b = IsReported a c × alone.Does c a.alone b.alone × (b.folder ≡ a.folder)
   Does (Folder e) a b = InFolder a.folder e b.folder × (b.alone ≡ a.alone)
@@ -56,15 +56,15 @@ module _ (tells : Use → List ℕ → Bool) (t : Titles) where
       InFolder a.folder (Start oldest newest payloads) b.folder × ((u : Use) → list_any (tells u) payloads ≡ true → Knows read u)
       × (b.alone ≡ record { held = read; member = member_of Once life ahead lasts knows (begun (needs_of Once true) wait); given = a.alone.given })
 
-  -- all calls so far, the last one first, left this; the folder was empty at first
+  -- all calls so far, last first, left this; the folder was empty at first
   abbrev pub Run : List Call → Now → Type 0
   Run [] b = b ≡ record { alone = alone.nothing; folder = fresh }
   Run (c ∷ calls) b = (a : Now) × Run calls a × Does c a b
 
--- Whatever was called and happened, a crash or a failing disk too, no token was answered 200 twice.
+-- Whatever the calls and events, including a crash or a failing disk, no token was answered 200 twice.
 abbrev pub RunsAnswerOnce : Type 0
 RunsAnswerOnce = (tells : Use → List ℕ → Bool) (t : Titles) (calls : List Call) (b : Now) (key : List ℕ) (exp : ℕ) → Run tells t calls b → answered key exp b.alone.given ≤ 1
 
--- And whatever a crash leaves of the folder, each use with which a request was answered 200 is read of it.
+-- And whatever a crash leaves of the folder, each use with which a request was answered 200 is read back.
 abbrev pub AnsweredIsRead : Type 0
 AnsweredIsRead = (tells : Use → List ℕ → Bool) (t : Titles) (calls : List Call) (b : Now) (u : Use) (o : Outcome) → Run tells t calls b → WasGiven b.alone.given u → IsLeft b.folder.disk o → IsRead (tells u) t o

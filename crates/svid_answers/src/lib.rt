@@ -1,4 +1,5 @@
-//! Laws of members that answer requests: no token is answered 200 twice. Functions that compute nothing carry them.
+//! Laws about members that answer requests: no token is answered 200 twice. They are contracts of functions that
+//! compute nothing.
 #![tactic(auto)]
 
 pub mod laws;

@@ -23,8 +23,8 @@ impl<'a> Bearer<'a> {
     ghost use Rattle.svid_bearer.specs.Read.{IsAnswer};
     ghost use Rattle.svid_bearer.specs.View.{found};
 
-    /// Reads the one bearer token of a request that has so many fields `Authorization`, the first of
-    /// which has this value. Takes no memory.
+    /// Reads the bearer token of a request. `fields` is how many header fields `Authorization` it has, and
+    /// `value` is the value of the first. Allocates nothing.
     ///
     /// The value may have the blanks around it that its line in the message had. Where there is no
     /// field, or more than one, the value is not looked at.

@@ -1,7 +1,7 @@
 //! The bearer token of a request: what its header fields `Authorization` hold (RFC 9110, RFC 6750).
 //!
-//! [`Bearer::read`] accepts exactly one field whose value is the scheme `Bearer` and one token. Each
-//! other request is told why it has none, a [`NoBearer`]. A value that two fields were joined into, as
+//! [`Bearer::read`] accepts exactly one field whose value is the scheme `Bearer` and one token. For any other
+//! request it returns the reason, a [`NoBearer`]. A value that two fields were joined into, as
 //! `Bearer a,Bearer b`, has no token.
 //!
 //! ```rust

@@ -8,13 +8,13 @@ use Rattle.svid_c.specs.Allowed.{MayCall, no_id, no_memory, no_pattern, pattern_
 use Rattle.svid_c.specs.Status.{id_number, id_offset}
 use Rattle.svid_c.specs.declared.id_parse.SvidId.{SvidId}
 
--- a fault that is answered is the text's own, or memory was refused
+-- a fault in an answer is the text's own, or memory was refused
 answered : (fault : IdFault) (due : Option IdFault) → fault ≡ unwrap_or due OutOfMemory
     → (due ≡ Some fault) ⊎ (fault ≡ OutOfMemory)
 answered fault None is = inr is
 answered fault (Some due) is = inl (ap Some (sym is))
 
--- so that is told of a pattern that could not be read
+-- so for a pattern that could not be read, it is the answer
 pub pattern_unread : (pattern id : List ℕ) (fault : IdFault) (status offset : ℕ) (told : SvidId)
     → fault ≡ unwrap_or (pattern_fault pattern) OutOfMemory → status ≡ pattern_number fault → offset ≡ id_offset fault
     → told ≡ offset_told offset → MayCall pattern id status told

@@ -11,7 +11,7 @@ use Rattle.svid_c.specs.declared.check.SvidUse.{SvidUse}
 use Rattle.svid_c.specs.declared.told.SvidTold.{SvidTold}
 use Rattle.svid_c.proofs.LiveLemmas.{as_form}
 
--- the verdict was told as it is
+-- the answer is the verdict
 pub verdict_told : (setting : SvidSetting) (own : List (List ℕ)) (bundles : List Bundle) (given : List (List ℕ)) (token : List ℕ) (answer : Result Accepted Refusal)
     (status : ℕ) (told : SvidTold) (old new : List ℕ) (old_use new_use : SvidUse)
     → Answers Some answer (verdict_alone setting own bundles given token) → RefusesForm token answer → TellsJudgment answer status told old new old_use new_use

@@ -30,7 +30,7 @@ all_given old new bytes given ended = given ∙ ap (λ n. bytes ++ n) ended ∙ 
 whole : (old new : List ℕ) (told : List Message) → IsWhole (lent old new) told → AreMessages old told
 whole old new told w = subst (λ b. AreMessages b told) (sym (all_given old new w.bytes w.read.given w.read.ended)) (w.splits, w.read.within)
 
--- the bytes of an input whose joining succeeded tell of what was joined
+-- if joining an input succeeded, its bytes have what was joined
 pub tells : (old new : List ℕ) (a b : State) → Joins (lent old new) a b → Tells old a b
 tells old new a b j = record { told = j.told; are = whole old new j.told j.whole; joins = j.joins }
 

@@ -12,12 +12,12 @@ use Rattle.svid_journal.specs.Reading.{GoesOn, IsNext}
 use Rattle.svid_journal.specs.Titles.{bytes_of}
 use Rattle.svid_journal.proofs.FramesLemmas.{length-head_of}
 
--- a call that is told is due, and the folder has no fault
+-- a call in the answer is due, and the folder has no fault
 pub due_told : (f : Folder) (fault : Option Fault) (call : Call) → Ok call ≡ due f fault → (fault ≡ None) × (call ≡ due_at f.step f)
 due_told f None call is = (refl, cc)
 due_told f (Some e) call is = cc
 
--- a fault that is told is the folder's
+-- a fault in the answer is the folder's
 pub due_untold : (f : Folder) (fault : Option Fault) (e : Fault) → Err e ≡ due f fault → fault ≡ Some e
 due_untold f None e is = cc
 due_untold f (Some g) e is = cc

@@ -18,7 +18,7 @@ use Rattle.svid_c.specs.declared.told.SvidTold.{SvidTold}
 use Rattle.svid_c.specs.declared.live.Nobody.{Nobody}
 use Rattle.svid_c.specs.declared.validator_open.SvidTerms.{SvidTerms}
 
--- a validator that is made of what the inputs say begins
+-- a validator made from the inputs begins
 pub begun : (own : List (List ℕ)) (text : List ℕ) (terms : SvidTerms) (kept : List Bundle) (nobody : Nobody) (r : State)
     → AreBundles text kept → r ≡ state_of 0 []
     → IsBegun own text terms (record { validator = record { own = own; validator_id = terms.validator_id; ahead = terms.ahead; bundles = kept; verifier = nobody; longest = Some terms.longest; state = r }; step = terms.step; member = None; peer = None })

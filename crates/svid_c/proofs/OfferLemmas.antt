@@ -15,7 +15,7 @@ take_one (suc n) x xs some =
 lt_one : {X : Type 0} (n : ℕ) (x : X) (xs : List X) → n ≢ 0 → nat_lt n (length (x ∷ xs)) ≡ nat_lt (n - 1) (length xs)
 lt_one n x xs some = grind (arith, nat_tests, some)
 
--- one more row of what is due: of what is left this many
+-- one more row of those that are due, which leaves so many
 pub one_row : {X : Type 0} (row : X → List ℕ) (due : List ℕ) (left rest : List X) (x : X) (n : ℕ) (old new : List ℕ) → n ≢ 0 → left ≡ x ∷ rest
     → due ≡ old ++ flat_map row (take n left) → new ≡ old ++ row x → due ≡ new ++ flat_map row (take (n - 1) rest)
 one_row row due left rest x n old new some begins rows added =

@@ -6,7 +6,7 @@ use Rattle.svid_check.specs.Verdict.{key_of}
 use Rattle.svid_c.specs.Says.{said_seen, texts_of}
 use Rattle.svid_c.specs.declared.token_says.SvidSaid.{SvidSaid}
 
--- a key, a time and a number of texts are what is told of a token
+-- the answer about a token is its key, a time and a number of texts
 pub said_told : (t : Said) (key : List ℕ) (lens : List ℕ) → key ≡ key_of t → lens ≡ map length (texts_of t)
     → (let said : SvidSaid = record { key = key; exp = t.exp; texts = length lens } in said ≡ said_seen t)
 said_told t key lens is are =

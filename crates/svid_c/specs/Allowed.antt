@@ -20,14 +20,14 @@ pattern_number (id.SegmentEmpty offset) = 97
 pattern_number (id.SegmentDots offset) = 98
 pattern_number (id.PathByte offset) = 99
 
--- what is told of an ID, and of a fault
+-- the answer for an ID, and for a fault
 abbrev pub parts_told : IdParts → SvidId
 parts_told id = record { offset = 0; domain_len = length id.domain; path_len = length id.path }
 
 abbrev pub offset_told : ℕ → SvidId
 offset_told offset = record { offset = offset; domain_len = 0; path_len = 0 }
 
--- of a pattern and an ID, this is a status that is due, and what is told with it: the pattern's fault comes before that of the ID
+-- the status for a pattern and an ID, and the answer beside it; the pattern's fault comes before the ID's
 pub data MayCall (pattern id : List ℕ) (status : ℕ) (told : SvidId) : Type 0 where
   allowed : (p : PatternParts) (i : IdParts) → IsPattern pattern p → IsId id i → Allows p i → status ≡ 0 → told ≡ parts_told i → MayCall pattern id status told
   not_allowed : (p : PatternParts) (i : IdParts) → IsPattern pattern p → IsId id i → ¬ Allows p i → status ≡ 91 → told ≡ parts_told i → MayCall pattern id status told

@@ -16,13 +16,13 @@ use Rattle.svid_c.specs.declared.check.SvidSetting.{SvidSetting}
 use Rattle.svid_c.specs.declared.check.SvidUse.{SvidUse}
 use Rattle.svid_c.specs.declared.told.SvidTold.{SvidTold}
 
--- the verdict on a token of a validator with a new record, which has these audiences and bundles, where the answer to just these questions is yes
+-- the verdict of a validator with a new record on a token: it has these audiences and bundles, and the answer to exactly these questions is yes
 abbrev pub verdict_alone : SvidSetting → List (List ℕ) → List Bundle → List (List ℕ) → List ℕ → Result (Option Accepted) Refusal
 verdict_alone setting own bundles given token =
     let x = raised_to (state_of 0 []) setting.moment in
     verdict (record { own = own; validator_id = setting.validator_id; bundles = bundles; says = says_yes given; longest = Some setting.longest }) x.moment x.uses token
 
--- The verdict is told: the token is refused or accepted, and the text of an accepted token's ID is put, and its use is told; or there is too little
+-- The call answers the verdict: the token is refused; or it is accepted, and the text of its ID and its use are written; or there is too little
 -- room for an ID; or memory was refused.
 pub data Judges (setting : SvidSetting) (given : List (List ℕ)) (token : List ℕ) (status : ℕ) (told : SvidTold) (old_out new_out : List ℕ) (old_use new_use : SvidUse) (own : List (List ℕ)) (bundles : List Bundle) : Type 0 where
   too_little_room : length old_out < 2048 → status ≡ 1 → told ≡ told_length 2048 → new_out ≡ old_out → new_use ≡ old_use → Judges setting given token status told old_out new_out old_use new_use own bundles
@@ -32,7 +32,7 @@ pub data Judges (setting : SvidSetting) (given : List (List ℕ)) (token : List 
       → status ≡ 0 → told ≡ told_length (length (id_text a.id)) → HasFirst (id_text a.id) old_out new_out → new_use ≡ use_seen a.used → Judges setting given token status told old_out new_out old_use new_use own bundles
   not_judged : status ≡ 2 → told ≡ told_length 0 → new_out ≡ old_out → new_use ≡ old_use → Judges setting given token status told old_out new_out old_use new_use own bundles
 
--- how a judgment is told
+-- how the call answers a judgment
 pub data TellsJudgment (answer : Result Accepted Refusal) (status : ℕ) (told : SvidTold) (old_out new_out : List ℕ) (old_use new_use : SvidUse) : Type 0 where
   no_room : length old_out < 2048 → status ≡ 1 → told ≡ told_length 2048 → new_out ≡ old_out → new_use ≡ old_use → TellsJudgment answer status told old_out new_out old_use new_use
   bad : (why : Refusal) → 2048 ≤ length old_out → answer ≡ Err why → status ≡ refusal_number why → told ≡ told_length 0 → new_out ≡ old_out → new_use ≡ old_use → TellsJudgment answer status told old_out new_out old_use new_use

@@ -13,7 +13,7 @@ bearer_number bearer.Scheme = 83
 bearer_number bearer.Spelling = 84
 bearer_number bearer.TooLong = 101
 
--- the token that is due is told, by its offset and its length; or it is told why there is none
+-- the answer is the offset and the length of the token, or why there is none
 pub data Bears (fields : ℕ) (value : List ℕ) (status : ℕ) (told : SvidBearer) : Type 0 where
   borne : (f : Found) → IsAnswer fields value (Ok f) → status ≡ 0 → told ≡ record { at = f.offset; len = length f.token } → Bears fields value status told
   not_borne : (why : NoBearer) → IsAnswer fields value (Err why) → status ≡ bearer_number why → told ≡ record { at = 0; len = 0 } → Bears fields value status told

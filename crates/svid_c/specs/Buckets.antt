@@ -1,4 +1,4 @@
--- What the calls on one bucket of a record do, and what makes a summary of the digests of all, or reads one.
+-- What the calls on one bucket of a record do, and those that make a summary from the digests of all buckets, or read one.
 use Rattle.std.specs.Prelude.{◌≡◌, ℕ, Bool, List, [], ◌∷◌, length, slice_index_or}
 use Rattle.std.specs.List.{slice_set}
 use Rattle.svid_replay.specs.Summary.{SummaryData}
@@ -16,7 +16,7 @@ use Rattle.svid_c.specs.Written.{IsPut}
 use Rattle.svid_c.specs.declared.validator_digest.SvidDigests.{SvidDigests}
 use Rattle.svid_c.specs.declared.told.SvidTold.{SvidTold}
 
--- what a bucket of a validator's record tells at a moment: the digest of its uses that expire later, and how many these are
+-- the digest of a bucket of a validator's record at a moment: that of its uses that expire later, and how many these are
 abbrev pub digest_of : Kept → ℕ → ℕ → BucketDigest
 digest_of held bucket moment = digest_at bucket moment held.state.uses
 
@@ -24,7 +24,7 @@ digest_of held bucket moment = digest_at bucket moment held.state.uses
 abbrev pub with_bucket : Kept → ℕ → SvidDigests → SvidDigests
 with_bucket held bucket d = record { moment = d.moment; digests = slice_set d.digests bucket (digest_of held bucket d.moment).digest }
 
--- what telling the digest of a bucket does: it stands in its place among the others, and how many uses it is of is told
+-- what computing the digest of a bucket does: it is written to the bucket's place, and the answer is the number of its uses
 pub record TellsDigest (bucket status : ℕ) (told : SvidTold) (old_digests new_digests : SvidDigests) (old new : Kept) : Type 0 where
   pub done : status ≡ 0
   pub uses : told ≡ told_length (digest_of old bucket old_digests.moment).uses
@@ -49,14 +49,14 @@ pub data ReadsSummary (summary : List ℕ) (status : ℕ) (told : SvidTold) (old
 abbrev pub differs_from : Kept → ℕ → SvidDigests → Bool
 differs_from held bucket d = differs_at bucket d.moment (slice_index_or d.digests bucket []) held.state.uses
 
--- what telling whether a bucket differs from the digests of a summary does: it is told in `more`
+-- what comparing a bucket with the digests of a summary does: `more` says whether they differ
 pub record TellsDiffers (bucket : ℕ) (asked : SvidDigests) (status : ℕ) (told : SvidTold) (old new : Kept) : Type 0 where
   pub done : status ≡ 0
   pub differs : told ≡ told_rows 0 (differs_from old bucket asked)
   pub kept : new ≡ old
 
--- What telling a bucket does: messages that tell its uses which expire after a moment are put, or have no room; or memory was refused. Nothing
--- happens to the validator.
+-- What writing a bucket does: messages with its uses that expire after a moment are written, or have no room; or memory was refused. The
+-- validator is unchanged.
 pub data TellsBucket (bucket moment status : ℕ) (told : SvidTold) (old_out new_out : List ℕ) (old new : Kept) : Type 0 where
   bucket_told : (text : List ℕ) → AreWritten (uses_at bucket moment old.state.uses) text → IsPut text status old_out new_out → told ≡ told_length (length text)
       → new ≡ old → TellsBucket bucket moment status told old_out new_out old new

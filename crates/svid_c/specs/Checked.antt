@@ -1,4 +1,4 @@
--- How C is told what became of a token.
+-- How C sees the outcome for a token.
 use Rattle.std.specs.Prelude.{◌≡◌, ℕ, List, Some}
 use Rattle.svid_token.specs.Compact.{compact_rows}
 use Rattle.svid_token.specs.Rows.{first_row}
@@ -7,7 +7,7 @@ use Rattle.svid_token.specs.declared.refusal.Refusal.TheVariants as refusal
 use Rattle.svid_replay.specs.declared.token_use.Use.{Use}
 use Rattle.svid_c.specs.declared.check.SvidUse.{SvidUse}
 
--- why a token is refused: 101 for the first of `Refusal`, and so on; 2 for want of memory
+-- why a token is refused: 101 for the first of `Refusal`, and so on; 2 if out of memory
 abbrev pub refusal_number : Refusal → ℕ
 refusal_number refusal.OutOfMemory = 2
 refusal_number refusal.TooLong = 101
@@ -36,7 +36,8 @@ refusal_number refusal.BadSignature = 123
 refusal_number refusal.Withdrawn = 124
 refusal_number refusal.Replayed = 125
 
--- a token that is too long, or has not three parts, is refused as just that: want of memory does not stand for it
+-- a token that is too long, or does not have three parts, is refused for exactly that, and never for lack of
+-- memory
 abbrev pub RefusesAs : List ℕ → Refusal → Type 0
 RefusesAs token why = (refusal : Refusal) → first_row (compact_rows token) ≡ Some refusal → why ≡ refusal
 

@@ -49,7 +49,7 @@ document_index (document.Keys index) = index
 document_index (document.Twice index) = index
 document_index _ = 0
 
--- what is told of such a fault: the number of the document, and the index in it
+-- the answer for such a fault: the number of the document, and the index in it
 abbrev pub told_join : JoinFault → SvidTold
 told_join given = record { len = 0; input = given.document; message = 0; offset = document_index given.fault; more = 0 }
 

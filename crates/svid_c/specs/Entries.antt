@@ -33,8 +33,8 @@ pub record AreRead (messages : List ℕ) (uses : List Use) : Type 0 where
   pub value : IsValue messages uses
   pub within : length messages ≤ most_bytes
 
--- What reading entries does: the uses of messages stand first in the room, in their order; or it has no room for them, and how many there are
--- is told; or the messages are refused.
+-- What reading entries does: the uses of messages are written to the start of the room, in their order; or they have no room, and the answer
+-- is their number; or the messages are refused.
 pub data ReadsEntries (messages : List ℕ) (status : ℕ) (told : SvidTold) (old_out new_out : List SvidEntry) : Type 0 where
   entries_put : (uses : List Use) → AreRead messages uses → length uses ≤ length old_out → status ≡ 0 → told ≡ told_length (length uses)
       → new_out ≡ map entry_seen uses ++ drop (length uses) old_out → ReadsEntries messages status told old_out new_out
@@ -48,7 +48,7 @@ abbrev pub uses_number : UsesFault → ℕ
 uses_number (Expired index) = 15
 uses_number OutOfMemory = 2
 
--- what is told of that: the number of the use, from 0
+-- the answer for that: the number of the use, from 0
 abbrev pub told_uses : UsesFault → SvidTold
 told_uses (Expired index) = record { len = 0; input = 0; message = 0; offset = index; more = 0 }
 told_uses OutOfMemory = told_length 0

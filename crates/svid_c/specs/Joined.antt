@@ -15,7 +15,7 @@ use Rattle.svid_share.specs.declared.tool_fault.ToolFault.{ToolFault}
 use Rattle.svid_share.specs.declared.tool_fault.ToolFault.TheVariants.{NotSummary}
 use Rattle.svid_c.specs.Inputs.{AreMessages, AreRefused, IsRefused}
 
--- the record that the batches of these bytes come to, raised to a moment
+-- the record of all batches in these bytes, advanced to a moment
 pub record IsRecordOf (bytes : List ℕ) (now : ℕ) (r : State) : Type 0 where
   pub told : List Message
   pub are : AreMessages bytes told
@@ -27,7 +27,7 @@ pub record IsTextOf (due : State → List ℕ) (bytes : List ℕ) (now : ℕ) (t
   pub comes : IsRecordOf bytes now r
   pub is : text ≡ due r
 
--- the text is that of the record which the batches of both come to, raised to a moment
+-- the text is that of the record of the batches of both, advanced to a moment
 pub record IsJoined (a b : List ℕ) (now : ℕ) (text : List ℕ) : Type 0 where
   pub first : List Message
   pub second : List Message
@@ -43,7 +43,7 @@ summary_text_of r = summary_text (summary_of r)
 abbrev pub answer_text : SummaryData → State → List ℕ
 answer_text asked r = flat_map batch_text (answer_to r asked)
 
--- the first input is one summary, and the text is the answer to it of the record that the second one comes to
+-- the first input is one summary, and the text is the answer to it from the record of the second one
 pub record IsAnswer (summary bytes : List ℕ) (now : ℕ) (text : List ℕ) : Type 0 where
   pub asked : SummaryData
   pub one : AreMessages summary (Summary asked ∷ [])

@@ -90,13 +90,13 @@ call_of call.SyncSnapshot = record { call = 4; journal = 0 }
 call_of call.RenameSnapshot = record { call = 5; journal = 0 }
 call_of (call.RemoveJournal number) = record { call = 6; journal = number }
 
--- A call is not taken, and nothing is told; or the call of the system that is due is.
+-- The call is refused, and answers nothing; or it answers the system call that is due.
 pub data IsDue (numbers : SvidFolder) (status : ℕ) (old new : SvidDue) : Type 0 where
   untold : (e : Fault) → Refuses ready_fault numbers e → status ≡ folder_number e → new ≡ old → IsDue numbers status old new
   tells : (f : Folder) → AreOf numbers f → ready_fault f ≡ None → status ≡ 0 → new ≡ call_of (due_at f.step f) → IsDue numbers status old new
 
--- A call is not taken, or the room is too short, and nothing happened; or a frame of a payload is put first into the room, what stands behind
--- it is as it was, and the folder moves on.
+-- The call is refused, or the room is too short, and nothing happens; or a frame of a payload is written to the start of the room, the rest
+-- of the room is unchanged, and the folder advances.
 pub data Frames (due : Folder → Option Fault) (title : Folder → Title) (number : Folder → ℕ) (after : Folder → Folder) (payload : List ℕ) (status : ℕ) (told : SvidTold) (old_out new_out : List ℕ) (old new : SvidFolder) : Type 0 where
   unframed : (e : Fault) → Refuses (λ f. room_fault (due f) (length payload) (length old_out)) old e → status ≡ folder_number e → told ≡ told_length (wanted_of e) → new_out ≡ old_out → new ≡ old
       → Frames due title number after payload status told old_out new_out old new
@@ -118,7 +118,7 @@ reader_in r = record { count = r.count; at = r.at; marked = not (r.marked == 0) 
 abbrev pub reader_out : Reader → SvidReader
 reader_out r = record { count = r.count; at = r.at; marked = flag r.marked }
 
--- the number of what stands there
+-- the number for what stands there
 abbrev pub next_number : Next → ℕ
 next_number (next.Payload p) = 0
 next_number next.End = 52
@@ -136,7 +136,7 @@ moved_by next.Damage r old = old
 moved_by (next.Other format) r old = old
 moved_by next.Unfit r old = old
 
--- what is told of it: where the payload stands, or the number of the other format
+-- the answer about it: where the payload stands, or the number of the other format
 abbrev pub found_by : Next → ℕ → SvidFrame → SvidFrame
 found_by (next.Payload p) at old = record { payload = at + 32; len = length p.now; format = 2 }
 found_by next.End at old = old
@@ -145,7 +145,7 @@ found_by next.Damage at old = old
 found_by (next.Other format) at old = record { payload = 0; len = 0; format = format }
 found_by next.Unfit at old = old
 
--- the payload stands where it is told
+-- the payload stands where the answer says
 abbrev pub StandsAt : Next → ℕ → List ℕ → Type 0
 StandsAt (next.Payload p) at bytes = take (length p.now) (drop (at + 32) bytes) ≡ p.now
 StandsAt next.End at bytes = Unit {0}
@@ -154,7 +154,7 @@ StandsAt next.Damage at bytes = Unit {0}
 StandsAt (next.Other format) at bytes = Unit {0}
 StandsAt next.Unfit at bytes = Unit {0}
 
--- What stands at the offset of a reader is told, and a reader goes on behind a payload.
+-- The answer is what stands at the offset of a reader, and the reader advances past a payload.
 pub data Reads (title : Title) (bytes : List ℕ) (status : ℕ) (old_frame new_frame : SvidFrame) (old new : SvidReader) : Type 0 where
   reads : (found : Next) (r : Reader) → IsNext found title (reader_in old) r bytes → status ≡ next_number found → new ≡ moved_by found r old → new_frame ≡ found_by found old.at old_frame → StandsAt found old.at bytes
       → Reads title bytes status old_frame new_frame old new

@@ -45,22 +45,22 @@ pub record Room : Type 0 where
   pub used : SvidUse
   pub deed : SvidDeed
 
--- what is told of a validator's answer
+-- how the call answers a validator's answer
 abbrev pub TellsResult : Result Accepted Refusal → ℕ → SvidTold → List ℕ → List ℕ → SvidUse → SvidUse → Type 0
 TellsResult (Ok a) status told old_out new_out old_use new_use =
     (status ≡ 0) × (told ≡ told_length (length (id_text a.id))) × HasFirst (id_text a.id) old_out new_out × (new_use ≡ use_seen a.used)
 TellsResult (Err why) status told old_out new_out old_use new_use = (status ≡ refusal_number why) × (told ≡ told_length 0) × (new_out ≡ old_out) × (new_use ≡ old_use)
 
--- a number and nothing else is told
+-- a number, and nothing else, is the answer
 abbrev pub TellsOnly : ℕ → ℕ → SvidTold → List ℕ → List ℕ → SvidUse → SvidUse → Type 0
 TellsOnly number status told old_out new_out old_use new_use = (status ≡ number) × (told ≡ told_length 0) × (new_out ≡ old_out) × (new_use ≡ old_use)
 
--- what is told of a validator's answer, if it was asked
+-- how the call answers a validator's answer, if the validator was asked
 abbrev pub TellsAnswer : Option (Result Accepted Refusal) → ℕ → SvidTold → List ℕ → List ℕ → SvidUse → SvidUse → Type 0
 TellsAnswer None = TellsOnly 29
 TellsAnswer (Some answer) = TellsResult answer
 
--- What is told of what became of a claim, if the request waited for that: of one that counts, what the validator answered.
+-- How the call answers the outcome of a claim, if the request waited for it: for a claim that counts, by the validator's answer.
 abbrev pub TellsOutcome : Outcome → Option (Result Accepted Refusal) → ℕ → SvidTold → List ℕ → List ℕ → SvidUse → SvidUse → Type 0
 TellsOutcome Mine answer = TellsAnswer answer
 TellsOutcome Withdrawn answer = TellsOnly 56

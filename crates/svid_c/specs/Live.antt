@@ -39,11 +39,11 @@ use Rattle.svid_c.specs.declared.told.SvidTold.{SvidTold}
 abbrev pub Kept : Type 0
 Kept = Held Nobody
 
--- a moment lies more than its step past the record's; a record of the moment 0 has seen no moment, and takes any
+-- a moment is more than its step past the record's; a record at moment 0 has seen no moment, and accepts any
 abbrev pub is_jump : Live → ℕ → Bool
 is_jump live now = nat_lt 0 live.validator.state.moment && nat_lt live.step (now - live.validator.state.moment)
 
--- the rest of what a handle holds is as it was: how far its clock may go, where its validator is in a log, and its member
+-- the rest of the handle is unchanged: how far its clock may go, the position of its validator in a log, and its member
 abbrev pub IsRest : Live → Live → Type 0
 IsRest a b = (b.step ≡ a.step) × (b.member ≡ a.member) × (b.peer ≡ a.peer)
 
@@ -51,7 +51,7 @@ IsRest a b = (b.step ≡ a.step) × (b.member ≡ a.member) × (b.peer ≡ a.pee
 abbrev pub ToValidator : (Kept → Kept → Type 0) → Live → Live → Type 0
 ToValidator Does a b = IsRest a b × Does a.validator b.validator
 
--- A call on a handle: where that is closed, this is told, and all is as it was; else the call does what it is for to what the handle holds.
+-- A call on a handle: if the handle is closed, the answer says so, and all is unchanged; else the call acts on what the handle holds.
 pub data HandleCalls (IsAsBefore : Type 0) (Does : Live → Live → Type 0) (status : ℕ) (told : SvidTold) (old new : Option Live) : Type 0 where
   closed : old ≡ None → new ≡ None → status ≡ 5 → told ≡ told_length 0 → IsAsBefore → HandleCalls IsAsBefore Does status told old new
   does : (a b : Live) → old ≡ Some a → new ≡ Some b → Does a b → HandleCalls IsAsBefore Does status told old new
@@ -60,7 +60,7 @@ pub data HandleCalls (IsAsBefore : Type 0) (Does : Live → Live → Type 0) (st
 abbrev pub Calls : Type 0 → (Kept → Kept → Type 0) → ℕ → SvidTold → Option Live → Option Live → Type 0
 Calls IsAsBefore Does = HandleCalls IsAsBefore (ToValidator Does)
 
--- A call at a moment: as `HandleCalls`, but where the moment lies too far past the record's, that is told, and all is as it was.
+-- A call at a moment: as `HandleCalls`, but if the moment is too far past the record's, the answer says so, and all is unchanged.
 pub data HandleCallsAt (now : ℕ) (IsAsBefore : Type 0) (Does : Live → Live → Type 0) (status : ℕ) (told : SvidTold) (old new : Option Live) : Type 0 where
   closed_at : old ≡ None → new ≡ None → status ≡ 5 → told ≡ told_length 0 → IsAsBefore → HandleCallsAt now IsAsBefore Does status told old new
   jumped : (a : Live) → old ≡ Some a → is_jump a now ≡ true → new ≡ Some a → status ≡ 9 → told ≡ told_length 0 → IsAsBefore → HandleCallsAt now IsAsBefore Does status told old new
@@ -91,7 +91,7 @@ pub record IsBegun (own : List (List ℕ)) (bundles : List ℕ) (terms : SvidTer
   pub member : live.member ≡ None
   pub peer : live.peer ≡ None
 
--- what comes of a closed handle that is opened with these audiences: it holds a validator that begins; or the bundles are refused
+-- what opening a closed handle with these audiences gives: it holds a validator that begins, or the bundles are refused
 pub data Begins (bundles : List ℕ) (terms : SvidTerms) (status : ℕ) (told : SvidTold) (new : Option Live) (own : List (List ℕ)) : Type 0 where
   begun : (live : Live) → new ≡ Some live → IsBegun own bundles terms live → status ≡ 0 → told ≡ told_length 0 → Begins bundles terms status told new own
   not_begun : new ≡ None → RefusesBundles bundles status told → Begins bundles terms status told new own
@@ -133,9 +133,8 @@ adds r used = gains r (Some used)
 abbrev pub adds_nothing : State → Use → State
 adds_nothing r used = r
 
--- What a check does: there is too little room for an ID, and nothing happens; or the record is raised, and the token is refused or
--- accepted, as is its verdict at the raised record. The text of an accepted token's ID is put, its use is told, and the record gains
--- this of it.
+-- What a check does: there is too little room for an ID, and nothing happens; or the record is advanced, and the token is refused or accepted by its
+-- verdict at that record. For an accepted token, the text of its ID and its use are written, and the record gains this.
 pub data Checks (gained : State → Use → State) (now : ℕ) (says : Says) (t : Said) (status : ℕ) (told : SvidTold) (old_out new_out : List ℕ) (old_use new_use : SvidUse) (old new : Live) : Type 0 where
   no_room : length old_out < 2048 → status ≡ 1 → told ≡ told_length 2048 → new_out ≡ old_out → new_use ≡ old_use → new ≡ old → Checks gained now says t status told old_out new_out old_use new_use old new
   refused : (why : Refusal) → 2048 ≤ length old_out → Refuses why (verdict_at old says now t)
@@ -144,7 +143,8 @@ pub data Checks (gained : State → Use → State) (now : ℕ) (says : Says) (t 
       → status ≡ 0 → told ≡ told_length (length (id_text a.id)) → HasFirst (id_text a.id) old_out new_out
       → new_use ≡ use_seen a.used → IsLeft now (gained (raised_to old.validator.state now) a.used) old new → Checks gained now says t status told old_out new_out old_use new_use old new
 
--- What a check by itself does: where the validator reads a log, this is told, and nothing happens; else it is a check that adds the use that it accepts.
+-- What a check by itself does: if the validator reads a log, the answer says so, and nothing happens; else it is a check that adds the use that it
+-- accepts.
 pub data ChecksAlone (now : ℕ) (says : Says) (t : Said) (status : ℕ) (told : SvidTold) (old_out new_out : List ℕ) (old_use new_use : SvidUse) (old new : Live) : Type 0 where
   reads_log : (m : MemberState) → old.member ≡ Some m → status ≡ 10 → told ≡ told_length 0 → new_out ≡ old_out → new_use ≡ old_use → new ≡ old → ChecksAlone now says t status told old_out new_out old_use new_use old new
   alone : old.member ≡ None → Checks adds now says t status told old_out new_out old_use new_use old new → ChecksAlone now says t status told old_out new_out old_use new_use old new
@@ -154,7 +154,7 @@ abbrev pub gained_by : Gain → State → Use → State
 gained_by gain.ItsUse = adds
 gained_by gain.Nothing = adds_nothing
 
--- what renewing the bundles does: other bundles stand in the place of those that there were; or they are refused, and nothing happens
+-- what renewing the bundles does: other bundles replace the old ones; or they are refused, and nothing happens
 pub data Renews (text : List ℕ) (status : ℕ) (told : SvidTold) (old new : Kept) : Type 0 where
   renewed : (kept : List Bundle) → AreBundles text kept → status ≡ 0 → told ≡ told_length 0 → new ≡ with_bundles old kept → Renews text status told old new
   unrenewed : RefusesBundles text status told → new ≡ old → Renews text status told old new
@@ -165,8 +165,8 @@ pub record Ticks (now status : ℕ) (told : SvidTold) (old new : Kept) : Type 0 
   pub length : told ≡ told_length 0
   pub raised : new ≡ with_state old (raised_to old.state now)
 
--- what withdrawing does: the record is raised, and gains the withdrawal, which is told; or the tokens have expired (7), or memory was refused (2),
--- which it never is for a withdrawal that the record has already
+-- what withdrawing does: the record is advanced, and gains the withdrawal, which is the answer; or the tokens have expired (7); or memory was refused
+-- (2), but never for a withdrawal that the record has already
 pub data Withdraws (now : ℕ) (key : List ℕ) (exp : ℕ) (status : ℕ) (told : SvidTold) (old_use new_use : SvidUse) (old new : Kept) : Type 0 where
   withdrawn : (u : Use) → u ≡ withdrawal old.validator_id (raised_to old.state now).moment key exp → (raised_to old.state now).moment < exp
       → status ≡ 0 → told ≡ told_length 0 → new_use ≡ use_seen u → new ≡ with_state old (gains (raised_to old.state now) (Some u)) → Withdraws now key exp status told old_use new_use old new
@@ -174,8 +174,8 @@ pub data Withdraws (now : ℕ) (key : List ℕ) (exp : ℕ) (status : ℕ) (told
   no_memory : (raised_to old.state now).moment < exp → ¬ IsTrue (holds (raised_to old.state now).uses (withdrawal old.validator_id (raised_to old.state now).moment key exp))
       → status ≡ 2 → told ≡ told_length 0 → new_use ≡ old_use → new ≡ with_state old (raised_to old.state now) → Withdraws now key exp status told old_use new_use old new
 
--- what taking messages does: the record is raised, and joined with that of the messages, if that lies within the horizon (8); or the
--- messages are refused, and nothing happens; or memory was refused, and a part of them may be joined
+-- What taking messages does: the record is advanced, and joined with that of the messages, if that is within the horizon (8). Or the messages are
+-- refused, and nothing happens. Or memory was refused, and a part of them may be joined.
 pub data Takes (now : ℕ) (messages : List ℕ) (status : ℕ) (told : SvidTold) (old new : Kept) : Type 0 where
   taken : (r : State) → Tells messages (state_of 0 []) r → r.moment ≤ horizon now old.ahead
       → status ≡ 0 → told ≡ told_length 0 → new ≡ with_state old (join (raised_to old.state now) r) → Takes now messages status told old new
@@ -190,8 +190,8 @@ pub data Writes (due : State → List ℕ) (status : ℕ) (told : SvidTold) (old
   written : (text : List ℕ) → text ≡ due old.state → IsPut text status old_out new_out → told ≡ told_length (length text) → new ≡ old → Writes due status told old_out new_out old new
   unwritten : status ≡ 2 → told ≡ told_length 0 → new_out ≡ old_out → new ≡ old → Writes due status told old_out new_out old new
 
--- what replying to a summary does: the record is raised, also to the summary's moment, and the answer is put, or has no room; or the
--- summary is refused, or lies past the horizon (8), or memory was refused
+-- What answering a summary does: the record is advanced, also to the summary's moment, and the answer is written, or has no room. Or the summary is
+-- refused, or is past the horizon (8), or memory was refused.
 pub data Replies (now : ℕ) (summary : List ℕ) (status : ℕ) (told : SvidTold) (old_out new_out : List ℕ) (old new : Kept) : Type 0 where
   replied : (asked : SummaryData) (text : List ℕ) → AreMessages summary (Summary asked ∷ []) → asked.moment ≤ horizon now old.ahead
       → text ≡ flat_map batch_text (answer_to (raised_to old.state now) asked) → IsPut text status old_out new_out → told ≡ told_length (length text)

@@ -43,7 +43,7 @@ mark_seen m = record { passed = m.passed; begun = m.begun; deaf = m.deaf }
 abbrev pub is_accepting : MemberState → ℕ → Bool
 is_accepting m moment = not (nat_lt m.passed m.ready) && not (nat_lt moment m.deaf)
 
--- what is told of a value that is no row of messages: where in its message
+-- the answer for a value that is not a sequence of messages: where in its message
 abbrev pub told_value : Option WireFault → SvidTold
 told_value None = told_length 0
 told_value (Some fault) = record { len = 0; input = 1; message = 0; offset = fault.offset; more = 0 }
@@ -98,9 +98,9 @@ value_number None rest.Nothing = 0
 value_number None rest.NoRoom = 1
 value_number None rest.NoMemory = 2
 
--- What reading a value of the log does: the validator reads no log; or values are missing in front of this one, and there is no time to read it
--- at; or memory was refused for the value, and nothing happens. Or the value was read before, and nothing happens; or it is read, as the member
--- of the validator reads it, and the uses that are read are told with their fates.
+-- What reading a value of the log does. Nothing happens if the validator reads no log, or values before this one are missing and there is no
+-- time to read it at, or memory was refused for the value, or the value was read before. Else the member of the validator reads it, and the
+-- uses that it reads are written with their fates.
 pub data ReadsValue (now position : ℕ) (value : List ℕ) (status : ℕ) (told : SvidTold) (reading : SvidReading) (old_out new_out : List SvidFate) (old new : Live) : Type 0 where
   reads_none : old.member ≡ None → status ≡ 19 → told ≡ told_length 0 → reading ≡ nothing_read → new_out ≡ old_out → new ≡ old
       → ReadsValue now position value status told reading old_out new_out old new
@@ -119,7 +119,7 @@ pub data ReadsValue (now position : ℕ) (value : List ℕ) (status : ℕ) (told
       → new ≡ record { validator = with_state old.validator y; step = old.step; member = Some n; peer = old.peer }
       → ReadsValue now position value status told reading old_out new_out old new
 
--- what telling where a validator is in its log does; it reads none, or its mark is told, and nothing happens
+-- what asking for a validator's position in its log does: it reads none, or the answer is its mark; nothing happens
 pub data Marks (status : ℕ) (told : SvidTold) (old_mark new_mark : SvidMark) (old new : Live) : Type 0 where
   marks_none : old.member ≡ None → status ≡ 19 → told ≡ told_length 0 → new_mark ≡ old_mark → new ≡ old → Marks status told old_mark new_mark old new
   marks : (m : MemberState) → old.member ≡ Some m → status ≡ 0 → told ≡ told_rows 0 (is_accepting m old.validator.state.moment) → new_mark ≡ mark_seen m → new ≡ old

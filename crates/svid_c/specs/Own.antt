@@ -60,8 +60,8 @@ IsCutFault text lens own.NotUtf8 = (sum lens ≡ length text) × ((piece : List 
 IsCutFault text lens own.Lengths = sum lens ≢ length text
 IsCutFault text lens own.OutOfMemory = Unit {0}
 
--- A call that first reads the audiences of the validator: they are refused, which is told, and all else is as it was; or these
--- are they, and the call does with them what it is for.
+-- A call that first reads the audiences of the validator: they are refused, the answer says so, and all else is unchanged; or
+-- these are they, and the call acts on them.
 pub data Named (AreOwn : List (List ℕ) → Type 0) (IsOwnFault : OwnFault → Type 0) (IsAsBefore : Type 0) (Does : List (List ℕ) → Type 0) (status : ℕ) (told : SvidTold) : Type 0 where
   unnamed : (given : OwnFault) → IsOwnFault given → status ≡ own_number given → told ≡ told_length 0 → IsAsBefore → Named AreOwn IsOwnFault IsAsBefore Does status told
   named : (names : List (List ℕ)) → AreOwn names → Does names → Named AreOwn IsOwnFault IsAsBefore Does status told

@@ -37,8 +37,8 @@ moved held part uses = or_done held (behind part (slice_get uses (length uses - 
 abbrev pub next_piece : Kept → SvidPart → ℕ → BatchData
 next_piece held part len = piece_of held.state (after_of part) (uses_in_room len)
 
--- There is too little room for one use, and that is told; or there is room, and the next piece is put, and the part goes on behind it, or
--- memory was refused. Nothing happens to the validator.
+-- There is too little room for one use, and the answer says so; or there is room, and the next piece is written, and the part advances
+-- past it; or memory was refused. The validator is unchanged.
 pub data Saves (status : ℕ) (told : SvidTold) (old_out new_out : List ℕ) (old_part new_part : SvidPart) (old new : Kept) : Type 0 where
   no_room : length old_out < 82 → status ≡ 1 → told ≡ told_length 82 → new_out ≡ old_out → new_part ≡ old_part → new ≡ old → Saves status told old_out new_out old_part new_part old new
   saved : (text : List ℕ) → 82 ≤ length old_out → text ≡ batch_text (next_piece old old_part (length old_out)) → IsPut text status old_out new_out → told ≡ told_length (length text)

@@ -88,7 +88,7 @@ pub data CallsDeed (Does : Live → Live → Type 0) (IsAsBefore : Type 0) (stat
 abbrev pub with_member_data : Peer → MemberData → Peer
 with_member_data p m = record { member = m; withdrawals = p.withdrawals; callers = p.callers }
 
--- what a member knows that is told this; whether the state folder took the last acceptance it knows by itself
+-- a member's readiness by these facts; the member itself keeps whether the state folder took the last acceptance
 abbrev pub known_in : SvidKnown → Readiness
 known_in k = record {
   bundled = is_set k.bundled;
@@ -106,7 +106,7 @@ known_in k = record {
   ended = is_set k.ended;
 }
 
--- a member is told what it is to know
+-- a member gets the facts that it is to know
 abbrev pub Knows : SvidKnown → ℕ → Live → Live → Type 0
 Knows known status old new = CallsPeer (Unit {0}) (λ p q. (status ≡ 0) × (q ≡ with_member_data p (with_known (known_in known) p.member))) status old new
 
@@ -152,12 +152,12 @@ PeerHears up heard p seen q = (deed : Deed) × (m : MemberData) × Tells up hear
 abbrev pub HearsOf : ℕ → Heard → ℕ → SvidDeed → SvidDeed → Live → Live → Type 0
 HearsOf up heard status old_deed new_deed old new = CallsPeer (new_deed ≡ old_deed) (λ p q. PeerHears up heard p new_deed q × (status ≡ 0)) status old new
 
--- what is told of a request that comes: what is to be done, or a reason that speaks against it
+-- the answer for a request that arrives: what to do, or the reason against it
 abbrev pub TellsComing : Coming → ℕ → SvidDeed → SvidDeed → Type 0
 TellsComing (Arrives deed) status old_deed new_deed = (status ≡ 0) × (new_deed ≡ deed_seen deed)
 TellsComing (Waits reason) status old_deed new_deed = (status ≡ unready_number reason) × (new_deed ≡ old_deed)
 
--- A request comes to a member, and this is told; or memory was refused, and nothing came.
+-- A request arrives at a member, and the call answers this; or memory was refused, and nothing arrived.
 pub data Arrival (up status : ℕ) (old_deed new_deed : SvidDeed) (p q : Peer) : Type 0 where
   arrives : (coming : Coming) (m : MemberData) → Comes up p.member coming m → q ≡ with_member_data p m → TellsComing coming status old_deed new_deed → Arrival up status old_deed new_deed p q
   no_memory_to_come : q ≡ with_member_data p (with_requests p.member (at_moment p.member.requests up)) → new_deed ≡ old_deed → status ≡ 2 → Arrival up status old_deed new_deed p q

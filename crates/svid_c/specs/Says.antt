@@ -1,4 +1,4 @@
--- What a call tells of what a token says.
+-- What a call answers about what a token says.
 use Rattle.std.specs.Prelude.{◌≡◌, ℕ, ◌<◌, ◌≤◌, ◌⊎◌, List, [], ◌∷◌, length, map, unwrap_or, Some, Ok}
 use Rattle.std.specs.List.{concat}
 use Rattle.svid_id.specs.Id.{id_text}
@@ -18,7 +18,7 @@ use Rattle.svid_c.specs.declared.told.SvidTold.{SvidTold}
 abbrev pub texts_of : Said → List (List ℕ)
 texts_of t = name_of t.alg ∷ (id_text t.sub ∷ (t.sub.domain ∷ (unwrap_or t.kid [] ∷ t.aud)))
 
--- what is told of it beside these
+-- the answer about it beside these
 abbrev pub said_seen : Said → SvidSaid
 said_seen t = record { key = key_of t; exp = t.exp; texts = length (texts_of t) }
 
@@ -30,7 +30,7 @@ pub data ArePut (texts : List (List ℕ)) (status : ℕ) (old_lens new_lens old_
   none_put : status ≡ 1 → (length old_lens < length texts) ⊎ (length old_out < length (concat texts)) → new_lens ≡ old_lens → new_out ≡ old_out
       → ArePut texts status old_lens new_lens old_out new_out
 
--- what a token says is told, and its texts are put, or have no room; or the token is refused by itself; or memory was refused
+-- the answer is what a token says, and its texts are written, or have no room; or the token is refused by itself; or memory was refused
 pub data Says (token : List ℕ) (status : ℕ) (told : SvidTold) (old_said new_said : SvidSaid) (old_lens new_lens old_out new_out : List ℕ) : Type 0 where
   says : (t : Said) → reading_of token ≡ Ok (Some t) → ArePut (texts_of t) status old_lens new_lens old_out new_out → told ≡ told_length (length (concat (texts_of t)))
       → new_said ≡ said_seen t → Says token status told old_said new_said old_lens new_lens old_out new_out

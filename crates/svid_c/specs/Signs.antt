@@ -1,4 +1,4 @@
--- What a call tells of a token's signature.
+-- What a call answers about a token's signature.
 use Rattle.std.specs.Prelude.{◌≡◌, ℕ, List, length, Some, Ok, Err}
 use Rattle.svid_token.specs.Compact.{Parts, compact_of, signing_input}
 use Rattle.svid_token.specs.Rows.{Refuses}
@@ -10,8 +10,8 @@ use Rattle.svid_c.specs.Written.{IsPut}
 use Rattle.svid_c.specs.declared.token_signature.SvidSigned.{SvidSigned}
 use Rattle.svid_c.specs.declared.told.SvidTold.{SvidTold}
 
--- the signature of a token is put, or has no room, and it is told what it is made over; or the token has not the form of one; or its third part
--- spells no signature, or memory was refused
+-- The signature of a token is written, or has no room, and the answer is how many bytes it covers. Or the token has not the form of one, or its
+-- third part encodes no signature, or memory was refused.
 pub data Signs (token : List ℕ) (status : ℕ) (told : SvidTold) (old_signed new_signed : SvidSigned) (old new : List ℕ) : Type 0 where
   signs : (p : Parts) (signature : List ℕ) → compact_of token ≡ Ok (Some p) → signature_of p.signature ≡ Ok (Some signature)
       → IsPut signature status old new → told ≡ told_length (length signature) → new_signed ≡ record { len = length (signing_input p.header p.payload) }

@@ -1,4 +1,4 @@
--- The numbers by which C is told how a call ended: 0 where it did what it is for.
+-- The numbers that tell C how a call ended: 0 if it succeeded.
 use Rattle.std.specs.Prelude.{ℕ, Bool, if◌then◌else◌}
 use Rattle.svid_id.specs.declared.id_fault.IdFault.{IdFault}
 use Rattle.svid_id.specs.declared.id_fault.IdFault.TheVariants as id
@@ -61,7 +61,7 @@ fault_number (tool.TooMuch input) = 3
 fault_number tool.Write = 2
 fault_number tool.OutOfMemory = 2
 
--- what is told of a text that a call wrote, or has no room for: its length
+-- the answer about a text that a call wrote, or has no room for: its length
 abbrev pub told_length : ℕ → SvidTold
 told_length len = record { len = len; input = 0; message = 0; offset = 0; more = 0 }
 
@@ -69,7 +69,7 @@ told_length len = record { len = len; input = 0; message = 0; offset = 0; more =
 abbrev pub flag : Bool → ℕ
 flag b = if b then 1 else 0
 
--- what is told of rows that were put, or have no room: the length of their text, and whether there are more
+-- the answer about rows that were written, or have no room: the length of their text, and whether there are more
 abbrev pub told_rows : ℕ → Bool → SvidTold
 told_rows len more = record { len = len; input = 0; message = 0; offset = 0; more = flag more }
 
@@ -79,7 +79,8 @@ bundles_index (bundles.Domain index) = index
 bundles_index (bundles.Keys index) = index
 bundles_index _ = 0
 
--- what is told of a fault: of messages, the number of the input and of the message in it, and the offset in that; else a offset
+-- the answer about a fault: for messages, the number of the input and of the message in it, and the offset in that; else an
+-- offset
 abbrev pub told_fault : ToolFault → SvidTold
 told_fault (tool.Wire input message offset reason) = record { len = 0; input = input; message = message; offset = offset; more = 0 }
 told_fault (tool.Bundles fault) = record { len = 0; input = 0; message = 0; offset = bundles_index fault; more = 0 }

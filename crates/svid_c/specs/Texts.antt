@@ -26,7 +26,7 @@ after_space (c ∷ cs) = 32 ∷ c ∷ cs
 abbrev pub sentence : Texts → List ℕ
 sentence texts = texts.says ++ after_space texts.advice
 
--- what is told of a sentence that was put, or has no room: its length, and how much of it is not advice
+-- the answer about a sentence that was written, or has no room: its length, and how much of it is not advice
 abbrev pub told_sentence : Texts → SvidTold
 told_sentence texts = record { len = length (sentence texts); input = 0; message = 0; offset = 0; more = length texts.says }
 

@@ -12,7 +12,7 @@ use svid_replay::Summary;
 use svid_share::ToolFault;
 use svid_wire::MemSink;
 
-// The answer to a summary, of what an input tells at a moment.
+// The answer to a summary by what an input holds at a moment.
 #[tactic(auto, using(crate::proofs::JoinedLemmas::text_is, crate::proofs::JoinedLemmas::refused_alone))]
 fn answer_to(
     alloc: Global,
@@ -33,7 +33,7 @@ fn answer_to(
     }
 }
 
-// The same, of the summary that the first input is.
+// The same for the summary in the first input.
 #[tactic(auto, using(crate::proofs::JoinedLemmas::answers, crate::proofs::JoinedLemmas::refused_summary, crate::proofs::JoinedLemmas::refused_behind))]
 fn answer(alloc: Global, summary: &[u8], messages: &[u8], now: u64) -> Result<MemSink, ToolFault>
     ensures ok { IfOk result (λ sink. IsAnswer summary.now messages.now now sink.bytes) }
@@ -43,13 +43,12 @@ fn answer(alloc: Global, summary: &[u8], messages: &[u8], now: u64) -> Result<Me
     answer_to(alloc, &asked, messages, now)
 }
 
-/// Puts the answer to the one summary that the first input is first into `out`. The record that the messages of
-/// the second input come to is raised up to the moment `now`, in seconds, and then to that of the summary; its
-/// answer is the uses of all buckets whose digests differ, as batches, or one batch with no use where there are no
-/// such uses.
+/// Writes the answer to the summary in the first input to the start of `out`. The record of the messages in the
+/// second input is first advanced to the moment `now`, in seconds, and then to the summary's moment. The answer
+/// has all uses of the buckets whose digests differ, as batches. If there are none, it is one batch without a use.
 ///
-/// What it answers is as of [`svid_join`](crate::join::svid_join), and 4 where the first input is messages, but
-/// not one summary: then nothing is told beside it.
+/// Answers as [`svid_join`](crate::join::svid_join) does, and 4 if the first input is messages, but not one
+/// summary. `told` is then all 0.
 #[unsafe(no_mangle)]
 pub extern "C" fn svid_answer(
     alloc: Global,

@@ -6,13 +6,13 @@ ghost use Rattle.svid_keys.specs.Table.{is_among};
 use svid_keys::{JwtKey, Verifier, question};
 use svid_token::Alg;
 
-/// What a caller's verifier said of a token.
+/// The caller's verifier's answer about a token.
 #[derive(Clone, Copy)]
 pub(crate) enum Answered<'a> {
     /// Yes to these questions, and to no others.
     Questions(&'a [[u8; 32]]),
-    /// This key, by its text, made this signature over these bytes. It says nothing of another key, text or signature. No key has the
-    /// empty text.
+    /// The key with this text made this signature over these bytes. Says nothing about any other key, text or signature. No key has
+    /// an empty text.
     Finding {
         key: &'a [u8],
         input: &'a [u8],
@@ -42,7 +42,7 @@ impl<'a> Verifier for Answered<'a> {
                 !text.is_empty()
                     && (key.text().as_bytes() == text && (input == over && signature == made))
             }
-            // (Where no question is answered yes, nothing is hashed.)
+            // (Without a yes, nothing needs hashing.)
             Answered::Questions(yes) if yes.is_empty() => false,
             Answered::Questions(yes) => is_among(&question(key, alg, input, signature), yes),
         }

@@ -3,13 +3,13 @@ ghost use Rattle.std.specs.Prelude.{◌≡◌};
 
 use svid_bearer::{Bearer, NoBearer};
 
-/// Where the one bearer token of a request stands; 0 where it has none.
+/// Where the bearer token of a request stands; 0 if it has none.
 #[repr(C)]
 #[derive(Drop)]
 pub struct SvidBearer {
-    /// How many bytes of the field's value stand before it.
+    /// The offset of its first byte in the field's value.
     pub at: usize,
-    /// How many bytes it has.
+    /// Its length, in bytes.
     pub len: usize,
 }
 
@@ -25,12 +25,11 @@ fn bearer_number(why: NoBearer) -> u32
     }
 }
 
-/// Finds the one bearer token of a request that has so many header fields `Authorization`, the first of which has this value (RFC 9110,
-/// section 11.4; RFC 6750, section 2.1): 0, and `out` says where in the value it stands.
+/// Finds the bearer token of a request. `fields` is how many header fields `Authorization` it has, and `value` is the value of the
+/// first (RFC 9110, section 11.4; RFC 6750, section 2.1). Returns 0, and `out` says where in the value it stands.
 ///
-/// Else the first that holds: 81 where the request has no such field, 82 where it has more than one, 83 where the scheme is not `Bearer`
-/// in letters of either case, 84 where what follows is not one token, and 101 where the token has more than 65,536 bytes. Takes no
-/// memory.
+/// Otherwise returns the first that holds: 81 if the request has no such field, 82 if it has more than one, 83 if the scheme is not
+/// `Bearer` (in any case), 84 if what follows is not one token, 101 if the token has more than 65,536 bytes. Allocates nothing.
 #[unsafe(no_mangle)]
 pub extern "C" fn svid_bearer_token(fields: u64, value: &[u8], out: &mut SvidBearer) -> u32
     ensures { Bears fields value.now result out.new }

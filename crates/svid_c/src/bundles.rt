@@ -6,8 +6,8 @@ use crate::trust_handle::TrustHandle;
 use std::alloc::Global;
 use std::mem;
 
-/// Trust bundles that C keeps, open or closed. C makes a closed one, all its bytes 0, and gives it to one call at a time; only the
-/// calls write it.
+/// A handle of trust bundles that C keeps, open or closed. C makes a closed one (all bytes 0) and gives it to one call at a time.
+/// Only the calls write it.
 #[repr(C)]
 pub struct SvidBundles {
     word: u64,
@@ -34,7 +34,7 @@ impl SvidBundles {
         }
     }
 
-    // Takes out what is held, and leaves the handle closed.
+    // Takes the bundles out, and leaves the handle closed.
     pub(crate) fn take(&mut self, alloc: Global) -> Option<Box<Trust>>
         ensures value { option_map (λ trust. trust.value) result ≡ self.old.handle.trust }
         ensures closed { self.new.handle.trust ≡ None }

@@ -22,7 +22,7 @@ fn push_key(rows: &mut Vec<u8>, key: &JwtKey, alg: Alg) -> Result<(), AllocError
     Ok(())
 }
 
-// Adds the rows of the first candidates, so many at the most, and tells whether there are more.
+// Adds the rows of the first `most` candidates, and answers whether there are more.
 pub(crate) fn push_keys(
     rows: &mut Vec<u8>,
     candidates: Candidates<'_>,
@@ -43,7 +43,7 @@ pub(crate) fn push_keys(
     Ok(false)
 }
 
-// Puts a row for each of the first candidates.
+// Writes a row for each of the first candidates.
 fn list(
     alloc: Global,
     bundles: &Bundles,
@@ -69,7 +69,7 @@ fn list(
     }
 }
 
-// The same of the bundles that are held.
+// The same for the bundles of a handle.
 fn list_held(
     alloc: Global,
     trust: &Trust,
@@ -86,13 +86,13 @@ fn list_held(
     list(alloc, bundles, token, most, out, told)
 }
 
-/// Puts a row for each key that may have signed the token first into `out`, for the first `most` of these keys in the order of their
-/// bundle: the algorithm's name and the key as JSON, each after its length in four bytes, the greatest first. The rows count from 0, and
-/// [`svid_bundles_question`](crate::bundles_question::svid_bundles_question) takes the number of one. It hashes nothing.
+/// Writes a row for each key that may have signed the token to the start of `out`, for at most the first `most` of these keys, in the
+/// order of their bundle. A row is the algorithm's name and the key as JSON, each after its length in four bytes, big-endian.
+/// [`svid_bundles_question`](crate::bundles_question::svid_bundles_question) takes the number of a row, counted from 0. Hashes nothing.
 ///
-/// 0, and `told.len` is the length of the rows; 1 where they are longer than `out`. Of both, `told.more` is 1 where more than `most` keys
-/// may have signed the token. 101 to 116, 121 and 122 where the token is refused already; 2 for want of memory; 5 where the handle is
-/// closed. Then `out` stays as it was.
+/// Returns 0, with the length of the rows in `told.len`; or 1 if they are longer than `out`. For both, `told.more` is 1 if more than
+/// `most` keys may have signed the token. 101 to 116, 121 and 122 if the token is refused already; 2 if out of memory; 5 if the handle is
+/// closed. Unless the status is 0, `out` is unchanged.
 #[unsafe(no_mangle)]
 pub extern "C" fn svid_bundles_ask(
     alloc: Global,

@@ -12,15 +12,15 @@ use std::alloc::{AllocError, Global};
 use std::str;
 use svid_documents::{Document, DocumentFault, JoinFault, join};
 
-/// A document of trust bundles: how long its name and its text are, and what the text is.
+/// A document of trust bundles: the lengths of its name and its text, and what the text is.
 #[repr(C)]
 #[derive(Drop)]
 pub struct SvidDocument {
-    /// How many bytes the name of its trust domain has, or the SPIFFE ID of that; 0 where the text is an object of trust domains.
+    /// The length in bytes of the name or SPIFFE ID of its trust domain; 0 if the text is an object of trust domains.
     pub name_len: usize,
-    /// How many bytes its text has.
+    /// The length of its text, in bytes.
     pub text_len: usize,
-    /// 1 where the text is keys for JWT-SVIDs alone, which need no `use`, and 0 where it is the bundle of the trust domain.
+    /// 1 if the text has keys for JWT-SVIDs alone, which need no `use`; 0 if it is the bundle of the trust domain.
     pub keys: u64,
 }
 
@@ -83,7 +83,7 @@ fn push_document<'a>(cut: &mut Vec<Document<'a>>, document: Document<'a>) -> Res
     Ok(())
 }
 
-// The documents that bytes are, whose lengths add up to theirs.
+// Cuts bytes into documents, whose lengths add up to theirs.
 fn cut<'a>(
     alloc: Global,
     bytes: &'a [u8],
@@ -109,7 +109,7 @@ fn cut<'a>(
     Ok(cut)
 }
 
-// The text of the bundles of all documents that bytes are.
+// The text of the bundles of all documents in bytes.
 fn joined(alloc: Global, bytes: &[u8], documents: &[SvidDocument]) -> Result<Vec<u8>, JoinFault>
     requires { sum_by length_of documents.now ≡ length bytes.now }
     ensures ok { IfOk result (λ text. IsJoined (documents_in bytes.now documents.now) text.items) }
@@ -160,18 +160,21 @@ fn refuse_documents(given: JoinFault, told: &mut SvidTold) -> u32
     document_number(given.fault)
 }
 
-/// Joins documents of trust bundles to one text, which is put first into `out`: a JSON object of the names of their trust domains and their
-/// bundles, in rising order, as the other calls take bundles. `bytes` are for each document its name and its text, one after the other.
+/// Joins documents of trust bundles, and writes the result to the start of `out`: a JSON object of trust domain names and their bundles, in rising
+/// order, as the other calls take bundles. `bytes` has each document's name and then its text, one document after the other.
 ///
 /// A document without a name is an object of trust domains. One with a name is the bundle of that trust domain: a JWK Set (SPIFFE Trust Domain and
-/// Bundle, section 4), or keys for JWT-SVIDs alone, of which a key that doesn't say its use is for JWT-SVIDs (SPIFFE Workload API, section
-/// 6.2.2).
+/// Bundle, section 4), or keys for JWT-SVIDs alone. Of the latter, a key without a `use` is for JWT-SVIDs (SPIFFE Workload API, section 6.2.2).
 ///
-/// 0, and `told.len` is the text's length; 1 where it is longer than `out`. 39 where the lengths do not add up to that of `bytes`. 31 where a
-/// document is no JSON object, 37 where it is the bundle of one trust domain without its name, and 32, 33 and 38 where a name in it is no trust
-/// domain name, has no list of keys, or is in an earlier document: then `told.input` is the number of the first faulty document, counted from
-/// 1, and `told.offset` that of the name among all its names in rising order of their bytes, counted from 0. 2 for want of memory. Unless the
-/// status is 0, `out` stays as it was.
+/// Returns 0, with the text's length in `told.len`; or 1 if it is longer than `out`.
+///
+/// - 39: the lengths do not add up to the length of `bytes`.
+/// - 31: a document is not a JSON object. 37: it is the bundle of one trust domain, without its name.
+/// - 32, 33, 38: a name in a document is not a trust domain name, has no list of keys, or is in an earlier document.
+/// - 2: out of memory.
+///
+/// For 31 to 33, 37 and 38, `told.input` is the number of the first faulty document, counted from 1. `told.offset` is the index of the name among
+/// all its names in rising order of their bytes, counted from 0. Unless the status is 0, `out` is unchanged.
 #[unsafe(no_mangle)]
 pub extern "C" fn svid_bundles_join(
     alloc: Global,

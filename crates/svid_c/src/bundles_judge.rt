@@ -20,7 +20,7 @@ use svid_keys::Bundles;
 use svid_replay::{Record, RunUses};
 use svid_token::Refusal;
 
-// A judgment, and the bundles that it was made by.
+// A judgment, and the bundles that it used.
 #[derive(Drop)]
 struct Judged {
     answer: Result<Accepted, Refusal>,
@@ -58,7 +58,7 @@ fn judge_new(
     Judged { answer, bundles }
 }
 
-// Judges a token by the bundles that are held, with these audiences.
+// Judges a token by these bundles, with these audiences.
 fn judge(
     alloc: Global,
     trust: &mut Trust,
@@ -86,7 +86,7 @@ fn judge(
     tell(answer, out, used, told)
 }
 
-// Tells a judgment, where an ID has room.
+// Writes a judgment, if an ID has room.
 fn tell(
     answer: Result<Accepted, Refusal>,
     out: &mut [u8],
@@ -105,7 +105,7 @@ fn tell(
     }
 }
 
-// The same with the audiences that are lent.
+// The same with the audiences that C lends.
 fn judge_held(
     alloc: Global,
     trust: &mut Trust,
@@ -133,13 +133,13 @@ fn judge_held(
     }
 }
 
-/// Judges a token at the moment of the setting as a validator with a new record would that has these audiences, bundles and this setting:
-/// whatever a record says of the token is left out, so it is never refused as 124 or 125. `own` are the audiences one after the other, and
-/// `lens` their lengths. `yes` are the questions of this token whose answer is yes.
+/// Judges a token at the moment of the setting, as a validator with these audiences, bundles and setting, and with a new record, would. No
+/// record counts, so it never answers 124 or 125. `own` has the audiences one after the other, and `lens` their lengths. `yes` has the
+/// questions about this token whose answer is yes.
 ///
-/// 0 where it is accepted: `out` has the SPIFFE ID of its subject, and `used` is the use that a check would add. 101 to 123 for the first
-/// refusal that holds. 5 where the handle is closed, 35 where an audience is not UTF-8, 36 where the lengths do not add up to the length of
-/// `own`, 1 where `out` is shorter than 2,048 bytes, and 2 for want of memory. Unless it is 0, `out` and `used` stay as they were.
+/// Returns 0 if it accepts the token: `out` has the SPIFFE ID of its subject, and `used` is the use that a check would add. 101 to 123 for
+/// the first refusal that holds. 5 if the handle is closed, 35 if an audience is not UTF-8, 36 if the lengths do not add up to the length
+/// of `own`, 1 if `out` is shorter than 2,048 bytes, 2 if out of memory. Unless the status is 0, `out` and `used` are unchanged.
 #[unsafe(no_mangle)]
 pub extern "C" fn svid_bundles_judge(
     alloc: Global,

@@ -40,10 +40,11 @@ fn open(alloc: Global, b: &mut SvidBundles, bundles: &[u8], told: &mut SvidTold)
     }
 }
 
-/// Opens a closed handle of trust bundles, which it reads from JSON: 0. It keeps no record, and shares nothing with a validator.
+/// Opens a closed handle with trust bundles, which it reads from JSON, and returns 0. The handle keeps no record, and shares nothing
+/// with a validator.
 ///
-/// 6 where it is open: then it stays as it was. 3 (of the input 1), 31 to 33 and 37 where the bundles are refused, and 2 for want of memory:
-/// then it is closed.
+/// 6 if it is open already: it is unchanged. 3 (with `told.input` 1), 31 to 33 or 37 if the bundles are refused, 2 if out of memory: it
+/// stays closed.
 #[unsafe(no_mangle)]
 pub extern "C" fn svid_bundles_open(
     alloc: Global,
@@ -60,7 +61,7 @@ pub extern "C" fn svid_bundles_open(
     open(alloc, b, bundles, told)
 }
 
-/// Closes a handle of trust bundles, and gives back all its memory. One that is closed stays so.
+/// Closes a handle of trust bundles, and frees all its memory. A closed handle is left closed.
 #[unsafe(no_mangle)]
 pub extern "C" fn svid_bundles_close(alloc: Global, b: &mut SvidBundles)
     ensures { b.new.handle.trust ≡ None }

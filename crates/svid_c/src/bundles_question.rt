@@ -13,7 +13,7 @@ use svid_check::Reading;
 use svid_keys::{Bundles, Candidates, JwtKey, question};
 use svid_token::Refusal;
 
-/// The question whether a key signed a token.
+/// Asks if a key signed a token.
 #[repr(C)]
 #[derive(Drop)]
 pub struct SvidQuestion {
@@ -62,7 +62,7 @@ fn ask_one(
     only(0, told)
 }
 
-// The same of the bundles that are held.
+// The same for the bundles of a handle.
 fn ask_held(
     alloc: Global,
     trust: &Trust,
@@ -79,11 +79,11 @@ fn ask_held(
     ask_one(alloc, bundles, token, number, asked, told)
 }
 
-/// The question whether one of the keys that may have signed the token did: that of the row with this number, counted from 0, of
-/// [`svid_bundles_ask`](crate::bundles_ask::svid_bundles_ask). It hashes this one.
+/// Writes the question to `asked` that asks if one key signed the token: the key of the row `number`, counted from 0, of
+/// [`svid_bundles_ask`](crate::bundles_ask::svid_bundles_ask). Hashes that one question.
 ///
-/// 0, and `asked` is the question. 101 to 116, 121 and 122 where the token is refused already, and 122 where no more keys may have signed
-/// it than `number` says; 2 for want of memory; 5 where the handle is closed. Then `asked` stays as it was.
+/// Returns 0, and `asked` is the question. 101 to 116, 121 and 122 if the token is refused already, and 122 if no more than `number` keys
+/// may have signed it; 2 if out of memory; 5 if the handle is closed. Unless the status is 0, `asked` is unchanged.
 #[unsafe(no_mangle)]
 pub extern "C" fn svid_bundles_question(
     alloc: Global,

@@ -12,7 +12,7 @@ use svid_allow::Pattern;
 use svid_id::{IdFault, SpiffeId};
 use svid_keys::Lines;
 
-/// Which callers may call: all, or those that one of some patterns allows.
+/// The callers that may call: all, or those that a pattern allows.
 #[derive(Drop)]
 pub struct Callers {
     patterns: Option<Vec<Pattern>>,
@@ -50,7 +50,7 @@ fn push_pattern(patterns: &mut Vec<Pattern>, pattern: Pattern) -> Result<(), IdF
     }
 }
 
-// Adds the pattern that a line is, if it is not empty.
+// Adds the pattern of a line, if the line is not empty.
 fn push_line(alloc: Global, patterns: &mut Vec<Pattern>, line: &[u8]) -> Result<(), IdFault>
     ensures added { OnOk result ((more : List (List ℕ)) → map Some patterns.old.items ++ map pattern_parts (full_lines (line.now ∷ more)) ≡ map Some patterns.new.items ++ map pattern_parts (full_lines more)) }
     ensures fault { IfErr result (IsPatternFault line.now) }
@@ -65,7 +65,7 @@ fn push_line(alloc: Global, patterns: &mut Vec<Pattern>, line: &[u8]) -> Result<
     push_pattern(patterns, pattern)
 }
 
-// The patterns that a text has in lines: those that are not empty.
+// The patterns in the lines of a text. Skips empty lines.
 fn patterns_in(alloc: Global, text: &[u8]) -> Result<Vec<Pattern>, IdFault>
     ensures ok { IfOk result (λ patterns. AreCallers text.now patterns.items) }
     ensures fault { IfErr result (IsCallersFault text.now) }
@@ -80,7 +80,7 @@ fn patterns_in(alloc: Global, text: &[u8]) -> Result<Vec<Pattern>, IdFault>
 }
 
 impl Callers {
-    // All may call, or those that one of the patterns in the lines of a text allows.
+    // All may call, or those that a pattern in the lines of a text allows.
     pub(crate) fn read(alloc: Global, all: u64, text: &[u8]) -> Result<Callers, IdFault>
         ensures ok { IfOk result (λ callers. AreGiven all text.now callers) }
         ensures fault { IfErr result (IsCallersFault text.now) }

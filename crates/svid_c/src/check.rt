@@ -9,16 +9,16 @@ use crate::writing::put;
 use svid_check::Accepted;
 use svid_replay::Use;
 
-/// What a check is told, beside its inputs.
+/// The setting of a check.
 #[repr(C)]
 #[derive(Drop)]
 pub struct SvidSetting {
-    /// The moment of the check, in seconds; where the record's is greater, the token is judged at that.
+    /// The moment of the check, in seconds. If the record's is later, the token is judged at that.
     pub moment: u64,
-    /// How many seconds past `moment`, or past the record's moment where that is greater, a token may expire; with
-    /// 2^64-1 it may at any moment.
+    /// How many seconds past `moment`, or past the record's moment if that is later, a token may expire. 2^64-1
+    /// for no limit.
     pub longest: u64,
-    /// What tells the validator from every other one that shares its record.
+    /// Tells this validator from every other one that shares its record.
     pub validator_id: [u8; 16],
 }
 
@@ -30,9 +30,9 @@ pub struct SvidUse {
     pub exp: u64,
     /// The record's moment when the token was accepted, in seconds.
     pub at: u64,
-    /// The key by which the uses of the token are told.
+    /// The token's key, which identifies the token.
     pub key: [u8; 32],
-    /// The validator ID of the validator.
+    /// The ID of the validator that accepted it.
     pub validator_id: [u8; 16],
 }
 
@@ -54,7 +54,7 @@ pub(crate) fn use_seen(used: Use) -> SvidUse
     }
 }
 
-// Tells an acceptance in a room that has room for any ID.
+// Writes an acceptance to `out`, which has room for any ID.
 #[tactic(auto, using(crate::proofs::CheckedLemmas::has_room))]
 pub(crate) fn accept_whole(
     accepted: Accepted,

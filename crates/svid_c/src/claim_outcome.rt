@@ -19,8 +19,8 @@ fn outcome_number(outcome: Outcome) -> u32
     }
 }
 
-/// Puts the owner into `owner` that a life of a validator claims a token for that expires at `exp`, in seconds. `life` is 16 random bytes, which
-/// each start takes.
+/// Writes the owner to `owner` with which a validator claims a token that expires at `exp`, in seconds. `life` is 16 random bytes, new at each
+/// start.
 #[unsafe(no_mangle)]
 pub extern "C" fn svid_claim_owner(
     validator_id: &[u8; 16],
@@ -35,7 +35,7 @@ pub extern "C" fn svid_claim_owner(
     *owner = bytes;
 }
 
-/// Puts the owner into `owner` that any validator claims a token for that a caller presents and that expires at `exp`, in seconds.
+/// Writes the owner to `owner` with which any validator claims a token for the caller that presents it. The token expires at `exp`, in seconds.
 #[unsafe(no_mangle)]
 pub extern "C" fn svid_claim_owner_of_caller(caller: &[u8; 32], exp: u64, owner: &mut [u8; 32])
     ensures { owner.new ≡ owner_of_caller caller.now exp }
@@ -45,7 +45,7 @@ pub extern "C" fn svid_claim_owner_of_caller(caller: &[u8; 32], exp: u64, owner:
     *owner = bytes;
 }
 
-/// Puts the validator ID into `validator_id` that an owner of `svid_claim_owner` begins with.
+/// Writes the validator ID to `validator_id` that an owner of `svid_claim_owner` begins with.
 #[unsafe(no_mangle)]
 pub extern "C" fn svid_claim_validator(owner: &[u8; 32], validator_id: &mut [u8; 16])
     ensures { validator_id.new ≡ validator_of owner.now }
@@ -54,7 +54,7 @@ pub extern "C" fn svid_claim_validator(owner: &[u8; 32], validator_id: &mut [u8;
     *validator_id = told;
 }
 
-/// Until when a store keeps the entry of a token that expires at `exp`, by its own clock, in seconds.
+/// Until when a store keeps the entry of a token that expires at `exp`, by the store's clock, in seconds.
 #[unsafe(no_mangle)]
 pub extern "C" fn svid_claim_until(exp: u64, margin: u64) -> u64
     ensures { result ≡ capped (exp + margin) }
@@ -62,8 +62,9 @@ pub extern "C" fn svid_claim_until(exp: u64, margin: u64) -> u64
     stays_until(exp, margin)
 }
 
-/// The expiry up to which tokens may have been claimed before a store lost entries. `time` is no less than the time of any answer before the loss,
-/// `lasts` how many seconds past the store's time a token may expire, and `before` what earlier losses gave, or 0.
+/// After a store lost entries: a token that expires by the answer, in seconds, may have been claimed before the loss. `time` is no earlier than
+/// the store's time in any answer before the loss. `lasts` is how many seconds past the store's time a token may expire, and `before` is what this
+/// call answered for earlier losses, or 0.
 #[unsafe(no_mangle)]
 pub extern "C" fn svid_claim_deaf(time: u64, lasts: u64, before: u64) -> u64
     ensures { result ≡ capped (deaf_after time lasts before) }
@@ -71,7 +72,7 @@ pub extern "C" fn svid_claim_deaf(time: u64, lasts: u64, before: u64) -> u64
     deaf_after(time, lasts, before)
 }
 
-/// The moment at which a validator looks at an answer that has this time: `now`, or `time` less `ahead` if that is later.
+/// The moment at which a validator judges an answer of the store with this time: `now`, or `time` less `ahead` if that is later.
 #[unsafe(no_mangle)]
 pub extern "C" fn svid_claim_moment(now: u64, time: u64, ahead: u64) -> u64
     ensures { result ≡ moment_by now time ahead }
@@ -79,8 +80,8 @@ pub extern "C" fn svid_claim_moment(now: u64, time: u64, ahead: u64) -> u64
     moment_by(now, time, ahead)
 }
 
-/// What becomes of a claim: 0 where the token is accepted, and else the first that holds: 56 it was withdrawn, 57 the entry is another's, 58 it
-/// lives longer than tokens may, 59 it may have been claimed before the store lost entries, 60 it has expired.
+/// The outcome of a claim: 0 if the token is accepted, and else the first that holds: 56 it was withdrawn, 57 the entry is another's, 58 it lives
+/// longer than tokens may, 59 it may have been claimed before the store lost entries, 60 it has expired.
 #[unsafe(no_mangle)]
 pub extern "C" fn svid_claim_outcome(
     owner: &[u8; 32],

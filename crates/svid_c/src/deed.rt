@@ -5,26 +5,26 @@ use crate::check::{SvidUse, use_seen};
 use svid_replay::Use;
 use svid_requests::{Deed, Verdict};
 
-/// What is to be done for a request of a member.
+/// What to do for a request of a member.
 #[repr(C)]
 #[derive(Drop)]
 pub struct SvidDeed {
-    /// 0 nothing; 1 find the key that made the signature of the request's token, and let the token be judged; 2 bring its use to the disk; 3 put
-    /// its claim into the store; 4 answer the request.
+    /// 0 nothing; 1 find the key that made the token's signature, and have the token judged; 2 write its use to the disk; 3 put its claim into
+    /// the store; 4 answer the request.
     pub what: u64,
     /// The number of the request.
     pub number: u64,
-    /// Of an answer: 0 where the token is accepted. Else why not: 101 to 125 for a refusal, 58 and 59 for a claim that does not count, 91 where
-    /// the caller may not call, 201 where its time was over, 202 where the disk did not take its use, 203 where nobody waits any more, 2 for
-    /// want of memory.
+    /// For an answer, 0 if the token is accepted. Else the reason: 101 to 125 for a refusal, 58 and 59 for a claim that does not count, 91 if
+    /// the caller is not allowed, 201 if its time was over, 202 if the disk did not take its use, 203 if its client has left, 2 if out of
+    /// memory.
     pub status: u64,
-    /// Of an answer: the number of a request that waited for it, whose token is to be judged again; 2^64-1 where there is none.
+    /// For an answer, the number of a request that waited for it, whose token is now to be judged again; 2^64-1 if there is none.
     pub next: u64,
-    /// The use that is to be brought to the disk, whose claim is to be put, or with which the token is accepted; else zeros.
+    /// The use to write to the disk, to claim, or with which the token is accepted; else zeros.
     pub used: SvidUse,
 }
 
-// The use of a token of which there is none.
+// A use of zeros, where there is none.
 fn no_use() -> SvidUse
     ensures { result ≡ no_use }
 {

@@ -4,19 +4,19 @@ ghost use Rattle.svid_c.specs.Entries.{entry_seen, use_of};
 use crate::told::flag;
 use svid_replay::Use;
 
-/// An entry of a record: a use, that is, or a withdrawal.
+/// An entry of a record: a use or a withdrawal.
 #[repr(C)]
 #[derive(Drop)]
 pub struct SvidEntry {
-    /// 0 where the token was used, and else it was withdrawn; the calls write 1 then.
+    /// 0 if the token was used. Any other number if it was withdrawn; the calls write 1.
     pub withdrawn: u64,
     /// When the token expires, in seconds.
     pub exp: u64,
     /// When it was used or withdrawn, in seconds.
     pub at: u64,
-    /// The key by which the uses of the token are told.
+    /// The token's key, which identifies the token.
     pub key: [u8; 32],
-    /// The validator ID of the validator where it was.
+    /// The ID of the validator that accepted or withdrew it.
     pub validator_id: [u8; 16],
 }
 

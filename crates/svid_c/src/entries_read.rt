@@ -11,8 +11,8 @@ use svid_log::Value;
 use svid_replay::{Record, RunUses, Use};
 use svid_share::{MOST_BYTES, ToolFault};
 
-// Why bytes are refused that are no messages, or too many, as the calls say it that join messages to a record. (Bytes that these take are
-// read, so the last arm is never taken.)
+// The fault of bytes that are not messages, or too many, as the calls report it that join messages to a record. (Bytes that those calls
+// accept have been read, so the last arm is never taken.)
 fn why_refused(alloc: Global, messages: &[u8]) -> ToolFault
     ensures { IsRefused 1 messages.now result }
 {
@@ -23,7 +23,7 @@ fn why_refused(alloc: Global, messages: &[u8]) -> ToolFault
     }
 }
 
-// The uses of the batches of messages, in their order.
+// The uses of the batches in messages, in their order.
 fn uses_in(alloc: Global, messages: &[u8]) -> Result<Vec<Use>, ToolFault>
     ensures ok { IfOk result (λ uses. AreRead messages.now uses.items) }
     ensures fault { IfErr result (IsRefused 1 messages.now) }
@@ -50,10 +50,10 @@ fn put_entries(uses: &[Use], out: &mut [SvidEntry])
     }
 }
 
-/// Puts the uses and withdrawals of the batches of messages first into `out`, in the order in which they stand there. Summaries have none.
+/// Writes the uses and withdrawals of the batches in messages to the start of `out`, in the order of the messages. Summaries have none.
 ///
-/// 0, and `told.len` is how many there are; 1 where `out` has room for fewer, and `told.len` says for how many it must have. 3 and 11 to 18
-/// where the bytes are no row of messages, and `told` tells where; 2 for want of memory. Unless the status is 0, `out` stays as it was.
+/// Returns 0, with their number in `told.len`; or 1 if `out` has room for fewer, with the number it needs in `told.len`. 3 and 11 to 18 if
+/// the bytes are not a sequence of messages, and `told` says where; 2 if out of memory. Unless the status is 0, `out` is unchanged.
 #[unsafe(no_mangle)]
 pub extern "C" fn svid_entries_read(
     alloc: Global,

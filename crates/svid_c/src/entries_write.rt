@@ -11,7 +11,7 @@ use svid_replay::{Batch, Use};
 use svid_uses::{UsesFault, batches_of, write_batches};
 use svid_wire::MemSink;
 
-// The uses that entries are.
+// The uses of entries.
 fn uses_of(alloc: Global, entries: &[SvidEntry]) -> Result<Vec<Use>, AllocError>
     ensures { IfOk result (λ uses. uses.items ≡ map use_of entries.now) }
 {
@@ -34,7 +34,7 @@ fn text_of(alloc: Global, batches: &[Batch]) -> Result<MemSink, UsesFault>
     }
 }
 
-// The messages that tell uses.
+// The messages with these uses.
 pub(crate) fn messages_of(alloc: Global, uses: &[Use]) -> Result<MemSink, UsesFault>
     ensures ok { IfOk result (λ sink. AreWritten uses.now sink.bytes) }
     ensures fault { IfErr result (IsUsesFault uses.now) }
@@ -82,12 +82,12 @@ fn refuse_uses(fault: UsesFault, told: &mut SvidTold) -> u32
     uses_number(fault)
 }
 
-/// Puts entries first into `out` as messages: a batch for each time `at` at which entries were made, and the times rise; several batches where
-/// more than 65,536 entries were made at one time. The entries may come in any order, and one that comes twice is told once.
+/// Writes entries as messages to the start of `out`: a batch for each time `at`, in rising order of the times, and several batches if more
+/// than 65,536 entries have one time. The entries may come in any order. One that comes twice is written once.
 ///
-/// 0, and `told.len` is the length of the messages; 1 where they are longer than `out`. 15 where an entry expires when it was made, or before:
-/// no message can tell it, and `told.offset` is the number of the first such entry, counted from 0. 2 for want of memory. Unless the status
-/// is 0, `out` stays as it was.
+/// Returns 0, with the length of the messages in `told.len`; or 1 if they are longer than `out`. 15 if an entry expires at its time `at` or
+/// before: no message can hold it, and `told.offset` is the index of the first such entry, counted from 0. 2 if out of memory. Unless the
+/// status is 0, `out` is unchanged.
 #[unsafe(no_mangle)]
 pub extern "C" fn svid_entries_write(
     alloc: Global,

@@ -1,4 +1,4 @@
-// What C holds of a validator: a pointer to it on the heap, or none.
+// What C holds for a validator: a pointer to it on the heap, or none.
 ghost use Rattle.std.specs.Prelude.{◌≡◌, Option, IsSome, None, Some};
 ghost use Rattle.svid_c.specs.declared.live.Live.{Live};
 ghost use Rattle.svid_c.specs.Handle.{handle_owns, live_coded};
@@ -74,5 +74,5 @@ impl Handle {
     }
 }
 
-// So C may hand it to another thread, as long as one call at a time is given it.
+// So C may hand it to another thread, as long as it gives it to one call at a time.
 unsafe impl Send for Handle {}

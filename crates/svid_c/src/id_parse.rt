@@ -9,11 +9,11 @@ use svid_id::{IdFault, SpiffeId};
 #[repr(C)]
 #[derive(Drop)]
 pub struct SvidId {
-    /// The offset of the fault, from the first byte of the text; 0 for a fault that is told without one.
+    /// The offset of the fault, in bytes from the start of the text; 0 for a fault without one.
     pub offset: usize,
-    /// How long the trust domain name is, which stands behind `spiffe://`.
+    /// The length of the trust domain name, which follows `spiffe://`.
     pub domain_len: usize,
-    /// How long the path is, which stands behind the trust domain name.
+    /// The length of the path, which follows the trust domain name.
     pub path_len: usize,
 }
 
@@ -49,9 +49,9 @@ pub(crate) fn offset_of(fault: IdFault) -> usize
     }
 }
 
-/// Reads a SPIFFE ID (SPIFFE-ID, section 2): 0 where the text is one, and `out` has the lengths of its
-/// parts; else the number of the first fault that holds, and for 24 and 26 to 28 its offset, or 2 for want of
-/// memory.
+/// Parses a SPIFFE ID (SPIFFE-ID, section 2). Returns 0 if the text is one, and `out` has the lengths of its
+/// parts. Else returns the number of the first fault that holds, and for 24 and 26 to 28 its offset; or 2 if
+/// out of memory.
 #[unsafe(no_mangle)]
 pub extern "C" fn svid_id_parse(alloc: Global, text: &[u8], out: &mut SvidId) -> u32
     ensures accepted { result ≡ 0 → (id : IdParts) × IsId text.now id × (out.new.domain_len ≡ length id.domain) × (out.new.path_len ≡ length id.path) × (out.new.offset ≡ 0) }

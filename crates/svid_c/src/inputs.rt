@@ -9,7 +9,7 @@ use svid_keys::Bundles;
 use svid_replay::{Record, RunUses, Summary, UseStore};
 use svid_share::{MOST_BYTES, ToolFault, join_input, read_summary};
 
-// The trust bundles that the first input is.
+// The trust bundles in the first input.
 #[tactic(auto, using(crate::proofs::InputsLemmas::no_bundles))]
 pub(crate) fn bundles_of(alloc: Global, text: &[u8]) -> Result<Bundles, ToolFault>
     ensures ok { IfOk result (AreBundles text.now) }
@@ -22,7 +22,7 @@ pub(crate) fn bundles_of(alloc: Global, text: &[u8]) -> Result<Bundles, ToolFaul
     Ok(bundles)
 }
 
-// Joins the batches of the messages that the input with this number is.
+// Joins the batches of the messages in the input with this number.
 #[tactic(auto, using(crate::proofs::InputsLemmas::tells, crate::proofs::InputsLemmas::refused))]
 pub(crate) fn join_lent<T: UseStore>(
     alloc: Global,
@@ -38,7 +38,7 @@ pub(crate) fn join_lent<T: UseStore>(
     join_input(alloc, &mut source, number, &mut messages, target)
 }
 
-// The record that the batches of the input with this number come to, raised to a moment, and made quick to walk.
+// The record of the batches in the input with this number, advanced to a moment, and quick to iterate.
 pub(crate) fn record_of(
     alloc: Global,
     bytes: &[u8],
@@ -55,7 +55,7 @@ pub(crate) fn record_of(
     Ok(record)
 }
 
-// The one summary that the first input is.
+// The one summary in the first input.
 #[tactic(auto, using(crate::proofs::InputsLemmas::is_one, crate::proofs::InputsLemmas::not_one))]
 pub(crate) fn summary_in(alloc: Global, bytes: &[u8]) -> Result<Summary, ToolFault>
     ensures ok { IfOk result (λ asked. AreMessages bytes.now (SummaryTold asked ∷ [])) }

@@ -23,7 +23,7 @@ fn text_of<T: UseStore>(alloc: Global, state: &Record<T>) -> Result<MemSink, All
     }
 }
 
-// The text of what two inputs tell at a moment.
+// The text of the record of two inputs at a moment.
 fn joined(alloc: Global, a: &[u8], b: &[u8], now: u64) -> Result<MemSink, ToolFault>
     ensures ok { IfOk result (λ sink. IsJoined a.now b.now now sink.bytes) }
     ensures fault { IfErr result (AreRefused 1 (a.now ∷ b.now ∷ [])) }
@@ -36,13 +36,13 @@ fn joined(alloc: Global, a: &[u8], b: &[u8], now: u64) -> Result<MemSink, ToolFa
     Ok(text_of(alloc, &record)?)
 }
 
-/// Joins the batches of both inputs, raises the record that they come to up to the moment `now`, in seconds, and
-/// puts its text first into `out`; summaries are passed over.
+/// Joins the batches of both inputs, advances the record to the moment `now`, in seconds, and writes its text to
+/// the start of `out`. Skips summaries.
 ///
-/// 0, and `told.len` is the text's length; 1 where the text is longer than `out`: then `told.len` is its
-/// length, and `out` is as it was. Else `out` is as it was too, and the number tells why: 3 where an input has
-/// more than 67,108,864 bytes, and no field among the first 67,108,864 bytes is bad; 11 to 18 where it is no row of
-/// messages, and `told` tells which, in which message and where; 2 for want of memory.
+/// Returns 0, with the text's length in `told.len`; or 1 if the text is longer than `out`, also with its length. 3
+/// if an input has more than 67,108,864 bytes, and no field among the first 67,108,864 bytes is bad; 11 to 18 if it
+/// is not a sequence of messages, and `told` says which input, which message and where; 2 if out of memory. Unless
+/// the status is 0, `out` is unchanged.
 #[unsafe(no_mangle)]
 pub extern "C" fn svid_join(
     alloc: Global,

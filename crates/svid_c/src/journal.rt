@@ -5,29 +5,29 @@ ghost use Rattle.svid_c.specs.Status.{told_length};
 use crate::told::{SvidTold, told_length};
 use svid_journal::{Fault, Folder, Words};
 
-/// How a state folder stands: eight numbers that C keeps. Each call reads and checks them.
+/// The state of a folder: eight numbers that C keeps. Each call reads and checks them.
 #[repr(C)]
 #[derive(Drop)]
 pub struct SvidFolder {
-    /// The number of the step: what is due.
+    /// The number of the step, which says what is due.
     pub step: u64,
-    /// No journal of a smaller number is there.
+    /// No journal with a smaller number exists.
     pub oldest: u64,
-    /// The journal that grows; at a start, the greatest number that was found.
+    /// The journal that frames are appended to. At a start, the greatest number that was found.
     pub newest: u64,
     /// 1 after a sync that failed, and else 0.
     pub ended: u64,
-    /// How many frames of the journal that grows are synced.
+    /// How many frames of that journal are synced.
     pub count: u64,
     /// How many bytes they take.
     pub end: u64,
-    /// How many bytes the frame takes that was handed out and is not synced, or 0.
+    /// The length in bytes of the frame that was handed out and is not synced yet, or 0.
     pub flying: u64,
     /// How many pieces of a snapshot were handed out.
     pub pieces: u64,
 }
 
-/// What tells a state folder from each other one.
+/// Tells a state folder from every other one.
 #[repr(C)]
 #[derive(Drop)]
 pub struct SvidFolderId {
@@ -36,7 +36,7 @@ pub struct SvidFolderId {
 }
 
 impl SvidFolder {
-    // The folder that has these numbers, if there is one.
+    // The folder with these numbers, if they are those of one.
     pub(crate) fn folder(&self) -> Option<Folder>
         ensures some { IfSome result (AreOf self.now) }
         ensures none { IfNone result (AreOfNone self.now) }
@@ -101,7 +101,7 @@ pub(crate) fn folder_number(fault: Fault) -> u32
     }
 }
 
-// How many bytes a room must have that is too short, and else 0.
+// How many bytes `out` needs if it is too short, and else 0.
 fn wanted_of(fault: Fault) -> usize
     ensures { result ≡ wanted_of fault }
 {
@@ -121,7 +121,7 @@ fn wanted_of(fault: Fault) -> usize
     }
 }
 
-// Tells why there is no frame.
+// Reports why there is no frame.
 pub(crate) fn refuse_frame(fault: Fault, told: &mut SvidTold) -> u32
     ensures number { result ≡ folder_number fault }
     ensures told { told.new ≡ told_length (wanted_of fault) }

@@ -4,15 +4,15 @@ ghost use Rattle.svid_c.specs.Payloads.{Bears, mark_of};
 use crate::validator_mark::SvidMark;
 use svid_journal::{LOG_POSITION_LEN, LogPosition};
 
-/// What a payload bears.
+/// The parts of a payload.
 #[repr(C)]
 #[derive(Drop)]
 pub struct SvidBears {
-    /// Where a validator was in its log as the payload was written, and else 0.
+    /// The validator's position in its log when the payload was written, and else 0.
     pub mark: SvidMark,
-    /// 1 where the payload begins with that, and else 0.
+    /// 1 if the payload begins with a position, and else 0.
     pub marked: usize,
-    /// Where in the payload its messages begin.
+    /// The offset of its messages in the payload.
     pub messages: usize,
 }
 
@@ -26,8 +26,7 @@ fn mark_of(position: &LogPosition) -> SvidMark
     }
 }
 
-/// Tells what a payload bears: the position of a validator in its log, where it begins with one, and where its messages begin. It does not look
-/// at the messages.
+/// Says whether a payload begins with the position of a validator in its log, and where its messages begin. Does not look at the messages.
 #[unsafe(no_mangle)]
 pub extern "C" fn svid_journal_bears(payload: &[u8], bears: &mut SvidBears)
     ensures { Bears payload.now bears.new }

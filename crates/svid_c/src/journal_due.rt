@@ -4,14 +4,14 @@ ghost use Rattle.svid_c.specs.Journal.{IsDue, call_of};
 use crate::journal::{SvidFolder, folder_number};
 use svid_journal::Call;
 
-/// A call of the system that is due.
+/// The system call that is due.
 #[repr(C)]
 #[derive(Drop)]
 pub struct SvidDue {
-    /// Which: 0 for none, 1 to make an empty journal, 2 to sync the folder, 3 to write the snapshot beside the old one, 4 to sync it, 5 to
-    /// rename it over the old one, 6 to remove a journal.
+    /// 0 for none, 1 to make an empty journal, 2 to sync the folder, 3 to write the snapshot beside the old one, 4 to sync it, 5 to rename
+    /// it over the old one, 6 to remove a journal.
     pub call: u64,
-    /// For 1 and 6 the number of the journal, and else 0.
+    /// For 1 and 6, the number of the journal, and else 0.
     pub journal: u64,
 }
 
@@ -30,8 +30,8 @@ fn call_of(call: Call) -> SvidDue
     SvidDue { call, journal }
 }
 
-/// Tells which call of the system is due. 42 after a sync that failed; 41 where the numbers are those of no folder. Then `due` stays as it
-/// was.
+/// Says which system call is due. Returns 0; 42 after a sync that failed; 41 if the numbers are not those of a folder. Unless the status
+/// is 0, `due` is unchanged.
 #[unsafe(no_mangle)]
 pub extern "C" fn svid_journal_due(f: &SvidFolder, due: &mut SvidDue) -> u32
     ensures { IsDue f.now result due.old due.new }

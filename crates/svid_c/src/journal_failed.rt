@@ -3,8 +3,8 @@ ghost use Rattle.svid_c.specs.Journal.{Moves};
 
 use crate::journal::{SvidFolder, folder_number};
 
-/// Tells that a sync of the journal that grows failed. Nothing is acknowledged any more until the next start. 42 after a sync that failed
-/// before; 41 where the numbers are those of no folder. Then `f` stays as it was.
+/// Reports that a sync of the journal failed. Nothing is acknowledged until the next start. Returns 0; 42 after an earlier sync that
+/// failed; 41 if the numbers are not those of a folder. Unless the status is 0, `f` is unchanged.
 #[unsafe(no_mangle)]
 pub extern "C" fn svid_journal_failed(f: &mut SvidFolder) -> u32
     ensures { Moves ready_fault ended result f.old f.new }

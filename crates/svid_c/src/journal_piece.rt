@@ -6,8 +6,8 @@ use crate::journal::{SvidFolder, SvidFolderId, refuse_frame};
 use crate::told::{SvidTold, told_length};
 use crate::validator::only;
 
-/// Puts the frame of the next piece of a snapshot first into `out`. It is to be written behind the pieces before it; an empty payload is the
-/// mark that ends the snapshot. 48 where no snapshot is being written; else what it answers is as of [`svid_journal_put`](crate::journal_put::svid_journal_put).
+/// Writes the frame of the next piece of a snapshot to the start of `out`. Append it to the pieces before it. An empty payload is the mark that ends
+/// the snapshot. 48 if no snapshot is being written; else it answers as [`svid_journal_put`](crate::journal_put::svid_journal_put) does.
 #[unsafe(no_mangle)]
 pub extern "C" fn svid_journal_piece(
     f: &mut SvidFolder,

@@ -19,8 +19,8 @@ fn position_of(mark: &SvidMark) -> LogPosition
     }
 }
 
-/// Puts the position of a validator in its log first into `out`, as the front of a payload: 0. Its messages stand behind it, or none. 1 where
-/// `out` is shorter than the 28 bytes of the position: then it stays as it was. `told.len` is 28.
+/// Writes the position of a validator in its log to the start of `out`, as the first part of a payload, and returns 0. Append messages to it,
+/// or none. `told.len` is 28. 1 if `out` is shorter than these 28 bytes: it is unchanged.
 #[unsafe(no_mangle)]
 pub extern "C" fn svid_journal_position(mark: &SvidMark, out: &mut [u8], told: &mut SvidTold) -> u32
     ensures put { IsPut (position_text (position_of mark.now)) result out.old out.new }

@@ -6,10 +6,12 @@ use crate::journal::{SvidFolder, SvidFolderId, refuse_frame};
 use crate::told::{SvidTold, told_length};
 use crate::validator::only;
 
-/// Puts the frame of a payload first into `out`; an empty payload is a mark. 0, and `told.len` is its length: it is to be written at `f.end`
-/// of the journal `f.newest`. 1 where it is longer than `out`: then `told.len` is its length. 42 after a sync that failed; 43 where no
-/// journal grows yet; 46 while the frame before it is not synced; 50 where the payload has more than 16,777,215 bytes; 51 where a number of
-/// the folder has come to its end; 41 where the numbers are those of no folder. Then `f` and `out` stay as they were.
+/// Writes the frame of a payload to the start of `out`. An empty payload is a mark. Returns 0, with the frame's length in `told.len`: write
+/// it at offset `f.end` of the journal `f.newest`. Returns 1 if it is longer than `out`, also with its length.
+///
+/// 42 after a sync that failed; 43 if there is no journal to append to yet; 46 while the frame before it is not synced; 50 if the payload
+/// has more than 16,777,215 bytes; 51 if a number of the folder has reached its limit; 41 if the numbers are not those of a folder. Unless
+/// the status is 0, `f` and `out` are unchanged.
 #[unsafe(no_mangle)]
 pub extern "C" fn svid_journal_put(
     f: &mut SvidFolder,

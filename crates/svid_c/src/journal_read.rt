@@ -5,19 +5,19 @@ use crate::journal::SvidFolderId;
 use crate::told::flag;
 use svid_journal::{FORMAT, File, Next, Reader, Title};
 
-/// How far a file is read. C makes it with all its bytes 0, and only the calls write it.
+/// How far a file is read. C makes it with all bytes 0, and only the calls write it.
 #[repr(C)]
 #[derive(Drop)]
 pub struct SvidReader {
     /// How many frames were read.
     pub count: u64,
-    /// How many bytes they take: the offset of the next one.
+    /// How many bytes they take, which is the offset of the next one.
     pub at: u64,
-    /// 1 where the last of them is a mark, and else 0.
+    /// 1 if the last of them is a mark, and else 0.
     pub marked: u64,
 }
 
-/// What stands in a file.
+/// A frame in a file.
 #[repr(C)]
 #[derive(Drop)]
 pub struct SvidFrame {
@@ -68,13 +68,14 @@ fn reader_out(reader: &Reader) -> SvidReader
     }
 }
 
-/// Reads the next frame of a file of the state folder `folder_id`: of the journal of this number, or of the snapshot where `journal` is 0.
-/// `bytes` are those of the whole file.
+/// Reads the next frame of a file of the state folder `folder_id`: of the journal with this number, or of the snapshot if `journal` is 0.
+/// `bytes` is the whole file.
 ///
-/// 0, and `frame` tells where in `bytes` its payload stands, and the reader goes on behind it. Else the reader stays, and the number tells
-/// what stands at its offset, `reader.at`: 52 the end; 53 a write that was cut off; 54 what was synced and has changed; 55 a frame of another
-/// format, whose number `frame.format` is then, and the rest of `frame` 0; 41 where the numbers of the reader do not fit the bytes. But for
-/// 0 and 55 `frame` stays as it was too.
+/// Returns 0: `frame` says where in `bytes` the payload stands, and the reader advances past it. Else the reader is unchanged, and the status
+/// says what is at its offset `reader.at`: 52 the end; 53 a write that was cut off; 54 a frame that was synced and has changed; 55 a frame of
+/// another format. 41 if the numbers of the reader do not fit the bytes.
+///
+/// For 55, `frame.format` is the number of that format, and the rest of `frame` is 0. For any other status but 0, `frame` is unchanged.
 #[unsafe(no_mangle)]
 pub extern "C" fn svid_journal_read(
     folder_id: &SvidFolderId,

@@ -3,9 +3,9 @@ ghost use Rattle.svid_c.specs.Journal.{Moves};
 
 use crate::journal::{SvidFolder, folder_number};
 
-/// Tells that the frame of [`svid_journal_put`](crate::journal_put::svid_journal_put) was written and synced: it is acknowledged, and the
-/// next one goes behind it. 42 after a sync that failed; 47 where no frame was handed out; 41 where the numbers are those of no folder. Then
-/// `f` stays as it was.
+/// Reports that the frame of [`svid_journal_put`](crate::journal_put::svid_journal_put) was written and synced. It is then acknowledged, and
+/// the next one follows it. Returns 0; 42 after a sync that failed; 47 if no frame was handed out; 41 if the numbers are not those of a
+/// folder. Unless the status is 0, `f` is unchanged.
 #[unsafe(no_mangle)]
 pub extern "C" fn svid_journal_synced(f: &mut SvidFolder) -> u32
     ensures { Moves landed_fault landed result f.old f.new }

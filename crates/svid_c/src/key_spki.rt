@@ -27,7 +27,7 @@ fn key_number(fault: KeyFault) -> u32
     }
 }
 
-// The algorithm of a name, if it is the name of one.
+// The algorithm with this name, if there is one.
 fn alg_of(name: &[u8]) -> Option<Alg>
     ensures { result ≡ alg_named name.now }
 {
@@ -37,12 +37,12 @@ fn alg_of(name: &[u8]) -> Option<Alg>
     }
 }
 
-/// Puts a public key first into `out`, as SubjectPublicKeyInfo in DER (RFC 5280, section 4.1.2.7): that which `key` is as JSON (RFC
-/// 7517), for the algorithm of the name `alg`, as [`svid_bundles_ask`](crate::bundles_ask::svid_bundles_ask) lists both. An RSA key
-/// has at most `most_bits` bits, and never more than 16,384.
+/// Writes a public key to the start of `out`, as SubjectPublicKeyInfo in DER (RFC 5280, section 4.1.2.7). `key` is the key as JSON
+/// (RFC 7517) and `alg` the name of the algorithm, as [`svid_bundles_ask`](crate::bundles_ask::svid_bundles_ask) lists both. An RSA
+/// key may have at most `most_bits` bits, and never more than 16,384.
 ///
-/// 0, and `out` has the key; 1 where it is longer than `out`, which it never is where that has 2,100 bytes; 70 where no algorithm has
-/// the name, and else of 71 to 79 the first that holds, as of [`KeyFault`]; 2 for want of memory.
+/// Returns 0, with the length in `told.len`; or 1 if the key is longer than `out`. 2,100 bytes are always enough. 70 if no algorithm
+/// has the name; 71 to 79 for the first fault that holds, in the order of [`KeyFault`]; 2 if out of memory.
 #[unsafe(no_mangle)]
 pub extern "C" fn svid_key_spki(
     alloc: Global,

@@ -23,13 +23,13 @@ fn entry_number(fault: EntryFault) -> u32
     }
 }
 
-/// Puts the text of a key for JWT-SVIDs first into `out`: that which `entry` is, an entry of `keys` of a trust bundle (RFC 7517, section 5;
-/// SPIFFE Trust Domain and Bundle, section 4). It is the text that [`svid_bundles_ask`](crate::bundles_ask::svid_bundles_ask) lists for the
-/// key: compact JSON, with its names in rising order.
+/// Writes the text of a key for JWT-SVIDs to the start of `out`. `entry` is an entry of `keys` of a trust bundle (RFC 7517, section 5;
+/// SPIFFE Trust Domain and Bundle, section 4). The text is the one that [`svid_bundles_ask`](crate::bundles_ask::svid_bundles_ask) lists
+/// for the key: compact JSON, with its names in rising order.
 ///
-/// 0, and `told.len` is the text's length; 1 where it is longer than `out`, which it never is where that has 65,536 bytes; of 61 to 68 the
-/// first that holds, as of [`EntryFault`], where the entry is no such key; 2 for want of memory. Unless the status is 0, `out` stays as it
-/// was.
+/// Returns 0, with the text's length in `told.len`; or 1 if it is longer than `out`. 65,536 bytes are always enough. 61 to 68 for the first
+/// fault that holds, in the order of [`EntryFault`], if the entry is not such a key; 2 if out of memory. Unless the status is 0, `out` is
+/// unchanged.
 #[unsafe(no_mangle)]
 pub extern "C" fn svid_key_text(
     alloc: Global,

@@ -1,9 +1,10 @@
-//! What C calls: the libraries of this repository as functions from bytes to bytes. `svid.h` declares them.
+//! The functions that C calls: the crates of this repository as functions from bytes to bytes. `svid.h`
+//! declares them.
 //!
-//! Each answers a status: 0 where it did what it is for, and else a number that tells why not. What else it
-//! answers stands in a structure that the caller lends, and text in room that the caller lends: where that is
-//! too short, the call says how long it must be and leaves it as it was. Nothing that was allocated outlives a
-//! call, but for what a validator or trust bundles hold that C keeps: that is given back when they are closed.
+//! Each call returns a status: 0 if it succeeded, and else a number that says why not. Further answers go into
+//! structures that the caller lends, and text into room that the caller lends. If that room is too short, the
+//! call says how much it needs, and leaves it unchanged. Memory outlives a call only in handles that C keeps
+//! (a validator, trust bundles, a token), and closing a handle frees it.
 #![tactic(auto)]
 
 mod answer;

@@ -9,7 +9,7 @@ use svid_replay::RunUses;
 use svid_shards::ShardedUses;
 use svid_token::Alg;
 
-/// A verifier that says yes to nothing. A validator of C has it: each of its checks brings the answers with it.
+/// A verifier that says yes to nothing. A validator of C has this one, because each of its checks brings its own answers.
 #[derive(Drop)]
 pub struct Nobody;
 
@@ -26,8 +26,8 @@ impl Verifier for Nobody {
 /// The store of the uses of a validator that C keeps.
 pub(crate) type Store = ShardedUses<RunUses>;
 
-/// What a handle of C holds: a validator, how far its clock may go in one step, where it is in a log, if it reads one, and the member that
-/// answers requests by it, if there is one.
+/// What a handle of C holds: a validator, how far its clock may go in one step, its position in a log, if it reads one, and the member
+/// that answers requests, if there is one.
 #[derive(Drop)]
 pub struct Live {
     pub(crate) validator: Validator<Nobody, Store>,
@@ -37,7 +37,7 @@ pub struct Live {
 }
 
 impl Live {
-    // Whether a moment lies too far past the record's. A record that has seen no moment takes any.
+    // Whether a moment is too far past the record's. A record that has seen no moment accepts any.
     pub(crate) fn jumps(&self, now: u64) -> bool
         ensures { result ≡ is_jump self.now now }
     {

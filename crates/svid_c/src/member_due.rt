@@ -6,7 +6,7 @@ use crate::live::Live;
 use crate::validator::SvidValidator;
 use std::alloc::Global;
 
-/// A moment by a clock that only goes ahead; 2^64-1 where there is none.
+/// A moment by a clock that never goes back; 2^64-1 if there is none.
 #[repr(C)]
 #[derive(Drop)]
 pub struct SvidDeadline {
@@ -28,10 +28,10 @@ fn due(live: &Live, due: &mut SvidDeadline) -> u32
     0
 }
 
-/// Tells when a request or a withdrawal of a member is due: then [`svid_member_overdue`](crate::member_wrote::svid_member_overdue) answers the one, and
-/// [`svid_withdrawal_overdue`](crate::withdrawal_come::svid_withdrawal_overdue) the other.
+/// Says when a request or a withdrawal of a member is due. At that moment call [`svid_member_overdue`](crate::member_wrote::svid_member_overdue) and
+/// [`svid_withdrawal_overdue`](crate::withdrawal_come::svid_withdrawal_overdue).
 ///
-/// 20 where the validator has no member, 5 where it is closed.
+/// 20 if the validator has no member, 5 if it is closed.
 #[unsafe(no_mangle)]
 pub extern "C" fn svid_member_due(
     alloc: Global,

@@ -21,15 +21,15 @@ use svid_claims::{Found, Outcome, Owner};
 use svid_requests::Deed;
 use svid_token::Refusal;
 
-/// What a store answered to a put.
+/// A store's answer to a put.
 #[repr(C)]
 #[derive(Drop)]
 pub struct SvidFound {
     /// The store's time, in seconds, read at the put or after it.
     pub time: u64,
-    /// Tokens that expire by then may have been claimed before the store lost entries; 0 if it never lost one.
+    /// Tokens that expire by this time may have been claimed before the store lost entries; 0 if it never lost one.
     pub deaf: u64,
-    /// What the key has after the put.
+    /// The owner that the key has after the put.
     pub owner: [u8; 32],
 }
 
@@ -44,7 +44,7 @@ fn found_in(found: &SvidFound) -> Found
     }
 }
 
-// Tells what became of a claim: of one that counts, what the validator answered.
+// Reports the outcome of a claim: if the claim counts, the validator's answer.
 fn tell_outcome(
     outcome: Outcome,
     answer: Option<Result<Accepted, Refusal>>,
@@ -65,7 +65,7 @@ fn tell_outcome(
     }
 }
 
-// The same, if the request waited for that.
+// The same, if the request waited for it.
 fn tell_claim(
     outcome: Option<Outcome>,
     answer: Option<Result<Accepted, Refusal>>,
@@ -83,7 +83,7 @@ fn tell_claim(
 }
 
 impl Peer {
-    // Lets a request hear what the store answered to its claim.
+    // Gives a request the store's answer to its claim.
     fn find(
         &mut self,
         validator: &mut Validator<Nobody, Store>,
@@ -123,7 +123,7 @@ impl Peer {
     }
 }
 
-// The same by what a handle holds.
+// The same for what a handle holds.
 fn find(
     live: &mut Live,
     now: u64,
@@ -167,7 +167,7 @@ fn find(
     )
 }
 
-// The same by the member of a handle.
+// The same for the member of a handle.
 fn find_held(
     alloc: Global,
     v: &mut SvidValidator,
@@ -199,13 +199,13 @@ fn find_held(
     status
 }
 
-/// Lets a request of a member hear what the store answered to its claim, or to any put of the same claim. `key`, `input`, `signature` and `t` are of
-/// its token, as for [`svid_member_judge`](crate::member_judge::svid_member_judge). `caller` counts in mode bound alone: it is 32 bytes that tell who
-/// presents the token. If the claim counts, the token is judged once more, and in mode strict the record gains its use. If the store says that the
-/// token was withdrawn, so does the record from now on, unless memory is refused.
+/// Gives a request of a member the store's answer to its claim, or to any put of the same claim. `key`, `input`, `signature` and `t` belong to its
+/// token, as for [`svid_member_judge`](crate::member_judge::svid_member_judge). `caller` is used in mode bound alone: 32 bytes that identify the
+/// caller. If the claim counts, the token is judged again, and in mode strict the record gains its use. If the store says that the token was
+/// withdrawn, the record gains that withdrawal, unless out of memory.
 ///
-/// 0 where the token is accepted: `out` has the SPIFFE ID of its subject, and `used` is its use. 56 to 60 where the claim does not count. 101 to 125
-/// and 2 where the token is refused, and 91 where it is good, and its subject may not call. 29 where the request does not wait for the answer to a
+/// Returns 0 if the token is accepted: `out` has the SPIFFE ID of its subject, and `used` is its use. 56 to 60 if the claim does not count. 101 to
+/// 125 and 2 if the token is refused; 91 if the token is good, but its subject may not call. 29 if the request does not wait for the answer to a
 /// claim of this token, or its time is over: then nothing happened.
 ///
 /// 5, 9, 1, 10 and 20 as for [`svid_member_judge`](crate::member_judge::svid_member_judge).

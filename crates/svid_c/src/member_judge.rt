@@ -22,7 +22,7 @@ use svid_member::reason_of;
 use svid_requests::Deed;
 use svid_token::Refusal;
 
-// Tells what a validator answered.
+// Reports a validator's answer.
 fn tell_result(
     answer: Result<Accepted, Refusal>,
     out: &mut [u8],
@@ -38,7 +38,7 @@ fn tell_result(
     }
 }
 
-// The same, if it was asked.
+// The same, if the validator was asked.
 pub(crate) fn tell_answer(
     answer: Option<Result<Accepted, Refusal>>,
     out: &mut [u8],
@@ -54,7 +54,7 @@ pub(crate) fn tell_answer(
     }
 }
 
-// Why a token of a caller that may not call is refused: its own fault comes first.
+// Why a token is refused whose caller is not allowed: a fault of the token comes first.
 pub(crate) fn number_if_not_allowed(answer: &Result<Accepted, Refusal>) -> u8
     ensures { result ≡ number_if_not_allowed answer.now }
 {
@@ -65,7 +65,7 @@ pub(crate) fn number_if_not_allowed(answer: &Result<Accepted, Refusal>) -> u8
 }
 
 impl Peer {
-    // Lets a validator judge the token of a request.
+    // Has a validator judge the token of a request.
     fn judge(
         &mut self,
         validator: &mut Validator<Nobody, Store>,
@@ -100,7 +100,7 @@ impl Peer {
     }
 }
 
-// Lets the validator judge the token of a request.
+// Has the validator judge the token of a request.
 fn judge(
     live: &mut Live,
     now: u64,
@@ -140,7 +140,7 @@ fn judge(
     )
 }
 
-// Lets the validator of a handle judge the token of a request.
+// Has the validator of a handle judge the token of a request.
 fn judge_held(
     alloc: Global,
     v: &mut SvidValidator,
@@ -168,16 +168,16 @@ fn judge_held(
     status
 }
 
-/// Lets a validator judge the token of a request of its member: that of an open handle, which stays as it is. `key`, `input` and `signature` are as
-/// for [`svid_validator_check_token`](crate::validator_check_token::svid_validator_check_token). `deed` says what is to be done. In mode once the record
-/// gains the use of an accepted token.
+/// Judges the token of a request of a validator's member. `t` is the open handle of that token, and stays as it is. `key`, `input` and `signature`
+/// are as for [`svid_validator_check_token`](crate::validator_check_token::svid_validator_check_token). `deed` says what to do next. In mode once the
+/// record gains the use of an accepted token.
 ///
-/// 0 where the token is accepted: `out`, which has room for 2,048 bytes, has the SPIFFE ID of its subject, and `used` is its use. 101 to 125 and 2
-/// where it is refused. 91 where it is good, and its subject may not call: nothing is added then. 29 where the request does not wait for a judgment,
-/// or its time is over: then the validator was not asked.
+/// Returns 0 if the token is accepted: `out`, which has room for 2,048 bytes, has the SPIFFE ID of its subject, and `used` is its use. 101 to 125 and
+/// 2 if it is refused. 91 if it is good, but its subject may not call: nothing is added. 29 if the request does not wait for a judgment, or its time
+/// is over: the validator was not asked.
 ///
-/// 5 where the validator or the token's handle is closed, 9 where `now` is more than `step` past the record's moment, 1 where `out` is shorter than
-/// 2,048 bytes, 10 where the validator reads a log, and 20 where it has no member: then nothing happened.
+/// 5 if the validator or the token's handle is closed, 9 if `now` is more than `step` past the record's moment, 1 if `out` is shorter than 2,048
+/// bytes, 10 if the validator reads a log, 20 if it has no member. Then nothing happened.
 #[unsafe(no_mangle)]
 pub extern "C" fn svid_member_judge(
     alloc: Global,

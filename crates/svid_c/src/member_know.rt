@@ -9,13 +9,13 @@ use crate::validator::SvidValidator;
 use std::alloc::Global;
 use svid_member::{Readiness, Unready};
 
-/// What a member knows that it is told. Each is 0 for no.
+/// The facts that the caller gives a member. In each, 0 means no.
 #[repr(C)]
 #[derive(Drop)]
 pub struct SvidKnown {
     /// It has a trust bundle.
     pub bundled: u64,
-    /// Its state folder is read, or it has none.
+    /// Its state folder has been read, or it has none.
     pub loaded: u64,
     /// The store was reached, or it has none.
     pub opened: u64,
@@ -23,9 +23,9 @@ pub struct SvidKnown {
     pub heard: u64,
     /// The broker of the group was reached, or it has none.
     pub joined: u64,
-    /// What the group had is read, or it has no broker.
+    /// The group's messages have been read, or it has no broker.
     pub caught_up: u64,
-    /// It is to end soon.
+    /// It is going to end soon.
     pub draining: u64,
     /// Its clock went ahead too far at once.
     pub jumped: u64,
@@ -33,13 +33,14 @@ pub struct SvidKnown {
     pub full: u64,
     /// The store has not answered for longer than a request waits.
     pub away: u64,
-    /// The store has lost entries, so that no token is accepted that lives as long as it may.
+    /// The store has lost entries, so a token with the longest possible life is not accepted.
     pub deaf: u64,
     /// It has ended.
     pub ended: u64,
 }
 
-// What a member knows that is told this. (Whether the state folder took the last acceptance it knows by itself.)
+// A member's readiness by these facts. (The member itself keeps whether the state folder took the last
+// acceptance.)
 fn known_in(known: &SvidKnown) -> Readiness
     ensures { result ≡ known_in known.now }
 {
@@ -98,9 +99,9 @@ fn know(live: &mut Live, known: &SvidKnown) -> u32
     0
 }
 
-/// Tells a member all that it is to know from now on. No request that is open changes.
+/// Replaces all the facts that a member has. Open requests stay as they are.
 ///
-/// 20 where the validator has no member, 5 where it is closed.
+/// 20 if the validator has no member, 5 if it is closed.
 #[unsafe(no_mangle)]
 pub extern "C" fn svid_member_know(alloc: Global, v: &mut SvidValidator, known: &SvidKnown) -> u32
     ensures { CallsHandle (Knows known.now result) result v.old.handle.live v.new.handle.live }
@@ -141,9 +142,9 @@ fn blocks(live: &Live) -> u32
     number_of_any(peer.member.blocks())
 }
 
-/// Whether tokens are to be sent to a member: 0, or 211 to 222 for the first reason why not.
+/// Whether a member is ready to get tokens: 0, or 211 to 222 for the first reason why not.
 ///
-/// 20 where the validator has no member, 5 where it is closed.
+/// 20 if the validator has no member, 5 if it is closed.
 #[unsafe(no_mangle)]
 pub extern "C" fn svid_member_ready(alloc: Global, v: &mut SvidValidator) -> u32
     ensures { CallsHandle (Doubts result) result v.old.handle.live v.new.handle.live }
@@ -158,7 +159,7 @@ pub extern "C" fn svid_member_ready(alloc: Global, v: &mut SvidValidator) -> u32
 
 /// Whether a member judges tokens: 0, or 211 to 217 for the first reason why not.
 ///
-/// 20 where the validator has no member, 5 where it is closed.
+/// 20 if the validator has no member, 5 if it is closed.
 #[unsafe(no_mangle)]
 pub extern "C" fn svid_member_judges(alloc: Global, v: &mut SvidValidator) -> u32
     ensures { CallsHandle (Blocks result) result v.old.handle.live v.new.handle.live }

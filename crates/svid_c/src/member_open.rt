@@ -8,7 +8,7 @@ use crate::validator::SvidValidator;
 use std::alloc::Global;
 use svid_member::{Member, Mode, Readiness, Withdrawals};
 
-/// What a member is given for its life.
+/// The terms that a member has for its whole life.
 #[repr(C)]
 #[derive(Drop)]
 pub struct SvidMemberTerms {
@@ -18,26 +18,26 @@ pub struct SvidMemberTerms {
     pub disk: u64,
     /// Whether there is a store.
     pub store: u64,
-    /// Whether there is a log that tells withdrawals.
+    /// Whether there is a log that carries withdrawals.
     pub log: u64,
-    /// Within how long each request and each withdrawal is answered, by the clock of `up`.
+    /// The longest time to answer a request or a withdrawal, by the clock of `up`.
     pub wait: u64,
-    /// How many seconds the store's time may be ahead of the own clock.
+    /// How many seconds the store's time may be ahead of this process's clock.
     pub ahead: u64,
     /// How many seconds past the store's time a token may expire.
     pub lasts: u64,
-    /// 16 random bytes, which each start takes anew.
+    /// 16 random bytes, new at each start.
     pub life: [u8; 16],
 }
 
-// Whether a number says yes.
+// Whether a number means yes.
 pub(crate) fn is_set(number: u64) -> bool
     ensures { result ≡ is_set number }
 {
     number != 0
 }
 
-// The mode of a number.
+// The mode with this number.
 fn mode_in(number: u64) -> Option<Mode>
     ensures { result ≡ mode_in number }
 {
@@ -50,7 +50,7 @@ fn mode_in(number: u64) -> Option<Mode>
     }
 }
 
-// What a member knows at first: nothing.
+// The facts of a new member: none.
 fn known_at_first() -> Readiness
     ensures { result ≡ known_at_first }
 {
@@ -71,7 +71,7 @@ fn known_at_first() -> Readiness
     }
 }
 
-// A member that begins.
+// A new member.
 fn peer_of(alloc: Global, mode: Mode, terms: &SvidMemberTerms) -> Peer
     ensures { result ≡ peer_of mode terms.now }
 {
@@ -116,10 +116,10 @@ fn begin(alloc: Global, live: &mut Live, terms: &SvidMemberTerms) -> u32
     0
 }
 
-/// Lets a validator answer requests: it has a member from now on, with no requests, which judges no token before
-/// [`svid_member_know`](crate::member_know::svid_member_know) tells it what it has. All may call. No memory is taken.
+/// Gives a validator a member, which answers requests. It begins with no requests, and judges no token before
+/// [`svid_member_know`](crate::member_know::svid_member_know). All may call. Allocates nothing.
 ///
-/// 10 where the validator reads a log, 6 where it has a member, and 30 where `mode` is none: then nothing happened. 5 where the validator is closed.
+/// 10 if the validator reads a log, 6 if it has a member already, 30 if `mode` is not a mode: then nothing happened. 5 if the validator is closed.
 #[unsafe(no_mangle)]
 pub extern "C" fn svid_member_open(
     alloc: Global,

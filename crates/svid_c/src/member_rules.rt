@@ -29,11 +29,12 @@ fn replace(alloc: Global, live: &mut Live, own: &[u8], all: u64, callers: &[u8])
     0
 }
 
-/// Replaces the audiences of a validator, and who may call its member, at once: 0. `own` are audiences, in lines. Where `all` is not 0, all may call, and
-/// `callers` does not count; else those may that one of the patterns in its lines allows. Empty lines are passed over. The record stays as it is.
+/// Replaces the audiences of a validator, and who may call its member, in one step, and returns 0. `own` has an audience in each line. If `all` is
+/// not 0, all may call, and `callers` is ignored. Else `callers` has a pattern in each line, and those may call that one of them allows. Skips empty
+/// lines. The record is unchanged.
 ///
-/// 35 where an audience is not UTF-8, 92 to 99 where a line of `callers` is no pattern, 2 for want of memory, and 20 where the validator has no member:
-/// then nothing happened. 5 where the validator is closed.
+/// 35 if an audience is not UTF-8, 92 to 99 if a line of `callers` is not a pattern, 2 if out of memory, 20 if the validator has no member: then
+/// nothing happened. 5 if the validator is closed.
 #[unsafe(no_mangle)]
 pub extern "C" fn svid_member_rules(
     alloc: Global,

@@ -12,20 +12,20 @@ use std::alloc::Global;
 use svid_member::{Coming, Member};
 use svid_requests::Deed;
 
-/// What a member hears of a request.
+/// An event of a request that the caller reports to a member.
 #[derive(Clone, Copy)]
 pub enum Heard {
-    /// Its use is on the disk, or could not be brought there, where the second number is 0.
+    /// Its use is on the disk; or could not be written, if the second number is 0.
     Wrote(u64, u64),
-    /// Its claim is about to go out.
+    /// Its claim is about to be sent.
     Send(u64),
-    /// Nobody waits any more for the answer.
+    /// Its client has left.
     Leave(u64),
     /// Time has passed.
     Overdue,
 }
 
-// Lets a member hear of something.
+// Reports an event to a member.
 fn tell(member: &mut Member, up: u64, heard: Heard) -> Deed
     ensures { Tells up heard member.old result member.new }
 {
@@ -37,7 +37,7 @@ fn tell(member: &mut Member, up: u64, heard: Heard) -> Deed
     }
 }
 
-// Tells what becomes of a request that comes.
+// Reports what becomes of a new request.
 fn tell_coming(coming: Coming, deed: &mut SvidDeed) -> u32
     ensures { TellsComing coming result deed.old deed.new }
 {
@@ -77,7 +77,7 @@ fn hear(live: &mut Live, up: u64, heard: Heard, deed: &mut SvidDeed) -> u32
     0
 }
 
-// Lets the member of a handle hear of something.
+// Reports an event to the member of a handle.
 fn hear_held(
     alloc: Global,
     v: &mut SvidValidator,
@@ -104,11 +104,11 @@ fn come(live: &mut Live, up: u64, deed: &mut SvidDeed) -> u32
     peer.come(up, deed)
 }
 
-/// A request comes to a member: 0, and `deed` has its number: find the key that made the signature of its token, and let
-/// [`svid_member_judge`](crate::member_judge::svid_member_judge) judge it. There is nothing to do where no number is left.
+/// Adds a request to a member. Returns 0, and `deed` has its number: find the key that made the signature of its token, and call
+/// [`svid_member_judge`](crate::member_judge::svid_member_judge). If no number is left, `deed` has nothing to do.
 ///
-/// 211 to 217 where a reason says that no token is judged yet, and 2 for want of memory: then nothing came. 20 where the validator has no member, 5
-/// where it is closed.
+/// 211 to 217 for the reason why no token is judged yet, 2 if out of memory: no request was added. 20 if the validator has no member, 5 if it is
+/// closed.
 #[unsafe(no_mangle)]
 pub extern "C" fn svid_member_come(
     alloc: Global,
@@ -126,10 +126,10 @@ pub extern "C" fn svid_member_come(
     status
 }
 
-/// The use of the request of this number is on the disk, or could not be brought there, where `ok` is 0. In mode once the member is not ready while
-/// the last one could not.
+/// Reports that the use of this request is on the disk, or, if `ok` is 0, that it could not be written. In mode once the member is not ready while
+/// the last write failed.
 ///
-/// 20 where the validator has no member, 5 where it is closed.
+/// 20 if the validator has no member, 5 if it is closed.
 #[unsafe(no_mangle)]
 pub extern "C" fn svid_member_wrote(
     alloc: Global,
@@ -144,9 +144,9 @@ pub extern "C" fn svid_member_wrote(
     hear_held(alloc, v, up, Heard::Wrote(number, ok), deed)
 }
 
-/// The claim of the request of this number is about to go out: put it where the deed says so. Else the request was answered, or is now.
+/// Reports that the claim of this request is about to be sent. Send it if `deed` says so. Else the request has been answered, or `deed` answers it.
 ///
-/// 20 where the validator has no member, 5 where it is closed.
+/// 20 if the validator has no member, 5 if it is closed.
 #[unsafe(no_mangle)]
 pub extern "C" fn svid_member_send(
     alloc: Global,
@@ -160,9 +160,9 @@ pub extern "C" fn svid_member_send(
     hear_held(alloc, v, up, Heard::Send(number), deed)
 }
 
-/// Nobody waits any more for the answer to the request of this number. A use that is on its way to the disk goes there.
+/// Reports that the client of this request has left. A use whose write to the disk is under way is still written.
 ///
-/// 20 where the validator has no member, 5 where it is closed.
+/// 20 if the validator has no member, 5 if it is closed.
 #[unsafe(no_mangle)]
 pub extern "C" fn svid_member_leave(
     alloc: Global,
@@ -176,9 +176,9 @@ pub extern "C" fn svid_member_leave(
     hear_held(alloc, v, up, Heard::Leave(number), deed)
 }
 
-/// Answers the request that came first, if its time is over. To be called until there is nothing to do.
+/// Answers the oldest request, if its time is over. Call it until `deed` has nothing to do.
 ///
-/// 20 where the validator has no member, 5 where it is closed.
+/// 20 if the validator has no member, 5 if it is closed.
 #[unsafe(no_mangle)]
 pub extern "C" fn svid_member_overdue(
     alloc: Global,

@@ -16,7 +16,7 @@ fn push_name(alloc: Global, names: &mut Vec<String>, name: &str) -> Result<(), A
     Ok(())
 }
 
-// Adds the name that a text is.
+// Adds a text as a name.
 fn push_text(alloc: Global, names: &mut Vec<String>, text: &[u8]) -> Result<(), OwnFault>
     ensures added { OnOk result (map string_bytes names.new.items ≡ map string_bytes names.old.items ++ text.now ∷ []) }
     ensures name { OnOk result (IsUtf8 text.now) }
@@ -28,7 +28,7 @@ fn push_text(alloc: Global, names: &mut Vec<String>, text: &[u8]) -> Result<(), 
     }
 }
 
-// Adds the name that a line is, if it is not empty.
+// Adds a line as a name, if it is not empty.
 fn push_line(alloc: Global, names: &mut Vec<String>, line: &[u8]) -> Result<(), OwnFault>
     ensures added { OnOk result ((more : List (List ℕ)) → map string_bytes names.old.items ++ full_lines (line.now ∷ more) ≡ map string_bytes names.new.items ++ full_lines more) }
     ensures name { OnOk result (IsUtf8 line.now) }
@@ -40,7 +40,7 @@ fn push_line(alloc: Global, names: &mut Vec<String>, line: &[u8]) -> Result<(), 
     push_text(alloc, names, line)
 }
 
-// The audiences that a text has in lines: those that are not empty.
+// The audiences in the lines of a text. Skips empty lines.
 pub(crate) fn names_in(alloc: Global, text: &[u8]) -> Result<Vec<String>, OwnFault>
     ensures ok { IfOk result (λ names. AreLines text.now (map string_bytes names.items)) }
     ensures fault { IfErr result (IsLineFault text.now) }
@@ -70,7 +70,7 @@ fn check_lengths(lens: &[usize], len: usize) -> Result<(), OwnFault>
     Ok(())
 }
 
-// The audiences that a text has in pieces of these lengths, which add up to its own.
+// The audiences in a text, cut at these lengths, which add up to its own.
 fn cut(alloc: Global, text: &[u8], lens: &[usize]) -> Result<Vec<String>, OwnFault>
     requires { sum lens.now ≡ length text.now }
     ensures ok { IfOk result (λ names. AreCut text.now lens.now (map string_bytes names.items)) }
@@ -88,7 +88,7 @@ fn cut(alloc: Global, text: &[u8], lens: &[usize]) -> Result<Vec<String>, OwnFau
     Ok(names)
 }
 
-// The audiences that a text has one after the other, with these lengths.
+// The audiences that stand in a text one after the other, with these lengths.
 pub(crate) fn names_by(alloc: Global, text: &[u8], lens: &[usize]) -> Result<Vec<String>, OwnFault>
     ensures ok { IfOk result (λ names. AreCut text.now lens.now (map string_bytes names.items)) }
     ensures fault { IfErr result (IsCutFault text.now lens.now) }

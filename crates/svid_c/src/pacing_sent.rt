@@ -6,15 +6,15 @@ ghost use Rattle.svid_c.specs.Paces.{flag_of, pacing_in, pacing_seen};
 use crate::deed::next_number;
 use svid_member::Pacing;
 
-/// When the claims that wait go out. Times are milliseconds by a clock that only goes ahead.
+/// When waiting claims are sent. Times are milliseconds by a clock that never goes back.
 #[repr(C)]
 #[derive(Drop)]
 pub struct SvidPacing {
     /// How many calls are under way.
     pub calls: u64,
-    /// When the last one went out.
+    /// When the last one was sent.
     pub at: u64,
-    /// How long claims without an answer wait before they are put again.
+    /// How long unanswered claims wait before they are put again.
     pub pause: u64,
 }
 
@@ -38,7 +38,7 @@ fn pacing_seen(pacing: &Pacing) -> SvidPacing
     }
 }
 
-/// Whether a call goes out at `up`, where so many claims wait: 1, or else 0.
+/// Whether to send a call at `up`, with so many claims waiting: 1, or else 0.
 #[unsafe(no_mangle)]
 pub extern "C" fn svid_pacing_may_send(p: &SvidPacing, up: u64, waiting: u64) -> u32
     ensures { result ≡ flag_of (may_send up waiting (pacing_in p.now)) }
@@ -50,7 +50,7 @@ pub extern "C" fn svid_pacing_may_send(p: &SvidPacing, up: u64, waiting: u64) ->
     }
 }
 
-/// When a call goes out beside those that are under way, where claims wait. 2^64-1 where an answer has to come first.
+/// When to send a call beside those under way, if claims wait. 2^64-1 if an answer has to come first.
 #[unsafe(no_mangle)]
 pub extern "C" fn svid_pacing_due(p: &SvidPacing) -> u64
     ensures { result ≡ next_number (due (pacing_in p.now)) }
@@ -58,7 +58,7 @@ pub extern "C" fn svid_pacing_due(p: &SvidPacing) -> u64
     next_number(pacing_in(p).due())
 }
 
-/// A call goes out at `up`.
+/// Reports that a call is sent at `up`.
 #[unsafe(no_mangle)]
 pub extern "C" fn svid_pacing_sent(p: &mut SvidPacing, up: u64)
     ensures { p.new ≡ pacing_seen (after_send up (pacing_in p.old)) }
@@ -68,7 +68,7 @@ pub extern "C" fn svid_pacing_sent(p: &mut SvidPacing, up: u64)
     *p = pacing_seen(&pacing);
 }
 
-/// A call has ended, and the store has answered some of its claims.
+/// Reports that a call has ended, and the store has answered some of its claims.
 #[unsafe(no_mangle)]
 pub extern "C" fn svid_pacing_answered(p: &mut SvidPacing)
     ensures { p.new ≡ pacing_seen (after_answer (pacing_in p.old)) }
@@ -78,7 +78,7 @@ pub extern "C" fn svid_pacing_answered(p: &mut SvidPacing)
     *p = pacing_seen(&pacing);
 }
 
-/// A call has ended without an answer. Answers how long its claims wait before they are put again.
+/// Reports that a call has ended without an answer. Returns how long its claims wait before they are put again.
 #[unsafe(no_mangle)]
 pub extern "C" fn svid_pacing_unanswered(p: &mut SvidPacing) -> u64
     ensures pause { result ≡ p.old.pause }

@@ -1,7 +1,7 @@
 use crate::callers::Callers;
 use svid_member::{Member, Withdrawals};
 
-/// What a handle of C holds of a member: its requests, its withdrawals that are under way, and who may call.
+/// What a handle of C holds for a member: its requests, its withdrawals that are under way, and who may call.
 #[derive(Drop)]
 pub struct Peer {
     pub(crate) member: Member,

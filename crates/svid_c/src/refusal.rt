@@ -3,7 +3,7 @@ ghost use Rattle.svid_c.specs.Checked.{refusal_number};
 
 use svid_token::Refusal;
 
-// The number of a refusal: 101 for the first of `Refusal`, and so on; 2 for want of memory.
+// The number of a refusal: 101 for the first of `Refusal`, and so on; 2 if out of memory.
 pub(crate) fn refusal_number(refusal: Refusal) -> u32
     ensures { result ≡ refusal_number refusal }
 {

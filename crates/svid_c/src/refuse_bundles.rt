@@ -37,7 +37,7 @@ fn lacks_name(alloc: Global, text: &[u8], fault: ToolFault) -> Result<bool, Allo
     }
 }
 
-// Tells why there are no bundles.
+// Says why bundles are refused.
 #[tactic(auto, using(crate::proofs::RefusedBundlesLemmas::one_unnamed, crate::proofs::RefusedBundlesLemmas::none_unnamed, crate::proofs::RefusedBundlesLemmas::no_memory))]
 pub(crate) fn refuse_bundles(
     alloc: Global,

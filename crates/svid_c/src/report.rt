@@ -11,7 +11,7 @@ use std::alloc::Global;
 use svid_share::{ToolFault, put_report};
 use svid_wire::MemSink;
 
-// The report of what an input tells at a moment.
+// The report of the messages in an input at a moment.
 #[tactic(auto, using(crate::proofs::JoinedLemmas::text_is, crate::proofs::JoinedLemmas::refused_alone))]
 fn report(alloc: Global, messages: &[u8], now: u64) -> Result<MemSink, ToolFault>
     ensures ok { IfOk result (λ sink. IsTextOf report_of messages.now now sink.bytes) }
@@ -25,10 +25,10 @@ fn report(alloc: Global, messages: &[u8], now: u64) -> Result<MemSink, ToolFault
     }
 }
 
-/// Puts the report of what the messages tell at the moment `now`, in seconds, first into `out`, as the
-/// program's command `report` prints it.
+/// Writes the report of the messages at the moment `now`, in seconds, to the start of `out`, as the program's
+/// command `report` prints it.
 ///
-/// What it answers is as of [`svid_join`](crate::join::svid_join).
+/// Answers as [`svid_join`](crate::join::svid_join) does.
 #[unsafe(no_mangle)]
 pub extern "C" fn svid_report(
     alloc: Global,

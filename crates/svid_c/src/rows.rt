@@ -20,7 +20,7 @@ pub(crate) fn push_field(row: &mut Vec<u8>, bytes: &[u8]) -> Result<(), AllocErr
     Ok(())
 }
 
-// Puts rows, and tells whether there are more.
+// Writes rows, and whether there are more.
 pub(crate) fn put_rows(rows: &[u8], more: bool, out: &mut [u8], told: &mut SvidTold) -> u32
     ensures put { IsPut rows.now result out.old out.new }
     ensures told { told.new ≡ told_rows (length rows.now) more }
@@ -30,7 +30,7 @@ pub(crate) fn put_rows(rows: &[u8], more: bool, out: &mut [u8], told: &mut SvidT
     status
 }
 
-// Tells why a token is refused.
+// Reports why a token is refused.
 pub(crate) fn refuse_token(refusal: Refusal, told: &mut SvidTold) -> u32
     ensures number { result ≡ refusal_number refusal }
     ensures told { told.new ≡ told_length 0 }

@@ -7,9 +7,9 @@ use crate::told::SvidTold;
 use crate::words::words_of;
 use crate::writing::put;
 
-/// Puts the name of a status first into `out`, as "SVID_REPLAYED"; "SVID_?" for a number that none has.
+/// Writes the name of a status to the start of `out`, like "SVID_REPLAYED"; "SVID_?" for a number without a status.
 ///
-/// 0, and `told.len` is the length of the name; 1 where it is longer than `out`, which then stays as it was.
+/// Returns 0, with the length of the name in `told.len`; or 1 if it is longer than `out`, which is then unchanged.
 #[unsafe(no_mangle)]
 pub extern "C" fn svid_status_name(status: u32, out: &mut [u8], told: &mut SvidTold) -> u32
     ensures put { IsPut (texts_of status).name result out.old out.new }
@@ -18,11 +18,11 @@ pub extern "C" fn svid_status_name(status: u32, out: &mut [u8], told: &mut SvidT
     put(words_of(status).name.as_bytes(), out, told)
 }
 
-/// Puts what a status says first into `out`, and after a space what to do, where there is something to do; "No status has this number."
-/// for a number that none has.
+/// Writes the sentence of a status to the start of `out`, and after a space its advice, if it has any; "No status has this number." for a
+/// number without a status.
 ///
-/// 0, and `told.len` is the length of the text, and `told.more` that of its part before any advice; 1 where it is longer than `out`, which
-/// then stays as it was.
+/// Returns 0, with the length of the text in `told.len`, and of its part before any advice in `told.more`; or 1 if it is longer than
+/// `out`, which is then unchanged.
 #[unsafe(no_mangle)]
 pub extern "C" fn svid_status_sentence(status: u32, out: &mut [u8], told: &mut SvidTold) -> u32
     ensures put { IsPut (sentence (texts_of status)) result out.old out.new }

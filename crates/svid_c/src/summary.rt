@@ -10,7 +10,7 @@ use std::alloc::Global;
 use svid_share::ToolFault;
 use svid_wire::{MemSink, write_summary};
 
-// The summary of what an input tells at a moment.
+// The summary of the messages in an input at a moment.
 #[tactic(auto, using(crate::proofs::JoinedLemmas::text_is, crate::proofs::JoinedLemmas::refused_alone))]
 fn summary(alloc: Global, messages: &[u8], now: u64) -> Result<MemSink, ToolFault>
     ensures ok { IfOk result (λ sink. IsTextOf summary_text_of messages.now now sink.bytes) }
@@ -24,9 +24,9 @@ fn summary(alloc: Global, messages: &[u8], now: u64) -> Result<MemSink, ToolFaul
     }
 }
 
-/// Puts the summary of what the messages tell at the moment `now`, in seconds, first into `out`: 8,205 bytes.
+/// Writes the summary of the messages at the moment `now`, in seconds, to the start of `out`: 8,205 bytes.
 ///
-/// What it answers is as of [`svid_join`](crate::join::svid_join).
+/// Answers as [`svid_join`](crate::join::svid_join) does.
 #[unsafe(no_mangle)]
 pub extern "C" fn svid_summary(
     alloc: Global,

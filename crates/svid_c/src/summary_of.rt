@@ -10,7 +10,7 @@ use std::alloc::{AllocError, Global};
 use svid_replay::Summary;
 use svid_wire::{MemSink, write_summary};
 
-// The text of the summary that digests are.
+// The text of the summary with these digests.
 fn text_of(alloc: Global, digests: &SvidDigests) -> Result<MemSink, AllocError>
     ensures { IfOk result (λ sink. sink.bytes ≡ summary_text (summary_from digests.now)) }
 {
@@ -22,9 +22,10 @@ fn text_of(alloc: Global, digests: &SvidDigests) -> Result<MemSink, AllocError>
     }
 }
 
-/// Puts the summary of the moment and the digests of all 256 buckets first into `out`: 8,205 bytes. `svid_validator_digest` puts the digests there.
+/// Writes the summary with the moment and the digests of all 256 buckets to the start of `out`: 8,205 bytes. `svid_validator_digest` computes the
+/// digests.
 ///
-/// 0, and `told.len` is 8,205; 1 where `out` is shorter; 2 for want of memory. Unless the status is 0, `out` stays as it was.
+/// Returns 0, with 8,205 in `told.len`; 1 if `out` is shorter; 2 if out of memory. Unless the status is 0, `out` is unchanged.
 #[unsafe(no_mangle)]
 pub extern "C" fn svid_summary_of(
     alloc: Global,

@@ -19,10 +19,10 @@ fn digests_of(summary: &Summary) -> SvidDigests
     }
 }
 
-/// Reads a summary that another validator sent: puts its moment and the digests of its 256 buckets into `asked`, as `svid_validator_differs` takes them.
+/// Reads a summary from another validator, and writes its moment and the digests of its 256 buckets to `asked`, for `svid_validator_differs`.
 ///
-/// 0; 4, 3 and 11 to 18 where `summary` is no one summary, and `told` tells where; 2 for want of memory. Unless the status is 0, `asked` stays as
-/// it was.
+/// Returns 0; 4, 3 and 11 to 18 if `summary` is not one summary, and `told` says where; 2 if out of memory. Unless the status is 0, `asked` is
+/// unchanged.
 #[unsafe(no_mangle)]
 pub extern "C" fn svid_summary_read(
     alloc: Global,

@@ -6,8 +6,8 @@ use crate::token_read::TokenRead;
 use std::alloc::Global;
 use std::mem;
 
-/// A token that was read, which C keeps, open or closed. C makes a closed one, all its bytes 0, and gives it to one call at a time; only
-/// the calls write it.
+/// A handle of a token that was read, open or closed. C makes a closed one (all bytes 0) and gives it to one call at a time. Only the
+/// calls write it.
 #[repr(C)]
 pub struct SvidToken {
     word: u64,
@@ -34,7 +34,7 @@ impl SvidToken {
         }
     }
 
-    // Takes out what is held, and leaves the handle closed.
+    // Takes the token out, and leaves the handle closed.
     pub(crate) fn take(&mut self, alloc: Global) -> Option<Box<TokenRead>>
         ensures value { option_map (λ read. read.value) result ≡ self.old.handle.read }
         ensures closed { self.new.handle.read ≡ None }

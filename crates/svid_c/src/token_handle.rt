@@ -1,4 +1,4 @@
-// What C holds of a token that was read: a pointer to what it says on the heap, or none.
+// What C holds for a token that was read: a pointer to what it says on the heap, or none.
 ghost use Rattle.std.specs.Prelude.{◌≡◌, Option, IsSome, None, Some};
 ghost use Rattle.svid_check.specs.Said.{Said};
 ghost use Rattle.svid_c.specs.TokenHandle.{read_coded, read_owns};
@@ -72,5 +72,5 @@ impl TokenHandle {
     }
 }
 
-// So C may hand it to another thread, as long as one call at a time is given it.
+// So C may hand it to another thread, as long as it gives it to one call at a time.
 unsafe impl Send for TokenHandle {}

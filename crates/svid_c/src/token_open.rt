@@ -43,11 +43,10 @@ fn open(alloc: Global, t: &mut SvidToken, token: &[u8], told: &mut SvidTold) -> 
     }
 }
 
-/// Opens a closed handle of a token, which it reads: 0. The handle keeps what the token says, and nothing of `token` itself. So the calls
-/// that look for its keys and check it need not read it again.
+/// Opens a closed handle with a token, which it reads, and returns 0. The handle keeps what the token says, and nothing of `token` itself,
+/// so that later calls need not read it again.
 ///
-/// 6 where it is open: then it stays as it was. 101 to 116 where the token is refused for what it is, and 2 for want of memory: then it is
-/// closed.
+/// 6 if it is open already: it is unchanged. 101 to 116 if the token is refused for its form, 2 if out of memory: it stays closed.
 #[unsafe(no_mangle)]
 pub extern "C" fn svid_token_open(
     alloc: Global,
@@ -64,7 +63,7 @@ pub extern "C" fn svid_token_open(
     open(alloc, t, token, told)
 }
 
-/// Closes a handle of a token, and gives back all its memory. One that is closed stays so.
+/// Closes a handle of a token, and frees all its memory. A closed handle is left closed.
 #[unsafe(no_mangle)]
 pub extern "C" fn svid_token_close(alloc: Global, t: &mut SvidToken)
     ensures { t.new.handle.read ≡ None }

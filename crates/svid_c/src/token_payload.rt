@@ -9,7 +9,7 @@ use crate::writing::put;
 use std::alloc::Global;
 use svid_token::{Compact, PartFault, Refusal, decode_part};
 
-// The bytes that the second part of a token spells.
+// The bytes that the second part of a token encodes.
 fn read_payload(alloc: Global, part: &[u8]) -> Result<Vec<u8>, Refusal>
     ensures { Answers (λ v. Some v.items) result (bytes_due Refusal.PayloadSpelling part.now) }
 {
@@ -20,12 +20,12 @@ fn read_payload(alloc: Global, part: &[u8]) -> Result<Vec<u8>, Refusal>
     }
 }
 
-/// Puts the payload of a token first into `out`: the bytes that its second part spells (RFC 7515, section 5.2), which are its claims as JSON
-/// (RFC 7519, section 3), if it is a JWT-SVID. Judges nothing, and reads no other part.
+/// Writes the payload of a token to the start of `out`: the bytes that its second part encodes (RFC 7515, section 5.2). For a JWT-SVID these
+/// are its claims as JSON (RFC 7519, section 3). Judges nothing, and reads no other part.
 ///
-/// 0, and `told.len` is the payload's length; 1 where it is longer than `out`, which it never is where that has 49,150 bytes. 101, 102 or
-/// 109 where the token has more than 65,536 bytes, has not three parts, or where the second one is not base64url; 2 for want of memory.
-/// Unless the status is 0, `out` stays as it was.
+/// Returns 0, with the payload's length in `told.len`; or 1 if it is longer than `out`. 49,150 bytes are always enough. 101 if the token has
+/// more than 65,536 bytes, 102 if it does not have three parts, 109 if the second one is not base64url; 2 if out of memory. Unless the
+/// status is 0, `out` is unchanged.
 #[unsafe(no_mangle)]
 pub extern "C" fn svid_token_payload(
     alloc: Global,

@@ -4,9 +4,9 @@ ghost use Rattle.svid_check.specs.Said.{said_in};
 use std::marker::Model;
 use svid_check::Reading;
 
-/// What a handle of a token holds: what was read of the token.
+/// What the handle of a token holds.
 ///
-/// Contracts see it as what the token says.
+/// In contracts it is what the token says.
 #[derive(Drop)]
 pub struct TokenRead {
     reading: Reading,

@@ -10,19 +10,19 @@ use std::alloc::{AllocError, Global};
 use svid_check::Reading;
 use svid_token::Refusal;
 
-/// What a token says, but for its texts.
+/// What a token says, except its texts.
 #[repr(C)]
 #[derive(Drop)]
 pub struct SvidSaid {
-    /// The key by which the uses of the token are told.
+    /// The token's key, which identifies the token.
     pub key: [u8; 32],
     /// When the token expires, in seconds.
     pub exp: u64,
-    /// How many texts it has: its algorithm, its subject, the trust domain of that, the name of its key, and its audiences.
+    /// How many texts it has: its algorithm, its subject, the subject's trust domain, the name of its key, and its audiences.
     pub texts: usize,
 }
 
-// Texts one directly after the other, and how long each is.
+// Texts, one directly after the other, and the length of each.
 #[derive(Drop)]
 struct Texts {
     bytes: Vec<u8>,
@@ -50,7 +50,7 @@ fn push_all(texts: &mut Texts, names: &[String]) -> Result<(), AllocError>
     Ok(())
 }
 
-// The name of a token's key, empty where it has none.
+// The name of a token's key, empty if it has none.
 fn kid_of<'a>(reading: &'a Reading) -> &'a [u8]
     ensures { result.now ≡ unwrap_or (said_in reading.now).kid [] }
 {
@@ -77,7 +77,7 @@ fn texts_of(alloc: Global, reading: &Reading) -> Result<Texts, AllocError>
     Ok(texts)
 }
 
-// Puts texts and their lengths, where both have room.
+// Writes texts and their lengths, if both have room.
 fn put_texts(bytes: &[u8], lens: &[usize], out_lens: &mut [usize], out: &mut [u8]) -> u32
     ensures { (texts : List (List ℕ)) → bytes.now ≡ concat texts → lens.now ≡ map length texts → ArePut texts result out_lens.old out_lens.new out.old out.new }
 {
@@ -89,13 +89,13 @@ fn put_texts(bytes: &[u8], lens: &[usize], out_lens: &mut [usize], out: &mut [u8
     0
 }
 
-/// Reads a token and tells what it says, without judging it: its key and when it expires, and its texts. These are its algorithm, its
-/// subject, the trust domain of that, the name of its key, which is empty where it has none, and its audiences. They stand first in `out`,
-/// one directly after the other, and `lens` has the length of each.
+/// Reads a token and reports what it says, without judging it: its key, when it expires, and its texts. The texts are its algorithm, its
+/// subject, the subject's trust domain, the name of its key (empty if it has none), and its audiences. They are written to the start of
+/// `out`, one directly after the other, and `lens` has the length of each.
 ///
-/// 0, and `told.len` is the length of all texts; 1 where `out` or `lens` is too short: `told.len` and `said.texts` say what they need. 101
-/// to 116 where the token is refused for what it is, and 2 for want of memory: then `said` stays as it was. Unless the status is 0, `lens`
-/// and `out` stay as they were.
+/// Returns 0, with the length of all texts in `told.len`; or 1 if `out` or `lens` is too short, with the sizes needed in `told.len` and
+/// `said.texts`. 101 to 116 if the token is refused for its form, 2 if out of memory: `said` is unchanged. Unless the status is 0, `lens`
+/// and `out` are unchanged.
 #[unsafe(no_mangle)]
 pub extern "C" fn svid_token_says(
     alloc: Global,

@@ -6,21 +6,21 @@ use crate::writing::put;
 use std::alloc::Global;
 use svid_token::{Compact, read_signature};
 
-/// What a token's signature is made over.
+/// What a token's signature covers.
 #[repr(C)]
 #[derive(Drop)]
 pub struct SvidSigned {
-    /// How many bytes of the token that are, from its first one.
+    /// How many bytes of the token it covers, from the first.
     pub len: usize,
 }
 
-/// Puts the signature of a token first into `out`, as its library of cryptography wants it (RFC 7518, section 3.4, for EC keys), and tells
-/// over how many bytes of the token it is made, from the first one: the header, a period and the payload (RFC 7515, section 5.2). Reads
+/// Writes the signature of a token to the start of `out`, as a cryptography library takes it (for EC keys see RFC 7518, section 3.4). Also
+/// reports how many bytes of the token it covers, from the first: the header, a period and the payload (RFC 7515, section 5.2). Reads
 /// neither of these.
 ///
-/// 0, and `told.len` is the signature's length; 1 where it is longer than `out`, which it never is where that has 49,150 bytes. 101, 102
-/// or 111 where the token has more than 65,536 bytes, has not three parts, or where the third one is empty or not base64url; 2 for want of
-/// memory: then `over` stays as it was. Unless the status is 0, `out` stays as it was.
+/// Returns 0, with the signature's length in `told.len`; or 1 if it is longer than `out`. 49,150 bytes are always enough. 101 if the token
+/// has more than 65,536 bytes, 102 if it does not have three parts, 111 if the third one is empty or not base64url; 2 if out of memory:
+/// `over` is unchanged. Unless the status is 0, `out` is unchanged.
 #[unsafe(no_mangle)]
 pub extern "C" fn svid_token_signature(
     alloc: Global,

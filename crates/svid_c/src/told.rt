@@ -5,28 +5,28 @@ use svid_keys::BundleFault;
 use svid_share::ToolFault;
 use svid_wire::Reason;
 
-/// What a call tells beside its status; 0 where there is nothing to tell.
+/// What a call reports beside its status; 0 where it has nothing to report.
 #[repr(C)]
 #[derive(Drop)]
 pub struct SvidTold {
-    /// How many bytes the text has that was written, or that has no room.
+    /// The length of the text that was written, or that has no room, in bytes.
     pub len: usize,
-    /// The number of the refused input of messages, counted from 1 in the order of the call's inputs; of bundles that are
-    /// too long 1; 0 for any other fault.
+    /// The number of the refused input of messages, counted from 1 in the order of the call's inputs; 1 for bundles that are too long; 0 for any
+    /// other fault.
     pub input: usize,
-    /// The number of its message that is refused, counted from 1.
+    /// The number of the refused message in it, counted from 1.
     pub message: usize,
-    /// The offset in that message, in bytes from its first; of bundles, the offset of the refused name among all
-    /// names in rising order of their bytes, from 0; of a table, the number of the line, counted from 1.
+    /// The offset in that message, in bytes from its first. For bundles, the index of the refused name among all names in rising order of their
+    /// bytes, counted from 0. For a table, the number of the line, counted from 1.
     pub offset: usize,
-    /// Of [`svid_validator_ask_token`](crate::validator_ask_token::svid_validator_ask_token) and [`svid_bundles_ask`](crate::bundles_ask::svid_bundles_ask), 1 where
-    /// more keys may have signed the token than it lists, and else 0. Of [`svid_validator_differs`](crate::validator_differs::svid_validator_differs), 1
-    /// where the bucket differs, and else 0. Of [`svid_status_sentence`](crate::status_sentence::svid_status_sentence), the length of the text
-    /// before any advice.
+    /// For [`svid_validator_ask_token`](crate::validator_ask_token::svid_validator_ask_token) and
+    /// [`svid_bundles_ask`](crate::bundles_ask::svid_bundles_ask), 1 if more keys may have signed the token than it lists, and else 0. For
+    /// [`svid_validator_differs`](crate::validator_differs::svid_validator_differs), 1 if the bucket differs, and else 0. For
+    /// [`svid_status_sentence`](crate::status_sentence::svid_status_sentence), the length of the text before any advice.
     pub more: usize,
 }
 
-// A truth as C has it.
+// A boolean as C has it.
 pub(crate) fn flag(truth: bool) -> usize
     ensures { result ≡ flag truth }
 {

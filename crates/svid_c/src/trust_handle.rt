@@ -1,4 +1,4 @@
-// What C holds of trust bundles: a pointer to them on the heap, or none.
+// What C holds for trust bundles: a pointer to them on the heap, or none.
 ghost use Rattle.std.specs.Prelude.{◌≡◌, Option, IsSome, None, Some};
 ghost use Rattle.svid_c.specs.declared.trust.Trust.{Trust};
 ghost use Rattle.svid_c.specs.TrustHandle.{trust_coded, trust_owns};
@@ -72,5 +72,5 @@ impl TrustHandle {
     }
 }
 
-// So C may hand it to another thread, as long as one call at a time is given it.
+// So C may hand it to another thread, as long as it gives it to one call at a time.
 unsafe impl Send for TrustHandle {}

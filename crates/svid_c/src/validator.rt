@@ -9,8 +9,8 @@ use crate::told::{SvidTold, told_length};
 use std::alloc::Global;
 use std::mem;
 
-/// A validator that C keeps, open or closed. C makes one closed, all its bytes 0, and gives it to one call at a time; only the
-/// calls write it.
+/// A handle of a validator, open or closed. C makes a closed one (all bytes 0) and gives it to one call at a time. Only the calls
+/// write it.
 #[repr(C)]
 pub struct SvidValidator {
     word: u64,
@@ -44,7 +44,7 @@ impl SvidValidator {
         self.word != 0
     }
 
-    // Takes out what is held, and leaves the handle closed.
+    // Takes the validator out, and leaves the handle closed.
     pub(crate) fn take(&mut self, alloc: Global) -> Option<Box<Live>>
         ensures value { option_map (λ live. live.value) result ≡ self.old.handle.live }
         ensures closed { self.new.handle.live ≡ None }
@@ -56,8 +56,8 @@ impl SvidValidator {
         Some(handle.into_box())
     }
 
-    // The same for a call at a moment. 5 where the handle is closed, and 9 where the moment lies too far past the record's: then it
-    // stays as it was.
+    // The same for a call at a moment. 5 if the handle is closed, 9 if the moment is too far past the record's: the handle is
+    // unchanged.
     pub(crate) fn take_at(&mut self, alloc: Global, now: u64) -> Result<Box<Live>, u32>
         ensures taken { IfOk result (λ live. IsTaken now self.old.handle.live self.new.handle.live live.value) }
         ensures not_taken { IfErr result (IsNotTaken now self.old.handle.live self.new.handle.live) }
@@ -82,7 +82,7 @@ impl SvidValidator {
     }
 }
 
-// Answers a number beside which nothing is told.
+// Answers a number, with nothing more in `told`.
 pub(crate) fn only(status: u32, told: &mut SvidTold) -> u32
     ensures status { result ≡ status }
     ensures told { told.new ≡ told_length 0 }

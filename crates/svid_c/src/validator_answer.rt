@@ -60,10 +60,12 @@ fn reply(
     }
 }
 
-/// Puts the answer to a summary that another validator sent first into `out`, at a moment, in seconds: the uses of all buckets whose
-/// digests differ, as messages. The record is raised to the moment, and to the summary's where that is not past `now` and `ahead`
-/// together (8). 4, 3 and 11 to 18 where it is no one summary: then nothing happened. 1 where the answer is longer than `out`; 2
-/// for want of memory; 5 where the validator is closed.
+/// Writes the answer to a summary from another validator to the start of `out`: the uses of all buckets whose digests differ, as
+/// messages. The record is first advanced to the moment `now`, in seconds, and to the summary's moment, unless that is past `now`
+/// and `ahead` together (8).
+///
+/// Returns 0, with the answer's length in `told.len`; or 1 if it is longer than `out`. 4, 3 and 11 to 18 if the bytes are not one
+/// summary: nothing happened. 2 if out of memory; 5 if the validator is closed.
 #[unsafe(no_mangle)]
 pub extern "C" fn svid_validator_answer(
     alloc: Global,

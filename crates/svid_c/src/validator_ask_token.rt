@@ -17,7 +17,7 @@ use svid_check::Reading;
 use svid_keys::Candidates;
 use svid_token::Refusal;
 
-// Adds what a signature is made over, and the signature.
+// Adds the length of the signed bytes, and the signature.
 fn push_signing(rows: &mut Vec<u8>, reading: &Reading) -> Result<(), AllocError>
     ensures { OnOk result (rows.new.items ≡ rows.old.items ++ signing_of (said_in reading.now)) }
 {
@@ -36,14 +36,14 @@ fn lists_of(
     ensures rows { IfOk result (λ given. given.0.items ≡ signing_of (said_in reading.now) ++ flat_map (key_row (said_in reading.now).alg) (take most (candidates_left candidates.entry))) }
     ensures more { IfOk result (λ given. given.1 ≡ nat_lt most (length (candidates_left candidates.entry))) }
 {
-    // (one block does for a key of RSA)
+    // (one block is enough for an RSA key)
     let mut rows = Vec::with_capacity(alloc, 1024)?;
     push_signing(&mut rows, reading)?;
     let more = push_keys(&mut rows, candidates, most, reading.header.alg)?;
     Ok((rows, more))
 }
 
-// Puts all that is to be verified.
+// Writes all that is to be verified.
 fn list(
     alloc: Global,
     live: &Live,
@@ -64,7 +64,7 @@ fn list(
     }
 }
 
-// The same of the validator of a handle.
+// The same for the validator of a handle.
 fn list_held(
     alloc: Global,
     v: &mut SvidValidator,
@@ -83,15 +83,18 @@ fn list_held(
     status
 }
 
-/// Puts all that the caller's verifier needs of the token of an open handle first into `out`: over how many bytes of the token the signature
-/// is made, from the first one, in four bytes, the greatest first; the signature after its length, as
-/// [`svid_token_signature`](crate::token_signature::svid_token_signature) gives it; and then a row for each key that may have signed the token, for the
-/// first `most` of these keys in the order of their bundle: the algorithm's name and the key as JSON, each after its length in four bytes.
-/// It hashes nothing.
+/// Writes all that the caller's verifier needs for the token of an open handle to the start of `out`, in three parts:
 ///
-/// 0, and `told.len` is the length of all that; 1 where it is longer than `out`. Of both, `told.more` is 1 where more than `most` keys may
-/// have signed the token. 121 and 122 where the token is refused already; 2 for want of memory; 5 where the validator is closed, or the
-/// handle of the token. Then `out` stays as it was. The token stays as it is.
+/// - how many bytes of the token the signature covers, from the first, in four bytes, big-endian
+/// - the signature after its length, as [`svid_token_signature`](crate::token_signature::svid_token_signature) gives it
+/// - a row for each key that may have signed the token, for at most the first `most` of these keys, in the order of their bundle: the algorithm's
+///   name and the key as JSON, each after its length in four bytes
+///
+/// Hashes nothing.
+///
+/// Returns 0, with the length of all that in `told.len`; or 1 if it is longer than `out`. For both, `told.more` is 1 if more than `most` keys may
+/// have signed the token. 121 and 122 if the token is refused already; 2 if out of memory; 5 if the validator or the handle of the token is closed.
+/// Unless the status is 0, `out` is unchanged. The token is never changed.
 #[unsafe(no_mangle)]
 pub extern "C" fn svid_validator_ask_token(
     alloc: Global,

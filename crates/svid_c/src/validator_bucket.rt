@@ -34,21 +34,21 @@ fn tell_bucket(
     let Ok(uses) = uses_of(alloc, live, bucket, moment) else {
         return only(2, told);
     };
-    // (each use of a record expires after it was made, so it is memory that was refused)
+    // (each use of a record expires after it was made, so the only failure is out of memory)
     match messages_of(alloc, &uses) {
         Ok(sink) => put(sink.bytes(), out, told),
         Err(_) => only(2, told),
     }
 }
 
-/// Puts the uses of one bucket that expire after `moment`, in seconds, first into `out`, as messages: no bytes where there is none. The record stays
-/// as it is. It looks once at each use of this bucket, and at no other use.
+/// Writes the uses of one bucket that expire after `moment`, in seconds, as messages to the start of `out`; no bytes if there is none. The record is
+/// unchanged. Visits each use of this bucket once, and no other use.
 ///
-/// To answer a summary, call it for each bucket of which `svid_validator_differs` says so, with the summary's moment. What all of them tell are the
-/// uses that `svid_validator_answer` tells.
+/// To answer a summary, call it with the summary's moment, for each bucket where `svid_validator_differs` reports a difference. Together these calls
+/// give the uses that `svid_validator_answer` gives.
 ///
-/// 0, and `told.len` is the length of the messages; 1 where they are longer than `out`; 2 for want of memory; 5 where the validator is closed. Unless
-/// the status is 0, `out` stays as it was.
+/// Returns 0, with the length of the messages in `told.len`; or 1 if they are longer than `out`; 2 if out of memory; 5 if the validator is closed.
+/// Unless the status is 0, `out` is unchanged.
 #[unsafe(no_mangle)]
 pub extern "C" fn svid_validator_bucket(
     alloc: Global,

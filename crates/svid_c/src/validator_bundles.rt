@@ -8,7 +8,7 @@ use crate::told::{SvidTold, told_length};
 use crate::validator::{SvidValidator, only};
 use std::alloc::Global;
 
-// Reads other bundles, and puts them in the place of those that there are.
+// Reads other bundles, and replaces the validator's.
 fn renew(alloc: Global, live: &mut Live, bundles: &[u8], told: &mut SvidTold) -> u32
     ensures does { Renews bundles.now result told.new live.old.validator live.new.validator }
     ensures rest { IsRest live.old live.new }
@@ -23,8 +23,8 @@ fn renew(alloc: Global, live: &mut Live, bundles: &[u8], told: &mut SvidTold) ->
     }
 }
 
-/// Puts other trust bundles in the place of those that there are. The record stays as it is. 3 (of the input 1), 31 to 33 and 37
-/// where they are refused, and 2 for want of memory: then nothing happened. 5 where the validator is closed.
+/// Replaces the trust bundles of a validator, and returns 0. The record is unchanged. 3 (with `told.input` 1), 31 to 33 or 37 if the
+/// bundles are refused, 2 if out of memory: then nothing happened. 5 if the validator is closed.
 #[unsafe(no_mangle)]
 pub extern "C" fn svid_validator_bundles(
     alloc: Global,
@@ -51,7 +51,7 @@ fn tick(live: &mut Live, now: u64, told: &mut SvidTold) -> u32
     0
 }
 
-/// Raises the record to a moment, in seconds. 5 where the validator is closed.
+/// Advances the record to a moment, in seconds. 5 if the validator is closed.
 #[unsafe(no_mangle)]
 pub extern "C" fn svid_validator_tick(
     alloc: Global,

@@ -19,7 +19,7 @@ use std::alloc::Global;
 use svid_check::Accepted;
 use svid_token::Refusal;
 
-/// What the record gains of a token that a call accepts.
+/// What the record gains when a call accepts a token.
 #[derive(Clone, Copy)]
 pub enum Gain {
     /// The token's use, so that a later check refuses it.
@@ -28,7 +28,7 @@ pub enum Gain {
     Nothing,
 }
 
-// The acceptance of a token that adds its use, or why it is refused.
+// Judges a token, and adds its use if it is accepted.
 #[tactic(auto, using(crate::proofs::LogLemmas::unclaimed))]
 fn checked(
     live: &mut Live,
@@ -44,7 +44,7 @@ fn checked(
     live.validator.check_read(now, read.reading(), &yes)
 }
 
-// The acceptance of a token that adds nothing, or why it is refused.
+// Judges a token, and adds nothing.
 fn judged(
     live: &mut Live,
     now: u64,
@@ -62,7 +62,7 @@ fn judged(
     }
 }
 
-// The acceptance of a token, or why it is refused.
+// Judges a token, and adds what `gain` says.
 fn answer(
     live: &mut Live,
     now: u64,
@@ -81,7 +81,7 @@ fn answer(
     }
 }
 
-// Checks a token, and tells the answer.
+// Checks a token, and reports the answer.
 fn check(
     live: &mut Live,
     now: u64,
@@ -172,19 +172,21 @@ fn judge_held(
     status
 }
 
-/// Checks the token of an open handle at the moment `now`, in seconds, and writes the SPIFFE ID of its subject into `out`, which must have
-/// room for 2,048 bytes. `key`, `input` and `signature` are what the caller's verifier said yes to: the key, as JSON, that made this signature
-/// over these bytes, all as [`svid_validator_ask_token`](crate::validator_ask_token::svid_validator_ask_token) gives them. `key` has no bytes
-/// where there is none. They are compared with the keys that the validator has now, and with the token: of another token, or by a key that may
-/// not have signed this one, they are no answer (123). Nothing is hashed.
+/// Checks the token of an open handle at the moment `now`, in seconds, and writes the SPIFFE ID of its subject to `out`, which must have room
+/// for 2,048 bytes. `key`, `input` and `signature` are what the caller's verifier said yes to: this key, as JSON, made this signature over
+/// these bytes. All three are as [`svid_validator_ask_token`](crate::validator_ask_token::svid_validator_ask_token) gives them, and `key` is
+/// empty if no key did. They are compared with the validator's current keys and with the token. If they belong to another token, or the key may
+/// not have signed this one, the answer is 123. Hashes nothing.
 ///
-/// The call first advances the record to `now`, and judges the token at the record's moment, which may be later. The token stays as it is.
+/// The call first advances the record to `now`, and judges the token at the record's moment, which may be later. The token's handle is
+/// unchanged.
 ///
-/// 0 where it accepts the token: the record has gained the use, and `used` is that use. Else `out` and `used` stay as they were: 117 to 125 for
-/// the first refusal that holds, and 2 for want of memory, which may stand in place of each of them. 5 where the validator is closed, or the
-/// handle of the token, 9 where `now` is more than `step` past the record's moment, 10 where the validator reads a log, so that it accepts
-/// tokens by their claims alone ([`svid_validator_read`](crate::validator_read::svid_validator_read)), and 1 where `out` is shorter than 2,048
-/// bytes: then nothing happened.
+/// Returns 0 if it accepts the token: the record has gained the use, and `used` is that use. Else `out` and `used` are unchanged: 117 to 125
+/// for the first refusal that holds, and 2 if out of memory, which may come instead of any refusal.
+///
+/// 5 if the validator or the handle of the token is closed, 9 if `now` is more than `step` past the record's moment, 1 if `out` is shorter than
+/// 2,048 bytes, 10 if the validator reads a log: it accepts tokens by their claims alone
+/// ([`svid_validator_read`](crate::validator_read::svid_validator_read)). Then nothing happened.
 #[unsafe(no_mangle)]
 pub extern "C" fn svid_validator_check_token(
     alloc: Global,
@@ -216,8 +218,8 @@ pub extern "C" fn svid_validator_check_token(
     status
 }
 
-/// Answers what [`svid_validator_check_token`] would answer, and adds no use to the record: `used` is the use that a check would add. All else
-/// is as there, but that a validator that reads a log answers too: it refuses a token (125) that is claimed beside its record as well.
+/// Answers what [`svid_validator_check_token`] would answer, and adds no use to the record: `used` is the use that a check would add. It also
+/// answers on a validator that reads a log, which refuses a token (125) also if its claim is beside the record.
 #[unsafe(no_mangle)]
 pub extern "C" fn svid_validator_judge_token(
     alloc: Global,

@@ -8,7 +8,7 @@ use crate::validator::{SvidValidator, only};
 use crate::validator_digest::SvidDigests;
 use std::alloc::Global;
 
-// Whether a bucket of the record has another digest than the one in its place among these.
+// Whether a bucket of the record has a digest other than its digest in a summary.
 fn differs(live: &Live, bucket: u8, asked: &SvidDigests) -> bool
     ensures { result ≡ differs_from live.now.validator bucket asked.now }
 {
@@ -25,11 +25,11 @@ fn tell_differs(live: &Live, bucket: u8, asked: &SvidDigests, told: &mut SvidTol
     0
 }
 
-/// Tells whether one bucket differs from the one that a summary is of: whether the digest of its uses that expire after `asked.moment`, in seconds, is
-/// another than the one in its place in `asked`. `svid_summary_read` puts the digests of a summary there. The record stays as it is. It looks once
-/// at each use of this bucket, and at no other use. It takes no memory.
+/// Says whether one bucket differs from that bucket of a summary: it compares the digest of the bucket's uses that expire after `asked.moment`, in
+/// seconds, with the one in `asked`. `svid_summary_read` reads a summary into `asked`. The record is unchanged. Visits each use of this bucket once,
+/// and no other use. Allocates nothing.
 ///
-/// 0, and `told.more` is 1 where the digests differ, and else 0; 5 where the validator is closed.
+/// Returns 0, with 1 in `told.more` if the digests differ, and else 0; 5 if the validator is closed.
 #[unsafe(no_mangle)]
 pub extern "C" fn svid_validator_differs(
     alloc: Global,

@@ -20,7 +20,7 @@ pub struct SvidDigests {
     pub digests: [[u8; 32]; 256],
 }
 
-// What a bucket of the record tells at a moment.
+// The digest of a bucket of the record at a moment, and the number of its uses.
 fn digest_of(live: &Live, bucket: u8, moment: u64) -> BucketDigest
     ensures { result ≡ digest_at bucket moment live.now.validator.state.uses }
 {
@@ -46,14 +46,14 @@ fn tell_digest(live: &Live, bucket: u8, digests: &mut SvidDigests, told: &mut Sv
     0
 }
 
-/// Puts the digest of one bucket at the moment `digests.moment`, in seconds, into its place in `digests`: that of its uses which expire later, as
-/// a summary of that moment has it. 0, and `told.len` is how many uses these are. The record stays as it is. It looks at the uses of this bucket
-/// alone, and takes no memory.
+/// Computes the digest of one bucket, and writes it to the bucket's place in `digests`: the digest of its uses that expire after
+/// `digests.moment`, in seconds, as in a summary of that moment. Returns 0, with the number of these uses in `told.len`. The record is unchanged.
+/// Visits the uses of this bucket alone, and allocates nothing.
 ///
-/// With the digests of all 256 buckets `svid_summary_of` makes the summary that the record has once it is raised to that moment. Other calls may
-/// come in between: what they add may be in the summary or not.
+/// From the digests of all 256 buckets, `svid_summary_of` makes the summary that the record would have at that moment. Other calls may come in
+/// between: what they add may or may not be in the summary.
 ///
-/// 5 where the validator is closed: then `digests` stay as they were.
+/// 5 if the validator is closed: `digests` is unchanged.
 #[unsafe(no_mangle)]
 pub extern "C" fn svid_validator_digest(
     alloc: Global,

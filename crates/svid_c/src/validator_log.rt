@@ -16,7 +16,7 @@ use svid_log::{Member, Value};
 use svid_replay::{RunUses, UseStore};
 use svid_wire::{MemSink, WireFault};
 
-// Tells why bytes are no row of messages.
+// Reports why bytes are not a sequence of messages.
 pub(crate) fn told_value(fault: Option<WireFault>) -> SvidTold
     ensures { result ≡ told_value fault }
 {
@@ -33,7 +33,7 @@ pub(crate) fn told_value(fault: Option<WireFault>) -> SvidTold
     }
 }
 
-// Lets a validator read a log, with these uses beside its record.
+// Makes a validator read a log, with these uses beside its record.
 fn begin_to_read(
     alloc: Global,
     live: &mut Live,
@@ -86,15 +86,15 @@ fn write_beside(alloc: Global, live: &Live, out: &mut [u8], told: &mut SvidTold)
     }
 }
 
-/// Lets the validator read a group's log, from `mark` on: 0. `beside` are the messages that
-/// [`svid_validator_beside`] wrote for that mark, or none. The record stays. A validator that reads a log already begins anew.
+/// Makes the validator read a group's log, from `mark` on, and returns 0. `beside` is the messages that [`svid_validator_beside`] wrote for that
+/// mark, or empty. The record is unchanged. A validator that reads a log already begins again.
 ///
-/// `ready` is the position of the last value that an earlier life of the validator may have read, so that of the last one in the log when it
-/// begins: of these values it accepts nothing. `lasts` is for how many seconds a use may live behind its being put into the log: behind a gap
-/// the validator accepts nothing for so long.
+/// `ready` is the position of the last value that an earlier life of the validator may have read, usually the last one in the log when it begins. It
+/// accepts no token by a claim up to there. `lasts` is how many seconds a use may live after it is put into the log: after a gap the validator
+/// accepts nothing for that long.
 ///
-/// 11 to 18 where `beside` are no messages, and `told.offset` says where in its message; 2 for want of memory; 5 where the validator is closed. Then
-/// nothing happened.
+/// 11 to 18 if `beside` is not messages, and `told.offset` says where in its message; 2 if out of memory; 5 if the validator is closed. Then nothing
+/// happened.
 #[unsafe(no_mangle)]
 pub extern "C" fn svid_validator_log(
     alloc: Global,
@@ -115,9 +115,9 @@ pub extern "C" fn svid_validator_log(
     status
 }
 
-/// Puts the claims beside the record first into `out`, as messages: for a save, with the mark of [`svid_validator_mark`](crate::validator_mark::svid_validator_mark)
-/// and the record of the same moment. 1 where they are longer than `out`; 2 for want of memory; 19 where the validator reads no log; 5 where it is
-/// closed.
+/// Writes the claims beside the record as messages to the start of `out`, for a save, together with the mark of
+/// [`svid_validator_mark`](crate::validator_mark::svid_validator_mark) and the record of the same moment. Returns 0, with the length in `told.len`;
+/// or 1 if they are longer than `out`; 2 if out of memory; 19 if the validator reads no log; 5 if it is closed.
 #[unsafe(no_mangle)]
 pub extern "C" fn svid_validator_beside(
     alloc: Global,

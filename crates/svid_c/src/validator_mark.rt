@@ -9,16 +9,16 @@ use std::alloc::Global;
 use svid_log::{Mark, Member};
 use svid_replay::UseStore;
 
-/// Where a validator is in a log.
+/// The position of a validator in a log.
 #[repr(C)]
 #[derive(Drop)]
 pub struct SvidMark {
-    /// The position of the last value that the validator has read whole. At the start: that of the last value in front of the first one that
-    /// the log still has, and 0 where it has all.
+    /// The position of the last value that the validator has read to its end. At the start: the position before the first value that the log still
+    /// has, and 0 if it has all.
     pub passed: u64,
-    /// How many uses of the value behind that one it has read.
+    /// How many uses of the next value it has read.
     pub begun: usize,
-    /// The moment before which it accepts nothing, in seconds: by then all that it missed has expired.
+    /// The moment before which it accepts nothing, in seconds: everything that it missed has expired by then.
     pub deaf: u64,
 }
 
@@ -33,7 +33,7 @@ pub(crate) fn mark_in(mark: &SvidMark) -> Mark
     }
 }
 
-// Where a member is, and whether it accepts first claims of its own at a moment.
+// A member's position, and whether it accepts first claims of its own at a moment.
 fn mark_seen<S: UseStore>(member: &Member<S>) -> SvidMark
     ensures { result ≡ mark_seen member.now }
 {
@@ -72,8 +72,9 @@ fn go_on(live: &mut Live, told: &mut SvidTold) -> u32
     only(0, told)
 }
 
-/// Tells where the validator is in its log: 0. `told.more` is 1 where it accepts the first claims of its own that it reads now: it has read all
-/// that earlier lives of it may have read, and the record's moment has reached `deaf`. 19 where it reads no log, and 5 where it is closed: then `mark` stays as it was.
+/// Reports the validator's position in its log, and returns 0. `told.more` is 1 if it accepts the first claims of its own that it reads now: it has
+/// read everything that its earlier lives may have read, and the record's moment has reached `deaf`. 19 if it reads no log, 5 if it is closed: `mark`
+/// is unchanged.
 #[unsafe(no_mangle)]
 pub extern "C" fn svid_validator_mark(
     alloc: Global,
@@ -91,8 +92,8 @@ pub extern "C" fn svid_validator_mark(
     status
 }
 
-/// Lets the validator accept claims though it missed values of its log that may still live: 0. A token whose claim it missed may then be
-/// accepted twice. 19 where it reads no log, and 5 where it is closed.
+/// Makes the validator accept claims although it missed values of its log that may still be live, and returns 0. A token whose claim it missed may
+/// then be accepted twice. 19 if it reads no log, 5 if it is closed.
 #[unsafe(no_mangle)]
 pub extern "C" fn svid_validator_go_on(
     alloc: Global,

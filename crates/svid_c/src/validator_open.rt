@@ -14,18 +14,18 @@ use svid_check::Validator;
 use svid_replay::Record;
 use svid_share::ToolFault;
 
-/// What a validator is given for its whole life, beside its audiences.
+/// The terms that a validator has for its whole life, beside its audiences.
 #[repr(C)]
 #[derive(Drop)]
 pub struct SvidTerms {
-    /// How many seconds past the moment of a check, or past the record's moment where that is greater, a token may expire;
-    /// with 2^64-1 it may at any moment.
+    /// How many seconds past the moment of a check, or past the record's moment if that is later, a token may expire. 2^64-1
+    /// for no limit.
     pub longest: u64,
-    /// How many seconds the moment of a message may lie ahead of the moment at which it is taken.
+    /// How many seconds a message's moment may be past the moment at which it is taken.
     pub ahead: u64,
-    /// How many seconds past the record's moment the moment of a call may lie; with 2^64-1 it may lie anywhere.
+    /// How many seconds past the record's moment the moment of a call may be. 2^64-1 for no limit.
     pub step: u64,
-    /// What tells the validator from every other one that shares its record.
+    /// Tells this validator from every other one that shares its record.
     pub validator_id: [u8; 16],
 }
 
@@ -98,10 +98,10 @@ fn open(
     }
 }
 
-/// Opens a validator that is closed, with a new record: 0. `own` are its audiences, in lines; empty lines are passed over.
+/// Opens a closed validator with a new record, and returns 0. `own` has an audience in each line. Skips empty lines.
 ///
-/// 6 where it is open; 35 where an audience is not UTF-8; 3 (of the input 1), 31 to 33 and 37 where the bundles are refused; 2
-/// for want of memory. Then it stays as it was.
+/// 6 if it is open already; 35 if an audience is not UTF-8; 3 (with `told.input` 1), 31 to 33 or 37 if the bundles are refused; 2
+/// if out of memory. Then it is unchanged.
 #[unsafe(no_mangle)]
 pub extern "C" fn svid_validator_open(
     alloc: Global,
@@ -122,7 +122,7 @@ pub extern "C" fn svid_validator_open(
     }
 }
 
-/// As [`svid_validator_open`], but `own` are the audiences one after the other, and `lens` their lengths. 36 where these do not
+/// As [`svid_validator_open`], but `own` has the audiences one after the other, and `lens` their lengths. 36 if these do not
 /// add up to the length of `own`.
 #[unsafe(no_mangle)]
 pub extern "C" fn svid_validator_open_by_lengths(
@@ -145,7 +145,7 @@ pub extern "C" fn svid_validator_open_by_lengths(
     }
 }
 
-/// Closes a validator, and gives back all its memory. One that is closed stays so.
+/// Closes a validator, and frees all its memory. A closed one is left closed.
 #[unsafe(no_mangle)]
 pub extern "C" fn svid_validator_close(alloc: Global, v: &mut SvidValidator)
     ensures { v.new.handle.live ≡ None }

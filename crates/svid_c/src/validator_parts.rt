@@ -13,13 +13,13 @@ use std::alloc::{AllocError, Global};
 use svid_replay::{Batch, Use};
 use svid_wire::{MemSink, write_batch};
 
-/// How far a record is written. C makes it with all its bytes 0, and only the calls write it.
+/// How far a record is written. C makes it with all bytes 0, and only the calls write it.
 #[repr(C)]
 #[derive(Drop)]
 pub struct SvidPart {
-    /// 0 before the first call, and 1 where a use was written, the last of which is this one.
+    /// 0 before the first call, and 1 once a use was written. The fields below are those of the last one.
     pub begun: u64,
-    /// 1 where the record had no use behind the last one that was written, and else 0.
+    /// 1 if the record had no use after the last one that was written, and else 0.
     pub done: u64,
     /// 1 where the last use is a withdrawal, and else 0.
     pub withdrawn: u64,
@@ -33,7 +33,7 @@ pub struct SvidPart {
     pub validator_id: [u8; 16],
 }
 
-// The use that was written last, where there is one.
+// The use that was written last, if there is one.
 fn after_of(part: &SvidPart) -> Option<Use>
     ensures { result ≡ after_of part.now }
 {
@@ -60,7 +60,7 @@ fn text_of(alloc: Global, batch: &Batch) -> Result<MemSink, AllocError>
     }
 }
 
-// How far a record is written behind this use, where there is one.
+// How far a record is written after this use, if there is one.
 fn behind(part: &SvidPart, last: Option<Use>) -> SvidPart
     ensures { result ≡ behind part.now last }
 {
@@ -102,7 +102,7 @@ fn ends_at(live: &Live, after: Option<Use>) -> bool
     live.validator.replay().walk_after(after).next().is_none()
 }
 
-// The same part, and whether that is the whole record.
+// The same part, marked as done if that is the whole record.
 fn or_done(live: &Live, part: SvidPart) -> SvidPart
     ensures { result ≡ or_done live.now.validator part }
 {
@@ -127,14 +127,14 @@ fn or_done(live: &Live, part: SvidPart) -> SvidPart
     }
 }
 
-// How far it is written behind these uses.
+// How far it is written after these uses.
 fn moved(live: &Live, part: &SvidPart, uses: &[Use]) -> SvidPart
     ensures { result ≡ moved live.now.validator part.now uses.now }
 {
     or_done(live, behind(part, uses.last().copied()))
 }
 
-// Goes on behind the uses where they were put.
+// Advances past the uses if they were written.
 fn settle(status: u32, live: &Live, part: &mut SvidPart, uses: &[Use])
     ensures moved { status ≡ 0 → part.new ≡ moved live.now.validator part.old uses.now }
     ensures kept { status ≢ 0 → part.new ≡ part.old }
@@ -144,7 +144,7 @@ fn settle(status: u32, live: &Live, part: &mut SvidPart, uses: &[Use])
     }
 }
 
-// How many uses have room in so many bytes.
+// How many uses fit into so many bytes.
 fn uses_in_room(len: usize) -> usize
     ensures { result ≡ uses_in_room len }
 {
@@ -176,15 +176,15 @@ fn put_part(
     status
 }
 
-/// Writes the next piece of the record into `out`, as one batch: as many uses as have room, and at most 65,536, from the first one or behind
-/// those that the calls before with `part` wrote. `part` then says how far it is written, and whether that was all: `done` is 1 exactly if
-/// the record has no use behind the last one that was written.
+/// Writes the next piece of the record to `out` as one batch: as many uses as have room, and at most 65,536. It begins with the first use,
+/// or after those that earlier calls with `part` wrote. `part` then says how far the record is written: `done` is 1 exactly if the record
+/// has no use after the last one that was written.
 ///
-/// Other calls may come in between: the pieces together have each use that the record had at the first of these calls and that is still live
+/// Other calls may come in between. The pieces together have each use that the record had at the first of these calls and that is still live
 /// at the last.
 ///
-/// 0, and `told.len` is the batch's length. 1 where `out` has fewer than 82 bytes, which the batch of one use has; 2 for want of memory; 5
-/// where the validator is closed. Then `out` and `part` stay as they were.
+/// Returns 0, with the batch's length in `told.len`. 1 if `out` has fewer than 82 bytes, the length of a batch of one use; 2 if out of
+/// memory; 5 if the validator is closed. Unless the status is 0, `out` and `part` are unchanged.
 #[unsafe(no_mangle)]
 pub extern "C" fn svid_validator_parts(
     alloc: Global,

@@ -14,28 +14,30 @@ use svid_log::{Fate, Order, Reading, Rest, Value};
 use svid_replay::Use;
 use svid_wire::WireFault;
 
-/// A use of a value of a log, and what becomes of it.
+/// A use of a value of a log, and its fate.
 #[repr(C)]
 #[derive(Drop)]
 pub struct SvidFate {
     /// The use.
     pub used: SvidUse,
-    /// 0 where it is the first claim of its token and the validator's own, so that it accepts the token. 1 where it is the first claim of its
-    /// token, and the validator does not accept it: it is of another validator ID, or an earlier life of the validator may have read it, or the
-    /// validator missed values. 2 where it is a withdrawal. The record has these. 8 where its time lies too far ahead, 118 where it has expired,
-    /// 124 where the token was withdrawn, and 125 where it was used, or claimed in front of it in the log.
+    /// 0 if it is the first claim of its token and the validator's own: it accepts the token. 1 if it is the first claim of its token, and the
+    /// validator does not accept it, for one of three reasons: the claim has another validator ID, an earlier life of the validator may have read it,
+    /// or the validator missed values. 2 if it is a withdrawal. The record gains all of these.
+    ///
+    /// 8 if its time is too far ahead, 118 if it has expired, 124 if the token was withdrawn, 125 if the token was used, or claimed earlier in the
+    /// log.
     pub fate: u64,
 }
 
-/// What a call did that read a value of a log.
+/// What a call did that reads a value of a log.
 #[repr(C)]
 #[derive(Drop)]
 pub struct SvidReading {
-    /// 0 where the value was read before, 1 where it is the next one, and 2 where values in front of it are missing.
+    /// 0 if the value was read before, 1 if it is the next one, 2 if values before it are missing.
     pub order: u64,
-    /// The number of the first of its uses that the call read, counted from 0.
+    /// The index of the first use that the call read, counted from 0.
     pub from: usize,
-    /// How many of its uses the call read, and wrote.
+    /// How many uses the call read and wrote.
     pub count: usize,
 }
 
@@ -122,7 +124,7 @@ fn room_for(alloc: Global, count: usize) -> Result<Vec<Fate>, AllocError>
     [Fate::Expired].repeat(alloc, count)
 }
 
-// Whether values are missing in front of one, by the position of the last one that was read whole.
+// Whether values are missing before this position, if `passed` is the last one that was read to its end.
 fn is_behind_gap(passed: u64, position: u64) -> bool
     ensures yes { result ≡ true → order_of passed position ≡ Gap }
     ensures no { result ≡ false → order_of passed position ≢ Gap }
@@ -130,7 +132,7 @@ fn is_behind_gap(passed: u64, position: u64) -> bool
     position > passed && position - 1 > passed
 }
 
-// So many of the uses of a value, from one of them on.
+// So many uses of a value, from this index on.
 fn part(uses: &[Use], from: usize, count: usize) -> &[Use]
     requires { count ≤ length (drop from uses.now) }
     ensures { result.now ≡ take count (drop from uses.now) }
@@ -141,7 +143,7 @@ fn part(uses: &[Use], from: usize, count: usize) -> &[Use]
     uses.split_at(from).1.split_at(count).0
 }
 
-// Reads a value, with no time for it where that is 0.
+// Reads a value. If `now` is 0, there is no time for it.
 fn read_value(
     alloc: Global,
     live: &mut Live,
@@ -184,14 +186,14 @@ fn read_value(
     value_number(value.fault, read.rest)
 }
 
-/// Reads the value of the log at `position` at the moment `now`, in seconds, and writes each of its uses, with what becomes of it, into `out`: from
-/// where the validator is in the value, as many as there is room for. `reading` says how many, and how the value follows on those that were read.
-/// Positions are counted from 1.
+/// Reads the value of the log at `position` at the moment `now`, in seconds, and writes its uses with their fates to `out`. It begins where the
+/// validator is in the value, and writes as many as have room. `reading` says how many, and how the value relates to those that were read before.
+/// Positions are counted from 1. If `now` is 0, the record's moment is not advanced.
 ///
-/// 0 where the value is read to its end, as is one that was read before, which does nothing. 1 where `out` is full, and 2 for want of memory: the same
-/// call goes on with the rest. 11 to 18 where the value is no row of messages: it has no uses, for every validator alike, and is read to its end;
-/// `told.offset` says where in its message. 19 where the validator reads no log; 5 where it is closed; 9 where `now` is more than `step` past the
-/// record's moment, and where values are missing in front of this one and `now` is 0: then nothing happened. With `now` 0 the moment is not advanced.
+/// Returns 0 if the value is read to its end. A value that was read before is skipped, and also answers 0. 1 if `out` is full, 2 if out of memory:
+/// repeat the call to continue. 11 to 18 if the value is not a sequence of messages: it counts as empty for every validator and is skipped, and
+/// `told.offset` says where the fault is in its message. 19 if the validator reads no log; 5 if it is closed; 9 if `now` is more than `step` past the
+/// record's moment, or if values before this one are missing and `now` is 0. For these three nothing happened.
 #[unsafe(no_mangle)]
 pub extern "C" fn svid_validator_read(
     alloc: Global,

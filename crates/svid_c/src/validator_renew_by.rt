@@ -9,7 +9,7 @@ use crate::trust::Trust;
 use crate::validator::{SvidValidator, only};
 use std::alloc::Global;
 
-// Exchanges the bundles of a validator for those that are held.
+// Swaps the bundles of a validator with those of a handle.
 fn exchange(live: &mut Live, trust: &mut Trust, told: &mut SvidTold) -> u32
     ensures does { Exchanges result told.new trust.old.bundles trust.new.bundles live.old.validator live.new.validator }
     ensures rest { IsRest live.old live.new }
@@ -24,7 +24,7 @@ fn exchange(live: &mut Live, trust: &mut Trust, told: &mut SvidTold) -> u32
     }
 }
 
-// Exchanges the bundles of a validator for those of a handle.
+// Swaps the bundles of a validator with those of a handle.
 fn exchange_held(alloc: Global, live: &mut Live, b: &mut SvidBundles, told: &mut SvidTold) -> u32
     ensures does { ExchangesHeld result told.new b.old.handle.trust b.new.handle.trust live.old.validator live.new.validator }
     ensures rest { IsRest live.old live.new }
@@ -37,11 +37,11 @@ fn exchange_held(alloc: Global, live: &mut Live, b: &mut SvidBundles, told: &mut
     status
 }
 
-/// Exchanges the trust bundles of a validator for those of an open handle: 0. The handle stays open, with the bundles that the validator
-/// had. Reads nothing, takes no memory, and gives none back, so the time that it takes does not depend on the bundles. The record stays
-/// as it is.
+/// Swaps the trust bundles of a validator with those of an open handle, and returns 0. The handle stays open, with the bundles that the
+/// validator had. Reads nothing, and neither allocates nor frees memory, so its time does not depend on the bundles. The record is
+/// unchanged.
 ///
-/// 5 where the validator or the handle is closed: then nothing happened.
+/// 5 if the validator or the handle is closed: then nothing happened.
 #[unsafe(no_mangle)]
 pub extern "C" fn svid_validator_renew_by(
     alloc: Global,

@@ -7,13 +7,13 @@ use crate::told::SvidTold;
 use crate::validator::{SvidValidator, only};
 use std::alloc::Global;
 
-/// How large a record is.
+/// The size of a record.
 #[repr(C)]
 #[derive(Drop)]
 pub struct SvidSize {
     /// The record's moment, in seconds.
     pub moment: u64,
-    /// How many uses it has, withdrawals among them.
+    /// How many uses it has, including withdrawals.
     pub uses: usize,
 }
 
@@ -28,8 +28,8 @@ fn size(live: &Live, out: &mut SvidSize, told: &mut SvidTold) -> u32
     only(0, told)
 }
 
-/// Tells the moment of the record and how many uses it has: 0. It looks at none of them, so the time that it takes does not depend on
-/// how many there are. 5 where the validator is closed: then `out` stays as it was.
+/// Reports the moment of the record and how many uses it has, and returns 0. Visits no use, so its time does not depend on how many
+/// there are. 5 if the validator is closed: `out` is unchanged.
 #[unsafe(no_mangle)]
 pub extern "C" fn svid_validator_size(
     alloc: Global,

@@ -10,7 +10,7 @@ use std::alloc::Global;
 use svid_check::TakeFault;
 use svid_replay::{Record, RunUses};
 
-// Takes what messages tell.
+// Joins the record with messages.
 fn take(alloc: Global, live: &mut Live, now: u64, messages: &[u8], told: &mut SvidTold) -> u32
     ensures does { Takes now messages.now result told.new live.old.validator live.new.validator }
     ensures rest { IsRest live.old live.new }
@@ -27,10 +27,12 @@ fn take(alloc: Global, live: &mut Live, now: u64, messages: &[u8], told: &mut Sv
     }
 }
 
-/// Takes messages that others sent, at a moment, in seconds: the record is raised to it, and joined with what all of them tell;
-/// summaries are passed over. 8 where a message's moment is past `now` and `ahead` together: then only the raise stands. 3 and 11
-/// to 18 where they are no row of messages, and `told` tells where: then nothing happened. 2 for want of memory: then a part of
-/// them may be joined, and the same call can be made again. 5 where the validator is closed.
+/// Takes messages of other validators at the moment `now`, in seconds: the record is advanced to it, and joined with all of them.
+/// Skips summaries. Returns 0.
+///
+/// 8 if a message's moment is past `now` and `ahead` together: the record is advanced, and nothing is joined. 3 and 11 to 18 if
+/// the bytes are not a sequence of messages, and `told` says where: nothing happened. 2 if out of memory: a part of them may be
+/// joined, and you can repeat the call. 5 if the validator is closed.
 #[unsafe(no_mangle)]
 pub extern "C" fn svid_validator_take(
     alloc: Global,

@@ -58,8 +58,8 @@ fn sum(alloc: Global, live: &Live, out: &mut [u8], told: &mut SvidTold) -> u32
     }
 }
 
-/// Puts the record first into `out`, as messages for others and for a save: the texts of its parts. 1 where they are longer than
-/// `out`; 2 for want of memory; 5 where the validator is closed.
+/// Writes the record as messages to the start of `out`, for other validators or for a save. Returns 0, with the length in
+/// `told.len`; or 1 if they are longer than `out`; 2 if out of memory; 5 if the validator is closed.
 #[unsafe(no_mangle)]
 pub extern "C" fn svid_validator_tell(
     alloc: Global,
@@ -77,7 +77,7 @@ pub extern "C" fn svid_validator_tell(
     status
 }
 
-/// Puts the summary of the record first into `out`: 8,205 bytes. What it answers is as of [`svid_validator_tell`].
+/// Writes the summary of the record to the start of `out`: 8,205 bytes. Answers as [`svid_validator_tell`] does.
 #[unsafe(no_mangle)]
 pub extern "C" fn svid_validator_summary(
     alloc: Global,

@@ -8,7 +8,7 @@ use crate::validator::{SvidValidator, only};
 use std::alloc::Global;
 use svid_check::WithdrawFault;
 
-/// The key by which the uses of a token are told.
+/// A token's key, which identifies the token.
 #[repr(C)]
 #[derive(Drop)]
 pub struct SvidKey {
@@ -39,10 +39,10 @@ fn withdraw(
     }
 }
 
-/// Withdraws the tokens with a key until `exp`, when they expire, at a moment, both in seconds: 0, and `used` is the withdrawal
-/// that was added to the record. 7 where the tokens have expired at the record's moment, which is raised first; 2 for want of
-/// memory, but never for a withdrawal that the record has already; 5 where the validator is closed, and 9 where `now` is more than `step`
-/// past the record's moment.
+/// Withdraws the tokens with a key until `exp`, when they expire, at the moment `now`, both in seconds. Advances the record first.
+/// Returns 0, and `used` is the withdrawal that was added to the record. 7 if the tokens have expired at the record's moment; 2 if out of
+/// memory, but never for a withdrawal that the record has already; 5 if the validator is closed; 9 if `now` is more than `step` past the
+/// record's moment.
 #[unsafe(no_mangle)]
 pub extern "C" fn svid_validator_withdraw(
     alloc: Global,

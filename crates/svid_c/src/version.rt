@@ -1,6 +1,6 @@
 ghost use Rattle.std.specs.Prelude.{◌≡◌};
 
-/// The version of the library: 10,000 times its major number, 100 times its minor one, and its patch.
+/// The version of the library: 10,000 times its major number, plus 100 times its minor one, plus its patch.
 #[unsafe(no_mangle)]
 pub extern "C" fn svid_version() -> u32
     ensures { result ≡ 30000 }

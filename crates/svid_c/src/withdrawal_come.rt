@@ -9,17 +9,17 @@ use crate::validator::SvidValidator;
 use std::alloc::Global;
 use svid_member::{Part, Place, Withdrawal};
 
-/// A withdrawal of a member on its way to all keepers that are to have it.
+/// A withdrawal of a member on its way to each keeper: the state folder, the store and the log.
 #[repr(C)]
 #[derive(Drop)]
 pub struct SvidWithdrawal {
-    /// Its number; 2^64-1 where none has ended.
+    /// Its number; 2^64-1 if none has ended.
     pub number: u64,
-    /// How far it is at the state folder: 0 it waits, 1 it is there, or there is no such keeper, 2 it may not be there.
+    /// Its progress at the state folder: 0 it waits, 1 it is there, or the member has no such keeper, 2 it may not be there.
     pub disk: u64,
-    /// How far it is at the store.
+    /// Its progress at the store.
     pub store: u64,
-    /// How far it is at the log.
+    /// Its progress at the log.
     pub log: u64,
 }
 
@@ -33,7 +33,7 @@ fn part_number(part: Part) -> u64
     }
 }
 
-// The keeper of a number; each other number is that of the log.
+// The keeper with this number. Any number but 0 and 1 is the log.
 fn keeper_in(number: u64) -> Place
     ensures { result ≡ keeper_in number }
 {
@@ -64,7 +64,7 @@ fn ended_seen(ended: Option<(u64, Withdrawal)>) -> SvidWithdrawal
     }
 }
 
-// The withdrawal of this number is under way.
+// A withdrawal with this number, under way.
 fn under_way(number: Option<u64>) -> SvidWithdrawal
     ensures { result ≡ under_way number }
 {
@@ -131,10 +131,10 @@ fn give_up(live: &mut Live, up: u64, made: &mut SvidWithdrawal) -> u32
     0
 }
 
-/// A withdrawal that the record has is on its way to all keepers that are to have it: 0, and `made` has its number, which is 2^64-1 where none is
-/// left. Then it is on its way nowhere.
+/// Sends a withdrawal that the record has to each keeper of the member. Returns 0, and `made` has its number. If no number is left, that is 2^64-1,
+/// and it is not under way.
 ///
-/// 2 for want of memory: it is on its way nowhere, and may be made again. 20 where the validator has no member, 5 where it is closed.
+/// 2 if out of memory: it is not under way, and you can repeat the call. 20 if the validator has no member, 5 if it is closed.
 #[unsafe(no_mangle)]
 pub extern "C" fn svid_withdrawal_come(
     alloc: Global,
@@ -152,10 +152,11 @@ pub extern "C" fn svid_withdrawal_come(
     status
 }
 
-/// A keeper has the withdrawal of this number, or may not have it, where `ok` is 0: 0 is the state folder, 1 the store, and any other number the log.
-/// `made` is that withdrawal, if it waits for no keeper any more, or else has the number 2^64-1. One that has ended hears of nothing.
+/// Reports that a keeper has the withdrawal of this number, or, if `ok` is 0, that it may not have it. The keeper is 0 for the state folder, 1 for
+/// the store, any other number for the log. `made` is that withdrawal if it waits for no further keeper, and else has the number 2^64-1. Has no
+/// effect on a withdrawal that has ended.
 ///
-/// 20 where the validator has no member, 5 where it is closed.
+/// 20 if the validator has no member, 5 if it is closed.
 #[unsafe(no_mangle)]
 pub extern "C" fn svid_withdrawal_told(
     alloc: Global,
@@ -175,9 +176,9 @@ pub extern "C" fn svid_withdrawal_told(
     status
 }
 
-/// Gives up the withdrawal that came first, if its time is over: where it waits it has failed. To be called until `made` has the number 2^64-1.
+/// Ends the oldest withdrawal, if its time is over: it has failed wherever it still waits. Call it until `made` has the number 2^64-1.
 ///
-/// 20 where the validator has no member, 5 where it is closed.
+/// 20 if the validator has no member, 5 if it is closed.
 #[unsafe(no_mangle)]
 pub extern "C" fn svid_withdrawal_overdue(
     alloc: Global,

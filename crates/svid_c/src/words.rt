@@ -6,15 +6,15 @@ use crate::statuses::{CALLS, FOLDERS, FORMATS, KEYS, MEMBERS, REFUSALS};
 
 /// The texts of a status.
 pub(crate) struct Words {
-    /// Its name in the header, as "SVID_OK".
+    /// Its name in the header, like "SVID_OK".
     pub name: &'static str,
-    /// What it says, as a sentence, and after a space what to do, where there is something to do.
+    /// Its sentence, and after a space its advice, if it has any.
     pub sentence: &'static str,
-    /// The length of what it says, in bytes: the advice begins one byte further on.
+    /// The length of the sentence, in bytes. Any advice begins one byte further on.
     pub says_len: usize,
 }
 
-// The texts of a number that no status has.
+// The texts of a number without a status.
 static NONE: Words = Words {
     name: "SVID_?",
     sentence: "No status has this number.",
@@ -69,7 +69,7 @@ fn refusals() -> &'static [(u32, Words)]
     &REFUSALS
 }
 
-// What stands beside this number, or else `none`.
+// The row with this number, or else `none`.
 #[tactic(auto, unfolding(crate::specs::Texts::row_in))]
 fn row_in<'a>(table: &'a [(u32, Words)], number: u32, none: &'a Words) -> &'a Words
     ensures { result.now ≡ row_in number none.now table.now }
@@ -82,7 +82,7 @@ fn row_in<'a>(table: &'a [(u32, Words)], number: u32, none: &'a Words) -> &'a Wo
     none
 }
 
-/// The texts of the status that has this number, or those of a number that no status has.
+/// The texts of the status with this number, or those of a number without a status.
 pub(crate) fn words_of(number: u32) -> &'static Words
     ensures name { result.now.name.now ≡ (texts_of number).name }
     ensures sentence { result.now.sentence.now ≡ sentence (texts_of number) }

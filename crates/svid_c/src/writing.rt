@@ -5,7 +5,7 @@ ghost use Rattle.svid_c.specs.Written.{IsPut};
 use crate::told::{SvidTold, fault_number, told_fault, told_length};
 use svid_share::ToolFault;
 
-// Puts a text first into the room that the caller lent, where it has room: 0, and else 1.
+// Writes a text to the start of the room that the caller lends, if it has room: 0, and else 1.
 pub(crate) fn put(text: &[u8], out: &mut [u8], told: &mut SvidTold) -> u32
     ensures put { IsPut text.now result out.old out.new }
     ensures told { told.new ≡ told_length (length text.now) }
@@ -18,7 +18,7 @@ pub(crate) fn put(text: &[u8], out: &mut [u8], told: &mut SvidTold) -> u32
     0
 }
 
-// Tells why there is no text.
+// Reports why there is no text.
 pub(crate) fn refuse(fault: ToolFault, told: &mut SvidTold) -> u32
     ensures number { result ≡ fault_number fault }
     ensures told { told.new ≡ told_fault fault }

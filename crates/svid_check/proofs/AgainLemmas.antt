@@ -13,7 +13,7 @@ use Rattle.svid_check.specs.Setting.{Setting}
 use Rattle.svid_check.specs.Verdict.{AcceptedAreJudgedAgain, acceptance, again_rows, is_own, is_signed, key_of, keys_for, made_at, rows_if_said, setting_rows, verdict, verdict_rows}
 use Rattle.svid_check.proofs.RowsLemmas.{judged-Ok, none_of_both, passed, passes}
 
--- what begins by a moment has begun later, and what lasts no longer than it may does so later
+-- what begins by a moment has begun later, and what lasts at most that long does so later
 begun_later : (moment later : ℕ) (nbf : Option ℕ) → moment ≤ later → holds_of nbf (λ n. nat_lt moment n) ≡ false → holds_of nbf (λ n. nat_lt later n) ≡ false
 begun_later moment later None le begun = refl
 begun_later moment later (Some n) le begun = grind (arith, nat_tests)
@@ -22,7 +22,7 @@ lasts_later : (moment later exp : ℕ) (longest : Option ℕ) → moment ≤ lat
 lasts_later moment later exp None le lasts = refl
 lasts_later moment later exp (Some l) le lasts = grind (arith, nat_tests)
 
--- of what the setting does not refuse, it refuses later what the use tells
+-- what the setting does not refuse is refused later only for the token's own use or expiry
 settled_later : (s : Setting) (moment later : ℕ) (uses others : Uses) (t : Said) → first_row (setting_rows s moment uses t) ≡ None → moment ≤ later
     → first_row (setting_rows s later others t) ≡ first_row (again_rows later others (key_of t) t.exp)
 settled_later s moment later uses others t none le =

@@ -40,7 +40,7 @@ module _ (w : World) (v j k : ℕ) (answer summary : Posting) (parts : List Batc
       let same = same_Some gave.1 summary (sym gave.2 ∙ at_k) in
       summed_same gave.0 s (sym gave.3 ∙ (ap (λ (x : Posting). x.content) same ∙ is_summary)) ∙ g
 
-  -- what a part carries is told
+  -- what a part carries is learned
   part_told : (p : ℕ) (b : BatchData) (u : Use) → slice_get (cut answer.was.held.moment (rising (stale gave.0 answer.was.held.uses))) p ≡ Some b → IsTrue (holds (carried answer.was.told.uses b) u) → IsTrue (holds (w.members v).told.uses u)
   part_told p b u e h =
       let index = ap (λ (c : Content). slice_get (parts_in c) p) is_answer ∙ (ap (λ (ps : List BatchData). slice_get ps p) gave.4 ∙ e) in

@@ -1,4 +1,4 @@
--- What a check answers is the verdict, or want of memory.
+-- A check answers the verdict, or that it is out of memory.
 use Rattle.std.proofs.Common.{◌≡◌, ◌≢◌, ℕ, Bool, true, false, List, Option, Some, None, refl, ap}
 use Rattle.std.specs.Prelude.{Result, Ok, Err, option_map}
 use Rattle.svid_token.specs.Compact.{compact_rows, parts_of}
@@ -41,7 +41,8 @@ by_verdict (Ok (Some accepted)) = refl
 by_verdict (Ok None) = tt
 by_verdict (Err refusal) = refused refusal (Err refusal) refl
 
--- a check is answered by the verdict, or by want of memory, which does not stand for a refusal of the token's form
+-- a check answers the verdict, or that it is out of memory, but the latter never instead of a refusal for the
+-- token's form
 pub answers_verdict : (s : Setting) (x : State) (token : List ℕ) (refused : Bool)
     → Answers Some (check_answer s x token refused) (verdict s x.moment x.uses token) × RefusesForm token (check_answer s x token refused)
 answers_verdict s x token true =

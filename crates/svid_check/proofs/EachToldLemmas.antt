@@ -1,4 +1,5 @@
--- What is kept by all that may happen to a validator holds of each; so a property of every use that is accepted is one of every use that is told.
+-- An invariant of all events of a validator holds for each validator. So a property of every use that is accepted is a property of every use that
+-- is learned.
 use Rattle.std.proofs.Common.{◌≡◌, ◌≤◌, ℕ, Bool, true, false, cond, if◌then◌else◌, nat_lt, List, [], ◌∷◌, length, Contains, IsTrue, Option, Some, None, Result, Ok, Err, refl, sym, ap, ◌∙◌, subst, inl, inr}
 use Rattle.std.specs.Prelude.{slice_get, ◌==◌}
 use Rattle.std.specs.List.{AllByRecursion}
@@ -168,7 +169,7 @@ module _ (N : ℕ → Type 0) (A : Use → Type 0) (I : Member → Type 0) (kept
 abbrev pub Each : (Use → Type 0) → Uses → Type 0
 Each P s = (u : Use) → IsTrue (holds s u) → P u
 
--- P holds of each use that a validator was told, by now, by each posting and by each save
+-- P holds for each use that a validator has learned, by now, at each posting and at each save
 abbrev pub AllTold : (Use → Type 0) → World → Type 0
 AllTold P w = Everywhere (λ x. Each P x.told.uses) w
 
@@ -202,7 +203,7 @@ any_moment : (e : Event) → IsAt (λ n. Unit {0}) e
 any_moment (Check v now token refused) = tt
 any_moment _ = tt
 
--- what holds of each use that the group accepts and of each withdrawal that it makes holds of each that is told
+-- what holds for each use that the group accepts, and for each withdrawal that it makes, holds for each use that is learned
 pub each_told : (group : ℕ → Terms) (events : List Event) (P : Use → Type 0) → ((u : Use) → Contains (accepted group start events) u → P u) → ((u : Use) → Contains (withdrawn group start events) u → P u)
     → AllTold P (happen group start events)
 each_told group events P is gone =

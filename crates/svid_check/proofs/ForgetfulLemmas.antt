@@ -1,4 +1,4 @@
--- Where restarts leave the logs as they were, a log does not say what was told.
+-- If restarts leave the logs as they were, a log does not say what was learned.
 use Rattle.std.proofs.Common.{◌≡◌, ℕ, zero, suc, ◌<◌, ◌≤◌, ◌^◌, max, Bool, true, false, not, ◌||◌, ◌&&◌, nat_lt, List, [], ◌∷◌, Some, None, Contains, refl, sym, ap, ◌∙◌, subst, arith, if◌then◌else◌}
 use Rattle.std.specs.Prelude.{Result, Ok, slice_get}
 use Rattle.std.specs.List.Sorted.{IsStrictlySortedBy}

@@ -91,7 +91,7 @@ fresh s moment uses token u held a is_held same =
     let found = any_in (has_key (key_of is.said)) (rising uses) held in_uses (subst (λ k. is_eq (bytes_cmp k held.key) ≡ true) key (ap is_eq (tied_itself nat_list_cmp_total held.key))) in
     true≢false (sym found ∙ unused s moment uses is.said is.unrefused)
 
--- what claims and a signing input give of what is said
+-- what claims and a signing input contribute to what a token says
 record IsSaidBy (claims : ClaimsSaid) (input : List ℕ) (t : Said) : Type 0 where
   sub : claims.sub ≡ Some t.sub
   exp : claims.exp ≡ Some t.exp

@@ -1,4 +1,4 @@
--- A validator's record stays what it was told.
+-- A validator's record stays what it has learned.
 use Rattle.std.proofs.Common.{◌≡◌, ℕ, max, Bool, true, false, not, ◌&&◌, ◌||◌, nat_lt, [], ◌∷◌, refl, sym, ap, ◌∙◌, inl, inr, arith}
 use Rattle.std.specs.Prelude.{Option, None, Some}
 use Rattle.std.proofs.lemmas.Bool.{and_parts, false≢true, ltb-true, lt-ltb, or_left, or_right, or_cases}
@@ -16,7 +16,7 @@ use Rattle.svid_check.specs.Told.{Told, record_of, tell, tell_one}
 use Rattle.svid_check.specs.World.{Member, carried, gained, joined, ticked}
 use Rattle.svid_check.proofs.RunsLemmas.{told_now, told_one}
 
--- a validator's record is what it was told
+-- a validator's record is what it has learned
 abbrev pub IsTold : Member → Type 0
 IsTold x = x.held ≡ record_of x.told
 
@@ -31,7 +31,7 @@ pub gained_told : (x : Member) (added : Option Use) → IsTold x → IsTold (gai
 gained_told x (Some u) is = sym (told_one x.told (Some u) ∙ ap (λ (r : State). join r (record { moment = r.moment; uses = uses_in (u ∷ []) })) (sym is))
 gained_told x None is = is
 
--- of a batch that a sender's told has, what has not expired is told
+-- the uses of a batch that a sender had learned and that have not expired are learned
 carried_tests : (late soon own has has_it told : Bool) → (has_it ≡ true → has ≡ true) → (late ≡ true → soon ≡ true) → (late ≡ true → own ≡ true)
     → (late && (((has_it || not own) && has) || told)) ≡ (late && (has_it || (soon && told)))
 carried_tests false soon own has has_it told h k l = refl
@@ -75,7 +75,7 @@ carried_within s b u h = (and_parts (holds (uses_in b.uses) u || not (nat_lt b.m
 pub live_within : (s : Uses) (m : ℕ) → IsWithin (live s m) s
 live_within s m u h = (and_parts (nat_lt m u.exp) (holds s u) (sym (holds-live s m u) ∙ h)).1
 
--- whoever is told one use more was told what was told before
+-- a validator that learns one use more still knows what it had learned before
 pub told_before : (x : Told) (added : Option Use) → IsWithin x.uses (tell_one x added).uses
 told_before x (Some v) u h = with_holds_one_more x.uses v u ∙ or_right _ (holds x.uses u) h
 told_before x None u h = h

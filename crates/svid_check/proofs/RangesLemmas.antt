@@ -1,4 +1,4 @@
--- Where the validator IDs and the moments of a group are in range, so are each use that is told and each record's moment.
+-- If the validator IDs and the moments of a group are in range, so are each use that is learned and each record's moment.
 use Rattle.std.proofs.Common.{◌≡◌, ◌+◌, ◌-◌, ◌^◌, ◌<◌, ◌≤◌, ℕ, max, min, List, [], ◌∷◌, Contains, Option, None, Some, Result, Ok, Err, refl, sym, subst, inl, inr, arith}
 use Rattle.std.specs.List.{AllByRecursion}
 use Rattle.std.proofs.lemmas.List.Elements.{Contains-append_cases}

@@ -1,4 +1,4 @@
--- What a validator's record reports, where the record is what was told.
+-- What a validator's record reports, if the record is what was learned.
 use Rattle.std.proofs.Common.{◌≡◌, ◌≢◌, ◌↔◌, ◌<◌, ℕ, nat_lt, Bool, not, List, [], ◌∷◌, map, Contains, IsTrue, true, false, ◌&&◌, refl, sym, ap, ◌∙◌, subst, inl, inr}
 use Rattle.std.specs.FinMap.{nat_cmp-IsAntisymmetric, slice_cmp-IsAntisymmetric}
 use Rattle.std.specs.Ordering.{is_eq}
@@ -23,7 +23,7 @@ use Rattle.svid_check.specs.World.{Member}
 use Rattle.svid_check.proofs.EachToldLemmas.{told_were_accepted}
 use Rattle.svid_check.proofs.LawfulLemmas.{is_used, of_its_input}
 
--- the test of what is no withdrawal
+-- a use is no withdrawal
 abbrev is_use : Use → Bool
 is_use u = not u.withdrawn
 
@@ -97,7 +97,7 @@ module _ (x : Member) (told : x.held ≡ record_of x.told) where
         (report_is_whole found.0 b found.1).1 (subst (λ k. IsLiveUse x.told k b) (sym found.2) other),
       )
 
--- where all records are what was told
+-- if all records are what was learned
 module _ (records : RecordsAreTold) where
   pub reports_are_exact : ReportsAreExact
   reports_are_exact group events v key = report_is_exact (member_after group events v) (records group events v) key

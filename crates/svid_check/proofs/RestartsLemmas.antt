@@ -1,4 +1,4 @@
--- A new record that absorbs all parts of a record of what was told is that record.
+-- A new record that absorbs all parts of the record of a validator is that record.
 use Rattle.std.proofs.Common.{◌≡◌, max, Bool, true, false, ◌&&◌, ◌||◌, nat_lt, [], refl, sym, ap, ◌∙◌, subst, arith}
 use Rattle.svid_replay.specs.Parts.{join_all, parts_of}
 use Rattle.svid_replay.specs.Records.{State, join, state_of}
@@ -15,7 +15,7 @@ pruned_again true true = refl
 pruned_again true false = refl
 pruned_again false held = refl
 
--- a new record joined with what was told
+-- a new record joined with what was learned
 new_joined : (x : Told) → join (state_of 0 []) (record_of x) ≡ record_of x
 new_joined x =
     let r = record_of x in

@@ -25,7 +25,7 @@ use Rattle.svid_check.proofs.IndexesLemmas.{put_own, renewed_validator_id}
 use Rattle.svid_check.proofs.RunsLemmas.{told_all, told_now, told_one, told_use}
 use Rattle.svid_check.proofs.SoundLemmas.{is_sound}
 
--- what a take tells is what it leaves of the record of what was told
+-- what is learned by a take is what it leaves of the record
 takes_back : (x y : Told) (last : ℕ) (b : BatchData) (answer : Result (Unit {0}) TakeFault) → TellsBatch x last b answer y → Takes (record_of x) last b answer (record_of y)
 takes_back x y last b (Ok taken) h = (h.0, ap record_of h.1 ∙ told_all x (batch_state b))
 takes_back x y last b (Err TooFarAhead) h = (h.0, ap record_of h.1)
@@ -48,7 +48,7 @@ took_renewal last x entry sender b None = cond_both (nat_lt last b.moment) x (lo
 took_renewal last x entry sender b (Some n) = cond_both (nat_lt last b.moment) x (joined x sender (front n b)) (λ (m : Member). m.renewal ≡ x.renewal) (λ _. refl) (λ _. refl)
 
 module _ (group : ℕ → Terms) (v : ℕ) where
-  -- an event that is a call: it posts nothing, gives no other setting, and leaves the record of what was told then
+  -- an event that is a call: it posts nothing, gives no other setting, and leaves the record of everything learned
   record Goes (w : World) (c : Call) (a : Answer) (y : Told) : Type 0 where
     event : Event
     is_call : IsCall group v w c a event

@@ -41,7 +41,7 @@ pruned_first false soon new held so = refl
 live_before : (m n e : ℕ) → nat_lt (max m n) e ≡ true → nat_lt m e ≡ true
 live_before m n e is = lt-ltb m e (let later = ltb-true (max m n) e is in omega arith)
 
--- who is told a moment and uses has the record's join with them
+-- a validator that learns a moment and uses has the record's join with them
 joined : (x y : Told) (b : State) → y.greatest ≡ max x.greatest b.moment → ((u : Use) → holds y.uses u ≡ (holds b.uses u || holds x.uses u)) → record_of y ≡ join (record_of x) b
 joined x y b greatest uses =
     is_join (record_of x) b (record_of y) greatest (λ u.
@@ -68,7 +68,7 @@ told_use x answer = told_one x (accepted_in answer)
 pub told_all : (x : Told) (b : State) → record_of (tell x b) ≡ join (record_of x) b
 told_all x b = joined x (tell x b) b refl (λ u. holds-union x.uses b.uses u)
 
--- a check of a record is one of what was told
+-- a check by a record is one by what was learned
 pub checks : (t : Terms) (a b : State) (now : ℕ) (event : Event) (answer : Result Accepted Refusal) (token : List ℕ)
     → Answers Some answer (verdict t.setting (raised_to a now).moment (raised_to a now).uses token)
     → RefusesForm token answer
@@ -103,7 +103,7 @@ pub ticks : (t : Terms) (a b : State) (now : ℕ) (event : Event) → b ≡ rais
     → ((x : Told) → Step t x event Ticked (tell_now x now)) → RunsFrom t a (event ∷ []) (Ticked ∷ []) b
 ticks t a b now event left step x is = (tell_now x now, (tell_now x now, step x, refl), told_now x a now is ∙ sym left)
 
--- a take of a record is one of what was told
+-- a take by a record is one by what was learned
 told_batch : (x : Told) (a b : State) (far : ℕ) (batch : BatchData) (answer : Result (Unit {0}) TakeFault) → record_of x ≡ a → Takes a far batch answer b
     → (y : Told) × TellsBatch x far batch answer y × (record_of y ≡ b)
 told_batch x a b far batch (Ok taken) is h = (tell x (batch_state batch), (h.0, refl), told_all x (batch_state batch) ∙ ap (λ (r : State). join r (batch_state batch)) is ∙ sym h.1)

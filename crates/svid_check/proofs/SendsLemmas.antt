@@ -59,19 +59,19 @@ carried_expired s b u h l =
 pub is_live : (s : Uses) (m : ℕ) (u : Use) → IsTrue (holds s u) → m < u.exp → IsTrue (holds (live s m) u)
 is_live s m u h l = holds-live s m u ∙ and_from (nat_lt m u.exp) (holds s u) (lt-ltb m u.exp l) h
 
--- what was told and has not expired is in the record
+-- each use that was learned and has not expired is in the record
 pub told_is_held : (x : Member) (u : Use) → IsTold x → IsTrue (holds x.told.uses u) → x.held.moment < u.exp → IsTrue (holds x.held.uses u)
 told_is_held x u is h l =
     ap (λ (r : State). holds r.uses u) is ∙ is_live x.told.uses x.told.greatest u h (subst (λ (r : State). r.moment < u.exp) is l)
 
--- what a part that was taken carries is told
+-- what a part that was taken carries is learned
 pub arrived_within : (pool : List Posting) (k p : ℕ) (told : Uses) (q : Posting) (b : BatchData) → Arrived pool k p told → slice_get pool k ≡ Some q → slice_get (parts_in q.content) p ≡ Some b → IsWithin (carried q.was.told.uses b) told
 arrived_within pool k p told q b a e f =
     let same = same_Some a.posting q (sym a.stands ∙ e) in
     let part = same_Some a.part b (sym a.is_part ∙ (ap (λ (x : Posting). slice_get (parts_in x.content) p) same ∙ f)) in
     subst (λ (x : BatchData). IsWithin (carried q.was.told.uses x) told) part (subst (λ (x : Posting). IsWithin (carried x.was.told.uses a.part) told) same a.within)
 
--- some part of a record's parts carries each use that was told
+-- some part of a record's parts carries each use that was learned
 pub cut_carries : (x : Member) (parts : List BatchData) (u : Use) → AreCut x.held.moment (rising x.held.uses) parts → IsTold x → IsTrue (holds x.told.uses u) → (p : ℕ) × (b : BatchData) × (slice_get parts p ≡ Some b) × IsTrue (holds (carried x.told.uses b) u)
 cut_carries x parts u are is h =
     elim (cases_lt x.held.moment u.exp) [
@@ -83,7 +83,7 @@ cut_carries x parts u are is h =
           (0, f.0, f.1, carried_expired x.told.uses f.0 u h (subst (λ (m : ℕ). u.exp ≤ m) (sym f.2) ge))
     ]
 
--- whoever stands in a group and took a send whole was told what its sender had been told
+-- a validator of a group that took a send whole has learned what its sender had learned
 pub send_told : (w : World) (x : Member) (k : ℕ) (q : Posting) → Sound w → Stands w.pool x → IsSend w k q → HasTaken x.log k q → IsWithin q.was.told.uses x.told.uses
 send_told w x k q s stands send taken u h =
     let are : AreCut q.was.held.moment (rising q.was.held.uses) send.1.0 = subst (Given w.pool q.was.held) send.1.1 (s.pool k q send.0) in
@@ -94,7 +94,7 @@ send_told w x k q s stands send taken u h =
 pub sends_tell : SendsTellAll
 sends_tell group events v k q send taken = send_told (happen group start events) ((happen group start events).members v) k q (is_sound group events) ((is_sound group events).members v) send taken
 
--- the last maker of a chain was told what went along it
+-- the last maker of a chain has learned what went along it
 went_along : (w : World) → Sound w → (u : Use) (k : ℕ) (chain : List ℕ) (q : Posting) → IsSend w k q → WentAlong w u k chain → IsTrue (holds q.was.told.uses u)
 went_along w s u k [] q send along = subst (λ (p : Posting). IsTrue (holds p.was.told.uses u)) (same_Some along.0 q (sym along.1.0 ∙ send.0)) along.2
 went_along w s u k (before ∷ chain) q send along =
@@ -110,7 +110,7 @@ accepted_told x accepted =
     with_holds_one_more x.told.uses accepted.used accepted.used
     ∙ or_left (eq_by_cmp use_cmp accepted.used accepted.used) (holds x.told.uses accepted.used) (ap is_eq (tied_itself use_total accepted.used))
 
--- a use that was told is in the record, unless it has expired, so tokens of its signing input are refused
+-- a use that was learned is in the record, unless it has expired, so tokens of its signing input are refused
 pub told_refuses : (x : Member) (input : List ℕ) (u : Use) → IsTold x → IsTrue (holds x.told.uses u) → IsUseOf u input → IsRefusedBy x input
 told_refuses x input u is h of s token now refused accepted is_input e =
     let y = ticked x now in
@@ -164,7 +164,7 @@ took_within limit x e s b (Some n) h =
     (λ _. h) (λ _. union_within x.told.uses (carried s (front n b)) s h (carried_within s (front n b)))
 
 module _ (group : ℕ → Terms) (v k : ℕ) (q : Posting) where
-  -- posting k is q, and validator v was told no more than its maker
+  -- posting k is q, and validator v has learned no more than its maker
   record Under (w : World) : Type 0 where
     index : slice_get w.pool k ≡ Some q
     told : IsWithin (w.members v).told.uses q.was.told.uses

@@ -27,7 +27,7 @@ use Rattle.svid_check.proofs.MembersLemmas.{IsTold, gained_told, joined_told, li
 use Rattle.svid_check.proofs.IndexesLemmas.{last_index, later_index, index_cases}
 use Rattle.svid_check.specs.Setting.{Renewal}
 
--- a part of a posting was taken: what it carries is told
+-- a part of a posting was taken: what it carries is learned
 pub record Arrived (pool : List Posting) (k p : ℕ) (told : Uses) : Type 0 where
   pub posting : Posting
   pub part : BatchData
@@ -35,7 +35,7 @@ pub record Arrived (pool : List Posting) (k p : ℕ) (told : Uses) : Type 0 wher
   pub is_part : slice_get (parts_in posting.content) p ≡ Some part
   pub within : IsWithin (carried posting.was.told.uses part) told
 
--- a summary was made when no more was told
+-- a summary was made when no more was learned
 pub record Summarized (pool : List Posting) (k : ℕ) (told : Uses) : Type 0 where
   pub posting : Posting
   pub stands : slice_get pool k ≡ Some posting
@@ -54,7 +54,7 @@ means_later : (pool : List Posting) (q : Posting) (s : Uses) (e : Entry) → Mea
 means_later pool q s (Took k p) a = record { posting = a.posting; part = a.part; stands = later_index pool q k a.posting a.stands; is_part = a.is_part; within = a.within }
 means_later pool q s (Made k) a = record { posting = a.posting; stands = later_index pool q k a.posting a.stands; within = a.within }
 
--- a validator's record is what it was told, and its log says what is so
+-- a validator's record is what it has learned, and its log says what is so
 pub record Stands (pool : List Posting) (x : Member) : Type 0 where
   pub is_told : IsTold x
   pub entries : (e : Entry) → Contains x.log e → Means pool x.told.uses e
@@ -97,11 +97,11 @@ given_later pool q held (Summed s) g = g
 given_later pool q held (Pieced piece) g = g
 given_later pool q held (Answered k parts) g = (g.0, g.1, later_index pool q k g.1 g.2, g.3, g.4)
 
--- a record that is what was told holds nothing else
+-- a record that is what was learned holds nothing else
 pub held_within : (x : Member) → IsTold x → IsWithin x.held.uses x.told.uses
 held_within x is u h = live_within x.told.uses x.told.greatest u (sym (ap (λ (r : State). holds r.uses u) is) ∙ h)
 
--- nor do the parts of what is posted
+-- nor do the parts of a posting
 pub parts_within : (pool : List Posting) (x : Member) (c : Content) → IsTold x → Given pool x.held c → (p : ℕ) (b : BatchData) → slice_get (parts_in c) p ≡ Some b → IsWithin (uses_in b.uses) x.told.uses
 parts_within pool x (Sent parts) is g p b e u h =
     held_within x is u

@@ -25,7 +25,7 @@ any_same p q (key ∷ keys) same =
     ap (λ b. b || list_any p keys) first ∙ ap (λ b. q key || b) rest
 
 module _ (s : Setting) (says : Says) (asked : List (List ℕ)) (moment : ℕ) (uses : Uses) where
-  -- the rows of what is said, where this is whether a candidate made the signature
+  -- the rows for a token that says this, if this says whether a candidate made the signature
   abbrev rows_with : Said → Bool → List Row
   rows_with t signed =
       (NotAudience, not (list_any (is_own s.own) t.aud))
@@ -66,7 +66,7 @@ module _ (s : Setting) (moment : ℕ) (uses : Uses) (t : Said) where
   same_signed a b same =
       ap (λ signed. judged (first_row (rows_with s a [] moment uses t signed)) (Some (acceptance s moment t))) same
 
--- a finding of what a token says has this answer
+-- a finding about a token that says this has this answer
 finding_yes : (s : Setting) (t : Said) (found : Finding) (key : KeyData) → IsFindingOf s t found key → finding_says found key t.alg t.input t.signature ≡ true
 finding_yes s t found key is =
     let text : bytes_eq key.text found.key ≡ true = (bytes_eq-Decides key.text found.key).1 is.text in

@@ -127,7 +127,7 @@ moments_join : (m n : ℕ) → join (state_of m []) (state_of n []) ≡ state_of
 moments_join m n = sym (is_join (state_of m []) (state_of n []) (state_of (max m n) []) refl (λ u.
     none_held u ∙ sym (ap (λ h. nat_lt (max m n) u.exp && (h || h)) (none_held u) ∙ and-false (nat_lt (max m n) u.exp))))
 
--- a raised record is raised by no lesser moment
+-- a record at a moment is not advanced by an earlier one
 raised_once : (a : State) (now m : ℕ) → m ≤ now → join (raised_to a now) (state_of m []) ≡ raised_to a now
 raised_once a now m le =
     let same : max now m ≡ now = omega (arith, le) in

@@ -22,7 +22,7 @@ use Rattle.svid_check.specs.Said.{RefusesForm}
 use Rattle.svid_check.specs.Told.{Told, record_of, tell_now, tell_summary}
 use Rattle.svid_check.specs.Verdict.{verdict}
 
--- a check that is answered as its contract says is a run of one event
+-- a check that answers as its contract says is a run of one event
 abbrev pub ChecksAreSteps : Type 0
 ChecksAreSteps = (t : Terms) (a : State) (now : ℕ) (token : Bor (List ℕ)) (answer : Result Accepted Refusal)
     → Answers Some answer (verdict t.setting (raised_to a now).moment (raised_to a now).uses token.now) → RefusesForm token.now answer
@@ -47,7 +47,7 @@ abbrev pub WithdrawalsAreSteps : Type 0
 WithdrawalsAreSteps = (t : Terms) (a : State) (now : ℕ) (key : List ℕ) (exp : ℕ) (answer : Result Use WithdrawFault)
     → IsWithdrawal t.setting.validator_id (raised_to a now).moment key exp answer → RunsFrom t a (Withdraw now key exp ∷ []) (Withdrawn answer ∷ []) (gains (raised_to a now) (withdrawn_in answer))
 
--- an answer to a summary is no event: of what was told it moves the moment alone
+-- an answer to a summary is no event: the validator learns only a moment
 abbrev pub AnswersTellMoments : Type 0
 AnswersTellMoments = (x : Told) (b : State) (now far : ℕ) (s : SummaryData) (answer : Result (Vec BatchData Global) TakeFault)
     → Replies (raised_to (record_of x) now) far s answer b → record_of (tell_summary (tell_now x now) s answer) ≡ b

@@ -32,7 +32,7 @@ settled x answer = gains x (accepted_in answer)
 abbrev pub withdrawal : List ℕ → ℕ → List ℕ → ℕ → Use
 withdrawal validator_id moment key exp = record { exp = exp; key = key; validator_id = validator_id; at = moment; withdrawn = true }
 
--- what a call to withdraw answers, at the record's moment: the withdrawal or want of memory, unless the tokens have expired
+-- what a call to withdraw answers, at the record's moment: the withdrawal or out of memory, unless the tokens have expired
 abbrev pub IsWithdrawal : List ℕ → ℕ → List ℕ → ℕ → Result Use WithdrawFault → Type 0
 IsWithdrawal validator_id moment key exp (Ok used) = (moment < exp) × (used ≡ withdrawal validator_id moment key exp)
 IsWithdrawal validator_id moment key exp (Err withdraw.Expired) = exp ≤ moment
@@ -67,7 +67,8 @@ batch_of r = record { moment = r.moment; uses = rising r.uses }
 abbrev pub RecordTakesAreTakes : Type 0
 RecordTakesAreTakes = (x : State) (far : ℕ) (r : State) (answer : Result (Unit {0}) TakeFault) (y : State) → TakesRecord x far r answer y ↔ Takes x far (batch_of r) answer y
 
--- what an answer to a summary is, and what it leaves of a raised record: of a summary within the horizon the answer that is due, or want of memory, and the record raised to its moment; else nothing more
+-- What a call answers to a summary, and what it leaves of an advanced record. For a summary within the horizon it answers what is due, or that it is
+-- out of memory, and the record is advanced to the summary's moment. Else nothing more happens.
 abbrev pub Replies : State → ℕ → SummaryData → Result (Vec BatchData Global) TakeFault → State → Type 0
 Replies x far s (Ok batches) y = (s.moment ≤ far) × (batches.items ≡ answer_to x s) × (y ≡ raised_to x s.moment)
 Replies x far s (Err TooFarAhead) y = (far < s.moment) × (y ≡ x)

@@ -22,7 +22,7 @@ use Rattle.svid_check.specs.Verdict.{again_rows, verdict}
 use Rattle.svid_check.specs.World.{Answer, Answered, Check, Entry, Event, Made, Member, Piece, Pieced, Posting, Renew, Save, Send, Sent, Sum, Summed, Take, Tick, Took, Withdraw, World, answer_at, far, happen, happens, parts_in, setting_at, start, withdrawal_at}
 use Rattle.svid_check.specs.Setting.{Renewal, Setting, renewed}
 
--- a check that is answered as its contract says is an event with this answer, which leaves the record that the contract says
+-- a check that answers as its contract says is an event with this answer, which leaves the record that the contract says
 abbrev pub ChecksAreEvents : Type 0
 ChecksAreEvents = (group : ℕ → Terms) (w : World) (v now : ℕ) (token : List ℕ) (answer : Result Accepted Refusal)
     → let x = raised_to (w.members v).held now in
@@ -99,7 +99,8 @@ SumsAreEvents = (group : ℕ → Terms) (w : World) (v : ℕ) (summary : Summary
     summary ≡ summary_of x.held
     → ((after.members v).held ≡ x.held) × ((after.members v).log ≡ x.log ++ Made (length w.pool) ∷ []) × (after.pool ≡ w.pool ++ record { maker = v; was = x; content = Summed summary } ∷ [])
 
--- where a validator has the setting of the group, it has that of the group too when its bundles were replaced; a renewal leaves its record, what it was told and its log
+-- if a validator has the setting of the group, it still has it after its bundles were replaced; a renewal leaves its record, what it has learned and
+-- its log unchanged
 abbrev pub RenewalsAreEvents : Type 0
 RenewalsAreEvents = (group : ℕ → Terms) (w : World) (v : ℕ) (old new : Setting) (bundles : List Bundle)
     → let renewal : Renewal = record { own = old.own; bundles = bundles; says = old.says } in

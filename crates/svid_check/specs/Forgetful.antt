@@ -57,7 +57,7 @@ AcceptsNew t now token first = check_answer t.setting (raised_to new_member.held
 abbrev pub take_and_go_back : ℕ → List ℕ → List Event
 take_and_go_back now token = Save 1 ∷ Check 0 now token false ∷ Send 0 ∷ Take 1 now 0 0 None ∷ Restart 1 0 ∷ []
 
--- there, a log with a send in it does not say what was told
+-- there, a log with a send in it does not say what was learned
 abbrev pub SendsAreForgotten : Type 0
 SendsAreForgotten = (t : Terms) (now : ℕ) (token : List ℕ) (first : Accepted) → now < 2 ^ 64 → AcceptsNew t now token first
     → IsSendForgotten (happen_forgetful (λ v. t) start (take_and_go_back now token)) 1 0 first.used

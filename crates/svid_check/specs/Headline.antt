@@ -33,11 +33,11 @@ member_after group events v = (happen group start events).members v
 
 -- Records and verdicts.
 
--- each validator's record is what was told: the greatest moment, and the uses that are live at it
+-- each validator's record is what it has learned: the greatest moment, and the uses that are live at it
 abbrev pub RecordsAreTold : Type 0
 RecordsAreTold = (group : ℕ → Terms) (events : List Event) (v : ℕ) → let x = member_after group events v in x.held ≡ record_of x.told
 
--- each check is answered by the verdict for what was told, acceptance or refusal, or by want of memory
+-- each check answers the verdict for what the validator has learned, acceptance or refusal, or that it is out of memory
 abbrev pub ChecksAreVerdicts : Type 0
 ChecksAreVerdicts = (group : ℕ → Terms) (events : List Event) (v now : ℕ) (token : List ℕ) (refused : Bool)
     → let w = happen group start events in
@@ -52,7 +52,7 @@ WithMemoryVerdicts = (group : ℕ → Terms) (events : List Event) (v now : ℕ)
 
 -- Equal tellings.
 
--- validators that were told the same, in whatever groups and by whatever events, have the same record, with the same parts and the same texts
+-- validators that have learned the same, in whatever groups and by whatever events, have the same record, with the same parts and the same texts
 abbrev pub EqualTellings : Type 0
 EqualTellings = (group other : ℕ → Terms) (events others : List Event) (v w : ℕ)
     → let x = member_after group events v in
@@ -82,7 +82,8 @@ TakesOnly v k (Piece n after most) = n ≢ v
 TakesOnly v k (Restart n save) = n ≢ v
 TakesOnly v k (Renew n renewal) = n ≢ v
 
--- a validator that was told no use that the sender had not been told at a send, and that takes it whole with no other event of its own between, was then told just the uses that the sender had been told
+-- a validator that has learned no use that the sender had not learned at a send, and takes the send whole with no other event of its own in between,
+-- then knows exactly the uses that the sender knew
 abbrev pub SendsMakeEqual : Type 0
 SendsMakeEqual = (group : ℕ → Terms) (events takes : List Event) (v k : ℕ) (q : Posting)
     → let before = happen group start events in
@@ -92,7 +93,7 @@ SendsMakeEqual = (group : ℕ → Terms) (events takes : List Event) (v k : ℕ)
 
 -- What a send tells.
 
--- a validator that took a send whole was told all uses that its sender had been told by then, what had expired too
+-- a validator that took a send whole has learned all uses that its sender had learned by then, including expired ones
 abbrev pub SendsTellAll : Type 0
 SendsTellAll = (group : ℕ → Terms) (events : List Event) (v k : ℕ) (q : Posting)
     → let w = happen group start events in
@@ -103,7 +104,7 @@ abbrev pub WentAlong : World → Use → ℕ → List ℕ → Type 0
 WentAlong w u k [] = (q : Posting) × IsSend w k q × IsTrue (holds q.was.told.uses u)
 WentAlong w u k (before ∷ chain) = (q : Posting) × (earlier : Posting) × IsSend w k q × IsSend w before earlier × HasTaken q.was.log before earlier × WentAlong w u before chain
 
--- a validator that took the last send of a chain whole was told each use that went along it
+-- a validator that took the last send of a chain whole has learned each use that went along it
 abbrev pub ChainsTell : Type 0
 ChainsTell = (group : ℕ → Terms) (events : List Event) (v k : ℕ) (q : Posting) (u : Use) (chain : List ℕ)
     → let w = happen group start events in
@@ -117,13 +118,13 @@ IsRefusedBy x input = (s : Setting) (token : List ℕ) (now : ℕ) (refused : Bo
 abbrev pub IsUseOf : Use → List ℕ → Type 0
 IsUseOf u input = (token : List ℕ) (t : Said) → input_of token ≡ Some input → said_of token ≡ Some t → (key_of t ≡ u.key) × (t.exp ≡ u.exp)
 
--- a validator that was told a use with the key and the expiry of a signing input accepts no token of it
+-- a validator that has learned a use with the key and the expiry of a signing input accepts no token of it
 abbrev pub ToldIsRefused : Type 0
 ToldIsRefused = (group : ℕ → Terms) (events : List Event) (v : ℕ) (input : List ℕ) (u : Use)
     → let x = member_after group events v in
     IsTrue (holds x.told.uses u) → IsUseOf u input → IsRefusedBy x input
 
--- so one that was told of an acceptance, wherever that was, accepts no token of its signing input
+-- so one that has learned of an acceptance, wherever that was, accepts no token of its signing input
 abbrev pub AcceptedIsRefused : Type 0
 AcceptedIsRefused = (group : ℕ → Terms) (events : List Event) (v moment : ℕ) (s : Setting) (uses : Uses) (token input : List ℕ) (u : Use)
     → let x = member_after group events v in
@@ -142,7 +143,7 @@ AcceptanceGoesAlong = (group : ℕ → Terms) (events : List Event) (v k moment 
 
 -- Withdrawals.
 
--- a check accepts no token of whose key a withdrawal was told that is live
+-- a check accepts no token if a live withdrawal of its key was learned
 abbrev pub WithdrawnAreRefused : Type 0
 WithdrawnAreRefused = (group : ℕ → Terms) (events : List Event) (v now : ℕ) (token : List ℕ) (refused : Bool) (accepted : Accepted) (u : Use)
     → let x = tell_now (member_after group events v).told now in
@@ -150,11 +151,11 @@ WithdrawnAreRefused = (group : ℕ → Terms) (events : List Event) (v now : ℕ
 
 -- Reports.
 
--- a use of this key was told that is no withdrawal, and is live
+-- a live use of this key was learned that is no withdrawal
 abbrev pub IsLiveUse : Told → List ℕ → Use → Type 0
 IsLiveUse x key u = IsTrue (holds x.uses u) × (x.greatest < u.exp) × (u.key ≡ key) × (u.withdrawn ≡ false)
 
--- two different uses of this key were told, are live, and are no withdrawals
+-- two different live uses of this key were learned that are no withdrawals
 pub record IsUsedTwice (x : Told) (key : List ℕ) : Type 0 where
   pub one : Use
   pub other : Use
@@ -166,24 +167,24 @@ pub record IsUsedTwice (x : Told) (key : List ℕ) : Type 0 where
 abbrev pub report_of : Member → List Twice
 report_of x = twice_of (used (rising x.held.uses))
 
--- the report lists the keys of which two different uses were told that are live, and are no withdrawals
+-- the report lists exactly the keys with two different live uses that were learned and are no withdrawals
 abbrev pub ReportsAreExact : Type 0
 ReportsAreExact = (group : ℕ → Terms) (events : List Event) (v : ℕ) (key : List ℕ)
     → let x = member_after group events v in
     Contains (map (λ t. t.key) (report_of x)) key ↔ IsUsedTwice x.told key
 
--- each key that is listed stands with all of its uses that were told, are live, and are no withdrawals
+-- each key in the report has all of its live uses that were learned and are no withdrawals
 abbrev pub ReportsAreWhole : Type 0
 ReportsAreWhole = (group : ℕ → Terms) (events : List Event) (v : ℕ) (t : Twice) (u : Use)
     → let x = member_after group events v in
     Contains (report_of x) t → Contains t.uses u ↔ IsLiveUse x.told t.key u
 
--- each use that was told and is no withdrawal is one that a check of the group accepted
+-- a check of the group accepted each use that was learned and is no withdrawal
 abbrev pub ToldWereAccepted : Type 0
 ToldWereAccepted = (group : ℕ → Terms) (events : List Event) (v : ℕ) (u : Use)
     → IsTrue (holds (member_after group events v).told.uses u) → u.withdrawn ≡ false → Contains (accepted group start events) u
 
--- and each withdrawal that was told is one that a validator of the group made
+-- and a validator of the group made each withdrawal that was learned
 abbrev pub ToldWereWithdrawn : Type 0
 ToldWereWithdrawn = (group : ℕ → Terms) (events : List Event) (v : ℕ) (u : Use)
     → IsTrue (holds (member_after group events v).told.uses u) → u.withdrawn ≡ true → Contains (withdrawn group start events) u
@@ -193,7 +194,7 @@ abbrev pub ReportedWereAcceptedTwice : Type 0
 ReportedWereAcceptedTwice = (group : ℕ → Terms) (events : List Event) (v : ℕ) (key : List ℕ) → Contains (map (λ t. t.key) (report_of (member_after group events v))) key
     → (one : Use) × (other : Use) × (one ≢ other) × (one.key ≡ key) × (other.key ≡ key) × Contains (accepted group start events) one × Contains (accepted group start events) other
 
--- one signing input that was accepted at two validator IDs is reported wherever both uses were told, until it expires
+-- if one signing input was accepted at two validator IDs, every validator that learned both uses reports it until it expires
 abbrev pub TwoValidatorsAreReported : Type 0
 TwoValidatorsAreReported = (group : ℕ → Terms) (events : List Event) (v : ℕ) (s other : Setting) (moment later : ℕ) (uses others : Uses) (token again : List ℕ) (a b : Use)
     → let x = member_after group events v in
@@ -236,7 +237,8 @@ pub record IsClash (s t : Uses) : Type 0 where
   pub texts : bucket_text number s ≢ bucket_text number t
   pub digests : bucket_digest number s ≡ bucket_digest number t
 
--- a validator that made a summary and took an answer to it whole was told all uses that the answerer had been told by then; or else some bucket of its own, when it made the summary, and of the answerer, when it answered, had two texts of one digest
+-- a validator that made a summary and took an answer to it whole has learned all uses that the answerer had learned by then; or some bucket of its
+-- own at the summary, and that of the answerer at the answer, are different texts with one digest
 abbrev pub AnswersTellAll : Type 0
 AnswersTellAll = (group : ℕ → Terms) (events : List Event) (v j k : ℕ) (answer summary : Posting) (parts : List BatchData) (s : SummaryData)
     → HasIds group → AllByRecursion IsEventInRange events

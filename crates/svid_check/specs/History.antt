@@ -15,7 +15,8 @@ every_kind now token key exp renewal =
     Check 0 now token false ∷ Save 1 ∷ OldSend 1 ∷ Take 0 now 0 0 None ∷ Withdraw 0 now key exp false ∷ Send 1 ∷ Sum 1 ∷ Answer 0 now 2 false
     ∷ Piece 1 None 1 ∷ Tick 1 now ∷ Renew 1 renewal ∷ Restart 1 0 ∷ []
 
--- what is to be seen of these: validator 0 was told the acceptance and the withdrawal, and noted what it took; five messages and a save are there; validator 1 is as it was saved, under the renewal
+-- what can be seen of these: validator 0 has learned the acceptance and the withdrawal, and noted what it took; five messages and a save are there;
+-- validator 1 is as it was saved, under the renewal
 pub record AllHappened (t : Terms) (now : ℕ) (first : Accepted) (key : List ℕ) (exp : ℕ) (renewal : Renewal) (w : World) : Type 0 where
   pub accepted : IsTrue (holds (w.members 0).told.uses first.used)
   pub withdrawn : IsTrue (holds (w.members 0).told.uses (withdrawal t.setting.validator_id now key exp))

@@ -81,7 +81,8 @@ AreTakes v now [] [] = Unit {0}
 AreTakes v now (index ∷ indexes) (e ∷ events) = ((refused : Option ℕ) × (e ≡ Take v now index.0 index.1 refused)) × AreTakes v now indexes events
 AreTakes v now _ _ = ⊥
 
--- a validator that takes a record, which batches that were posted come to, ticks and takes each of them, for some memory that was refused; or it ticks, where the record is past the horizon
+-- a validator that takes the record of batches that were posted ticks and takes each of them, for some memory that was refused; or it ticks, if the
+-- record is past the horizon
 abbrev pub RecordTakesAreEvents : Type 0
 RecordTakesAreEvents = (group : ℕ → Terms) (w : World) (v now : ℕ) (indexes : List (ℕ × ℕ)) (batches : List BatchData) (answer : Result (Unit {0}) TakeFault) (y : State)
     → let r = join_all (state_of 0 []) batches in

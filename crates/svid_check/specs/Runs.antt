@@ -24,11 +24,12 @@ pub record Terms : Type 0 where
 abbrev pub terms_of : {V : Type 0} → (V → Says) → Held V → Terms
 terms_of says held = record { setting = setting_of says held; ahead = held.ahead }
 
--- the check is answered by the verdict for the greatest moment told and the uses told that are live at it, or by want of memory, which may not stand for a refusal of the token's form
+-- the check answers the verdict for the greatest moment learned and the live uses learned, or that it is out of memory, but the latter never instead
+-- of a refusal for the token's form
 abbrev pub IsAnswered : Setting → Told → List ℕ → Result Accepted Refusal → Type 0
 IsAnswered s x token answer = Answers Some answer (verdict s x.greatest (live x.uses x.greatest) token) × RefusesForm token answer
 
--- a validator that was told x may give the event this answer, and then was told y
+-- a validator that had learned x may give the event this answer, and then has learned y
 abbrev pub Step : Terms → Told → Event → Answer → Told → Type 0
 Step t x (Check now token) (Checked answer) y = IsAnswered t.setting (tell_now x now) token.now answer × (y ≡ tell_use (tell_now x now) answer)
 Step t x (Tick now) Ticked y = y ≡ tell_now x now
@@ -36,12 +37,12 @@ Step t x (Take now batch) (Taken answer) y = TellsBatch (tell_now x now) (horizo
 Step t x (Withdraw now key exp) (Withdrawn answer) y = IsWithdrawal t.setting.validator_id (tell_now x now).greatest key exp answer × (y ≡ tell_one (tell_now x now) (withdrawn_in answer))
 Step t x _ _ y = ⊥
 
--- it may give the events these answers, one for each in their order, and then was told y
+-- it may give the events these answers, one for each in their order, and then has learned y
 abbrev pub Runs : Terms → Told → List Event → List Answer → Told → Type 0
 Runs t x [] [] y = y ≡ x
 Runs t x (event ∷ events) (answer ∷ answers) y = (mid : Told) × Step t x event answer mid × Runs t mid events answers y
 Runs t x _ _ y = ⊥
 
--- whatever was told that gives the record a, the events may be given these answers, and what was then told gives the record b
+-- for whatever was learned that gives the record a: the events may get these answers, and what is then learned gives the record b
 abbrev pub RunsFrom : Terms → State → List Event → List Answer → State → Type 0
 RunsFrom t a events answers b = (x : Told) → record_of x ≡ a → (y : Told) × Runs t x events answers y × (record_of y ≡ b)

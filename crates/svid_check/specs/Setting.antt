@@ -21,7 +21,7 @@ pub record Setting : Type 0 where
   pub says : Says
   pub longest : Option ℕ
 
--- what a validator is given anew while it lives: its audiences, its trust bundles, and what its verifier says
+-- what may be replaced while a validator lives: its audiences, its trust bundles, and what its verifier says
 pub record Renewal : Type 0 where
   pub own : List (List ℕ)
   pub bundles : List Bundle
@@ -50,7 +50,7 @@ setting_by says held = record { own = held.own; validator_id = held.validator_id
 abbrev pub setting_of : {V : Type 0} → (V → Says) → Held V → Setting
 setting_of says held = setting_by (says held.verifier) held
 
--- the setting of what a validator is given, with what some verifier says
+-- the setting of a validator with these parts, whose verifier says this
 abbrev pub given_setting : Says → Given → Setting
 given_setting says given = record { own = map string_bytes given.own.items; validator_id = given.validator_id; bundles = given.bundles; says = says; longest = given.longest }
 

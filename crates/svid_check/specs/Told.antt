@@ -1,4 +1,4 @@
--- What a validator was told: the moments, and the uses, withdrawals among them, which are never pruned.
+-- What a validator has learned: moments and uses, including withdrawals. These are never pruned.
 use Rattle.std.specs.Prelude.{◌≡◌, ℕ, ◌<◌, ◌≤◌, max, false, List, ◌∷◌, ◌++◌, Option, None, Some, Result, Ok, Err, Vec}
 use Rattle.std.specs.declared.alloc.Global.{Global}
 use Rattle.svid_token.specs.declared.refusal.Refusal.{Refusal}
@@ -13,24 +13,24 @@ use Rattle.svid_check.specs.declared.take_fault.TakeFault.{TakeFault}
 use Rattle.svid_check.specs.Changes.{accepted_in}
 use Rattle.svid_check.specs.declared.take_fault.TakeFault.TheVariants.{TooFarAhead, OutOfMemory}
 
--- the greatest moment that a validator was told, and the uses
+-- the greatest moment that a validator has learned, and the uses
 pub record Told : Type 0 where
   pub greatest : ℕ
   pub uses : Uses
 
--- what a validator was told that is given a record
+-- what a validator with this record has learned
 abbrev pub begun : State → Told
 begun a = record { greatest = a.moment; uses = a.uses }
 
--- the record of what was told: the greatest moment, and the uses that are live at it
+-- the record for what was learned: the greatest moment, and the uses that are live at it
 abbrev pub record_of : Told → State
 record_of x = record { moment = x.greatest; uses = live x.uses x.greatest }
 
--- a moment is told
+-- a validator learns a moment
 abbrev pub tell_now : Told → ℕ → Told
 tell_now x now = record { greatest = max x.greatest now; uses = x.uses }
 
--- a use is told, or none
+-- a validator learns a use, or none
 abbrev pub tell_one : Told → Option Use → Told
 tell_one x (Some u) = record { greatest = x.greatest; uses = with x.uses u }
 tell_one x None = x
@@ -39,11 +39,11 @@ tell_one x None = x
 abbrev pub tell_use : Told → Result Accepted Refusal → Told
 tell_use x answer = tell_one x (accepted_in answer)
 
--- a moment and uses are told
+-- a validator learns a moment and uses
 abbrev pub tell : Told → State → Told
 tell x b = record { greatest = max x.greatest b.moment; uses = union x.uses b.uses }
 
--- where memory was refused: a batch's moment is told, and the uses in front of one that is live and was not told
+-- if memory was refused, a validator learns a batch's moment, and the uses before one that is live and new
 pub record TellsFront (x : Told) (b : BatchData) (y : Told) : Type 0 where
   pub front : List Use
   pub refused : Use

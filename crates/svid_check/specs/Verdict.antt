@@ -15,7 +15,7 @@ use Rattle.svid_check.specs.declared.accepted.Accepted.{Accepted}
 use Rattle.svid_check.specs.Said.{Said, reading_of, said_of, token_rows}
 use Rattle.svid_check.specs.Setting.{Setting}
 
--- the key by which the uses of a token are told
+-- the key of a token, which identifies the token
 abbrev pub key_of : Said → List ℕ
 key_of t = sha256 (token_text t.sub.domain t.jti t.input)
 
@@ -57,7 +57,7 @@ record_rows uses key =
     ∷ (Replayed, has_use_of uses key)
     ∷ []
 
--- the refusals of what a token says, by the setting, the moment and the uses
+-- the refusals for a token that says this, by the setting, the moment and the uses
 abbrev pub setting_rows : Setting → ℕ → Uses → Said → List Row
 setting_rows s moment uses t =
     (NotAudience, not (list_any (is_own s.own) t.aud))
@@ -66,7 +66,7 @@ setting_rows s moment uses t =
     ++ ((BadSignature, not (is_signed s t))
     ∷ record_rows uses (key_of t))))
 
--- the refusals of what is said, where it is said
+-- the refusals for a token that says something, and none for one that says nothing
 abbrev pub rows_if_said : (Said → List Row) → Option Said → List Row
 rows_if_said rows None = []
 rows_if_said rows (Some t) = rows t
@@ -83,7 +83,7 @@ use_of s moment t = record { exp = t.exp; key = key_of t; validator_id = s.valid
 abbrev pub acceptance : Setting → ℕ → Said → Accepted
 acceptance s moment t = record { id = t.sub; used = use_of s moment t }
 
--- the verdict: the first refusal that holds, and else the acceptance of what is said, which then is there
+-- the verdict: the first refusal that holds, and else the acceptance with all that the token says, which then is there
 unfoldable pub verdict : Setting → ℕ → Uses → List ℕ → Result (Option Accepted) Refusal
 verdict s moment uses token = judged (first_row (verdict_rows s moment uses token)) (option_map (acceptance s moment) (said_of token))
 
@@ -99,7 +99,8 @@ ReadTokensHaveTheirVerdict = (s : Setting) (moment : ℕ) (uses : Uses) (token :
 abbrev pub AcceptsNoSilence : Type 0
 AcceptsNoSilence = (s : Setting) (moment : ℕ) (uses : Uses) (token : List ℕ) → verdict s moment uses token ≢ Ok None
 
--- the refusals of an accepted token, by its key and when it expires: of the table, what may come to hold while the setting stays
+-- the refusals of an accepted token, by its key and its expiry: the rows of the table that may begin to hold while the setting
+-- stays
 abbrev pub again_rows : ℕ → Uses → List ℕ → ℕ → List Row
 again_rows moment uses key exp = (Expired, not (nat_lt moment exp)) ∷ record_rows uses key
 

@@ -35,7 +35,7 @@ abbrev pub finding_says : Finding → KeyData → Alg → List ℕ → List ℕ 
 finding_says found key alg input signature =
     not (length found.key == 0) && (bytes_eq key.text found.key && (bytes_eq input found.input && bytes_eq signature found.signature))
 
--- a finding is of what a token says: of its signature over its signing input, by one of its candidates
+-- a finding is about this token: its signature over its signing input, by one of its candidates
 pub record IsFindingOf (s : Setting) (t : Said) (found : Finding) (key : KeyData) : Type 0 where
   pub candidate : Contains (keys_for s.bundles t) key
   pub text : key.text ≡ found.key

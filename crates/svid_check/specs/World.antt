@@ -28,7 +28,7 @@ pub data Entry : Type 0 where
   Took : (posting part : ℕ) → Entry
   Made : (posting : ℕ) → Entry
 
--- a validator of a group: its record, what it was told, its log, and the last renewal of its setting, if there was one
+-- a validator of a group: its record, what it has learned, its log, and the last renewal of its setting, if there was one
 pub record Member : Type 0 where
   pub held : State
   pub told : Told
@@ -82,14 +82,14 @@ new_member = record { held = state_of 0 []; told = begun (state_of 0 []); log = 
 abbrev pub start : World
 start = record { members = λ v. new_member; pool = []; saves = [] }
 
--- the batches of what is posted
+-- the batches in a posting
 abbrev pub parts_in : Content → List BatchData
 parts_in (Sent parts) = parts
 parts_in (Summed summary) = []
 parts_in (Answered summary parts) = parts
 parts_in (Pieced piece) = piece ∷ []
 
--- a moment is told
+-- a validator learns a moment
 abbrev pub ticked : Member → ℕ → Member
 ticked x now = record { held = raised_to x.held now; told = tell_now x.told now; log = x.log; renewal = x.renewal }
 
@@ -107,12 +107,12 @@ answer_by (Ok (Some accepted)) = Ok accepted
 answer_by (Ok None) = Err OutOfMemory
 answer_by (Err refusal) = Err refusal
 
--- want of memory, which may not stand for a refusal of the token's form
+-- out of memory, but never instead of a refusal for the token's form
 abbrev pub form_or_memory : Option Refusal → Refusal
 form_or_memory None = OutOfMemory
 form_or_memory (Some refusal) = refusal
 
--- what a check of a raised record answers: the verdict, or want of memory
+-- what a check answers at an advanced record: the verdict, or out of memory
 abbrev pub check_answer : Setting → State → List ℕ → Bool → Result Accepted Refusal
 check_answer s x token refused = if refused then Err (form_or_memory (first_row (compact_rows token))) else answer_by (verdict s x.moment x.uses token)
 
@@ -132,7 +132,7 @@ checked x answer = gained x (accepted_in answer)
 abbrev pub withdrew : Member → Result Use WithdrawFault → Member
 withdrew x answer = gained x (withdrawn_in answer)
 
--- of what a sender was told, the uses that its batch tells: those that the batch has, and those that had expired by its moment, which it says are gone
+-- the uses of a sender that its batch carries: those in the batch, and those that had expired by its moment
 unfoldable pub carried : Uses → BatchData → Uses
 carried sender b = keep (λ u. holds (uses_in b.uses) u || not (nat_lt b.moment u.exp)) sender
 

@@ -11,14 +11,14 @@ use svid_replay::{Batch, Summary, UseStore};
 
 // What a validator tells another.
 impl<V: Verifier, S: UseStore> Validator<V, S> {
-    /// Answers a summary that another validator sent, at a moment, in seconds: with the uses of all
-    /// buckets of which the summary has another digest, as batches that the other takes.
+    /// Answers a summary from another validator at the moment `now`, in seconds: with the uses of all buckets
+    /// whose digests differ, as batches for that validator to take.
     ///
-    /// The record is raised to the moment first, whatever the answer is. A summary whose own moment is
-    /// past `now` plus `ahead` (held at 2^64-1) is answered `TooFarAhead`, and nothing else happens. By
-    /// any other the record is raised to the summary's moment, and it answers as
-    /// [`Record::answer`](svid_replay::Record::answer) does: at least one batch, each of the record's
-    /// moment. Where memory is refused, only the raise stands. No use is added.
+    /// The record is first advanced to `now`, whatever the answer is. If the summary's moment is past `now`
+    /// plus `ahead` (at most 2^64-1), the answer is `TooFarAhead`, and nothing else happens. Else the record
+    /// is advanced to the summary's moment, and answers as [`Record::answer`](svid_replay::Record::answer)
+    /// does: at least one batch, each with the record's moment. If out of memory, the record is only
+    /// advanced. No use is added.
     pub fn answer(
         &mut self,
         alloc: Global,

@@ -117,7 +117,7 @@ fn refusal<V: Verifier, S: UseStore>(
     record_refusal(replay, key)
 }
 
-// The acceptance of what a token says, or why it is refused. The record stays as it is.
+// Accepts or refuses a token by what it says. The record is unchanged.
 pub(crate) fn judge<V: Verifier, S: UseStore>(
     given: &Given,
     verifier: &V,

@@ -15,8 +15,8 @@ impl<V: Verifier, S: UseStore> Validator<V, S> {
     /// seconds, and while trust bundles and verifier stay. `None` where [`judge_by`](Validator::judge_by) would accept it
     /// then, and else what it would refuse it by, which is `Expired`, `Withdrawn` or `Replayed`.
     ///
-    /// The record is raised to the moment, whatever the answer is, and nothing else happens to the validator. Reads no
-    /// token, and takes no memory.
+    /// The record is advanced to the moment, whatever the answer is, and nothing else about the validator changes. Reads no
+    /// token, and allocates nothing.
     pub fn judge_again(&mut self, now: u64, key: &[u8; 32], exp: u64) -> Option<Refusal>
         ensures answer { let x = raised_to self.old.state now in
             result ≡ first_row (again_rows x.moment x.uses key.now exp) }

@@ -56,7 +56,7 @@ pub fn accepted_tokens_are_judged_again()
     ensures { AcceptedAreJudgedAgain }
 {}
 
-/// A validator that is given a record begins as one that was told the record's moment and its uses.
+/// A validator that begins with a record begins as one that has learned the record's moment and its uses.
 pub fn validators_begin_as_given()
     ensures { BeginsAsGiven }
 {}
@@ -71,8 +71,8 @@ pub fn calls_are_steps()
     ensures withdrawals { WithdrawalsAreSteps }
 {}
 
-/// An answer to a summary is no event of a run: of what a validator was told it moves the greatest
-/// moment alone, and the record is that of what was told then.
+/// An answer to a summary is no event of a run: the validator learns only a moment, and its record stays the record of everything that it
+/// has learned.
 pub fn answers_tell_moments()
     ensures { AnswersTellMoments }
 {}
@@ -89,15 +89,14 @@ pub fn judgments_are_ticks()
     ensures judged_again { JudgmentsAgainAreTicks }
 {}
 
-/// Two runs, one after the other, are one run of both lists of events: over what was told, and from one
-/// record to another.
+/// Two runs, one after the other, are one run of both lists of events. This holds for what a validator learned, and for the records before
+/// and after.
 pub fn runs_go_on()
     ensures told { RunsGoOn }
     ensures records { RecordsGoOn }
 {}
 
-/// No call leaves the record's moment past the greater of what it was and the call's own moment plus
-/// `ahead`, held at 2^64-1.
+/// No call leaves the record's moment past both its old moment and the call's moment plus `ahead` (at most 2^64-1).
 pub fn calls_are_bounded()
     ensures checks { ChecksAreBounded }
     ensures ticks { TicksAreBounded }
@@ -107,34 +106,32 @@ pub fn calls_are_bounded()
     ensures withdrawals { WithdrawalsAreBounded }
 {}
 
-/// Nor does a run, with the greatest moment of its events: over what was told, and from one record to
-/// another.
+/// Nor does a run, by the greatest moment of its events. This holds for what a validator learned, and for the records before and after.
 pub fn runs_are_bounded()
     ensures told { RunsAreBounded }
     ensures records { RecordsAreBounded }
 {}
 
-/// Each validator's record is what it was told: the greatest moment, and the uses that are live at it.
-/// Each check is answered by the verdict for that, acceptance or refusal, or by want of memory, and by
-/// nothing but the verdict where no memory is refused.
+/// Each validator's record is exactly what it has learned: the greatest moment, and the uses that are live at it. Each check answers the
+/// verdict for that record, acceptance or refusal, or that it is out of memory. If no memory is refused, it answers the verdict.
 pub fn records_are_told()
     ensures records { RecordsAreTold }
     ensures checks { ChecksAreVerdicts }
     ensures verdicts { WithMemoryVerdicts }
 {}
 
-/// Validators that were told the same have the same record, the same parts and the same texts. One
-/// that was told no use that the sender of a record had not been told, and that takes all parts with
-/// no other event of its own between, was then told just the uses that the sender had been told.
+/// Validators that have learned the same have the same record, the same parts and the same texts. If a validator has learned no more than
+/// the sender of a record, and takes all parts with no other event of its own in between, it then knows exactly the uses that the sender
+/// knew.
 pub fn equal_tellings_give_equal_records()
     ensures equal { EqualTellings }
     ensures taken { SendsMakeEqual }
 {}
 
-/// A validator that took all parts of a record was told all uses that the sender had been told by
-/// then, what had expired too, and so along every chain of records taken whole. It accepts no token of
-/// a signing input of which it was told a use, at any moment; so an acceptance, which its check tells,
-/// goes along every such chain.
+/// A validator that took all parts of a record has learned all uses that the sender had learned by then, including expired ones. So it is
+/// along every chain of records taken whole. It accepts no token, at any moment, if it has learned a use of its
+/// signing input. A validator learns each use that its own check accepts, so acceptances pass along every such
+/// chain.
 pub fn sends_tell_all()
     ensures whole { SendsTellAll }
     ensures chains { ChainsTell }
@@ -150,15 +147,14 @@ pub fn tokens_are_accepted_once()
     ensures { AcceptsOnce }
 {}
 
-/// A check accepts no token of whose key a withdrawal was told that is live.
+/// A check accepts no token if a live withdrawal of its key was learned.
 pub fn withdrawn_tokens_are_refused()
     ensures { WithdrawnAreRefused }
 {}
 
-/// A report lists the keys of which two different uses were told that are live, with all of them, and
-/// no withdrawal; each use that was told was accepted by a check of the group, and each withdrawal was
-/// made by a validator of it; and one signing input that was accepted at
-/// two validator IDs is reported wherever both uses were told, until it expires.
+/// A report lists exactly the keys with two different live uses that were learned, withdrawals aside, each with all of these. Each use that
+/// was learned was accepted by a check of the group, and each withdrawal was made by a validator of it. If one signing input was accepted at
+/// two validator IDs, every validator that learned both uses reports it until it expires.
 pub fn reports_are_exact()
     ensures exact { ReportsAreExact }
     ensures whole { ReportsAreWhole }
@@ -175,10 +171,9 @@ pub fn restarts_absorb()
     ensures put_back { RestartsPutBack }
 {}
 
-/// A validator that made a summary and took all parts of an answer to it was told all uses that the
-/// answerer had been told by then; or else some bucket of its own, when it made the summary, and of the
-/// answerer, when it answered, had two texts of one digest. Validator IDs have 16 bytes, the keys of withdrawals
-/// 32, and moments and their expiries are below 2^64.
+/// A validator that made a summary and took all parts of an answer to it has learned all uses that the answerer had learned by then. The
+/// only exception is a collision: a bucket of the validator at the summary and that of the answerer at the answer are different texts with
+/// one digest. Validator IDs have 16 bytes, the keys of withdrawals 32, and moments and their expiries are below 2^64.
 pub fn answers_tell_all()
     ensures { AnswersTellAll }
 {}
@@ -238,10 +233,9 @@ pub fn findings_stand_for_verifiers()
     ensures other { OtherFindingsAreNone }
 {}
 
-/// A record that is saved piece by piece, with other calls in between, loses nothing of what it had at the first
-/// piece: the batches together have each use of it that is still live at the last. They have no use that the record
-/// does not have then. What came in between they may have or lack. Each call and each event but a restart leaves a
-/// later record, so any number of them may come in between.
+/// A record that is saved piece by piece, with other calls in between, loses nothing: the batches together have each use that it had at the
+/// first piece and that is still live at the last. They have no use that the record does not have at the last. They may have or lack what
+/// was added in between. Each call and each event but a restart leaves a later record, so any number of them may come in between.
 pub fn saves_lose_nothing()
     ensures pieces { SavesLoseNothing }
     ensures no_more { SavesAddNothing }
@@ -258,9 +252,8 @@ pub fn pieces_are_saves()
     ensures restarts { RestartsFromPieces }
 {}
 
-/// A run of a validator of a group is a list of events of the group, with the same answers and the same record at
-/// the end, where each batch that it takes was posted. So the laws of the group hold of what
-/// [`Validator::run`](crate::Validator::run) does.
+/// A run of a validator of a group is a list of events of the group, with the same answers and the same record at the end, if each batch
+/// that it takes was posted. So the laws of the group hold for [`Validator::run`](crate::Validator::run).
 pub fn runs_are_events()
     ensures { RunsAreEvents }
 {}

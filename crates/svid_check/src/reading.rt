@@ -7,7 +7,8 @@ use std::alloc::Global;
 use svid_keys::{Bundles, Candidates};
 use svid_token::{Claims, Compact, Header, Payload, Refusal, read_signature, token_key};
 
-/// What a token says, with all that must be there. It keeps nothing of the token itself, so it may outlive it.
+/// What a token says, with everything that must be in it. It holds nothing of the token's text, so it may
+/// outlive it.
 #[derive(Debug, Drop)]
 pub struct Reading {
     /// The header, as far as a JWT-SVID is checked by it.
@@ -18,7 +19,7 @@ pub struct Reading {
     pub signature: Vec<u8>,
     /// What the signature is made over: a copy of that part of the token.
     pub input: Vec<u8>,
-    /// The key by which the uses of the token are told.
+    /// The token's key, which identifies the token.
     pub key: [u8; 32],
     pub ghost signature_len: { length signature.items ≤ 65536 },
     pub ghost input_len: { length input.items ≤ 65536 },
@@ -54,7 +55,7 @@ impl Reading {
         })
     }
 
-    /// The key by which the uses of the token are told. No memory is taken.
+    /// The token's key, which identifies the token. Allocates nothing.
     pub fn key(&self) -> [u8; 32]
         ensures { result ≡ key_of (said_in self.now) }
     {
@@ -62,7 +63,7 @@ impl Reading {
     }
 
     /// The keys that may have signed the token, in the order of the bundle's list; or why there are
-    /// none: `UnknownDomain`, and then `NoKey`. No memory is taken.
+    /// none: `UnknownDomain`, and then `NoKey`. Allocates nothing.
     pub fn candidates<'b>(&'b self, bundles: &'b Bundles) -> Result<Candidates<'b>, Refusal>
         ensures { seen candidates_left result ≡ keys_due bundles.now (said_in self.now) }
     {

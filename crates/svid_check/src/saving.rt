@@ -39,7 +39,7 @@ fn piece_of<S: UseStore>(
     Ok(Batch::from_good(replay.moment(), uses))
 }
 
-// A record that is told or saved a batch a call.
+// Writing or saving a record, one batch per call.
 impl<V: Verifier, S: UseStore> Validator<V, S> {
     /// The next piece of the record: a batch of its moment with the uses that are greater than the one given, or
     /// with the first ones where none is given. It has at most `most` uses, and at most 65,536.

@@ -10,9 +10,9 @@ use crate::validator::Validator;
 use svid_keys::Verifier;
 use svid_replay::{Batch, UseStore};
 
-// What a validator is told by the clock and by others.
+// What a validator learns from the clock and from others.
 impl<V: Verifier, S: UseStore> Validator<V, S> {
-    /// Raises the record to a moment, in seconds. No memory is taken.
+    /// Advances the record to a moment, in seconds. Allocates nothing.
     pub fn tick(&mut self, now: u64)
         ensures { self.new ≡ with_state self.old (raised_to self.old.state now) }
     {
@@ -21,10 +21,9 @@ impl<V: Verifier, S: UseStore> Validator<V, S> {
 
     /// Takes a batch that another validator sent, at a moment, in seconds.
     ///
-    /// The record is raised to the moment first, whatever the answer is. A batch whose own moment is
-    /// past `now` plus `ahead` (held at 2^64-1) is answered `TooFarAhead`, and nothing of it is joined;
-    /// any other is joined. Where memory is refused, the batch's moment and the uses in front of one that
-    /// is new are joined; where no use is new and live, none is wanted.
+    /// The record is first advanced to `now`, whatever the answer is. If the batch's moment is past `now`
+    /// plus `ahead` (at most 2^64-1), the answer is `TooFarAhead`, and nothing is joined. Else the batch is
+    /// joined. If out of memory, the batch's moment is joined, and its uses before some new live one. A batch without a new live use needs no memory.
     pub fn take(&mut self, now: u64, batch: &Batch) -> Result<(), TakeFault>
         ensures taken { Takes (raised_to self.old.state now) (horizon now self.old.ahead) batch.now result self.new.state }
         ensures rest { self.new ≡ with_state self.old self.new.state }

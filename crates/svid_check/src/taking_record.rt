@@ -14,10 +14,10 @@ use svid_replay::{Record, UseStore};
 impl<V: Verifier, S: UseStore> Validator<V, S> {
     /// Takes a whole record that another validator sent, at a moment, in seconds: all of it or nothing, by its moment.
     ///
-    /// The record is raised to the moment first, whatever the answer is. A record whose own moment is past `now` plus
-    /// `ahead` (held at 2^64-1) is answered `TooFarAhead`, and nothing of it is joined; any other is joined. Where
-    /// memory is refused, the sent record's moment and those of its uses that are less than one that is new are joined;
-    /// where no use is new and live, none is wanted.
+    /// The record is first advanced to `now`, whatever the answer is. If the sent record's moment is past `now` plus
+    /// `ahead` (at most 2^64-1), the answer is `TooFarAhead`, and nothing is joined. Else it is joined. If out of
+    /// memory, its moment is joined, and its uses that are less than some new live one. A record
+    /// without a new live use needs no memory.
     pub fn take_record<T: UseStore>(&mut self, now: u64, sent: &Record<T>) -> Result<(), TakeFault>
         ensures taken { TakesRecord (raised_to self.old.state now) (horizon now self.old.ahead) sent.now result self.new.state }
         ensures rest { self.new ≡ with_state self.old self.new.state }

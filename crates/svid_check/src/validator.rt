@@ -51,7 +51,7 @@ impl<V: Verifier, S: UseStore> Model for Validator<V, S> {
 }
 
 impl<V: Verifier, S: UseStore> Validator<V, S> {
-    /// A validator that begins with a record. No memory is taken.
+    /// A validator that begins with a record. Allocates nothing.
     ///
     /// `own` are the audiences that it answers to, `validator_id` tells it from every other validator that
     /// shares its record, and `ahead` is how many seconds the moment of a message may lie ahead of its
@@ -83,7 +83,7 @@ impl<V: Verifier, S: UseStore> Validator<V, S> {
         }
     }
 
-    /// The record of used and withdrawn tokens. No memory is taken.
+    /// The record of used and withdrawn tokens. Allocates nothing.
     pub fn replay(&self) -> &Record<S>
         ensures value { result.now ≡ self.now.state }
         ensures is_record { IsRecord result.now }
@@ -95,10 +95,10 @@ impl<V: Verifier, S: UseStore> Validator<V, S> {
 
     /// Checks a token at a moment, in seconds.
     ///
-    /// The record is raised to the moment first, whatever the answer is, and the token is judged at
-    /// the record's moment, which may be greater. An accepted token's use is added to the record; a
-    /// refused one adds nothing. It answers the first refusal that holds, in the order of [`Refusal`];
-    /// `OutOfMemory` may stand in place of an acceptance and of any refusal behind `NotThreeParts`.
+    /// The record is first advanced to `now`, whatever the answer is, and the token is judged at the record's moment,
+    /// which may be later. If it accepts the token, the record gains its use; else it gains nothing. It answers the
+    /// first refusal that holds, in the order of [`Refusal`]. `OutOfMemory` may come instead of an acceptance, and
+    /// instead of any refusal after `NotThreeParts`.
     pub fn check(&mut self, now: u64, token: &[u8]) -> Result<Accepted, Refusal>
         ensures answer { let x = raised_to self.old.state now in
             Answers Some result (verdict (setting_of V.says self.old) x.moment x.uses token.now) }
@@ -141,8 +141,8 @@ impl<V: Verifier, S: UseStore> Validator<V, S> {
     /// What [`check_by`](Validator::check_by) would answer at a moment, in seconds, if no memory were refused for the
     /// use. The use of an acceptance is answered and not added, so a later check may accept the token.
     ///
-    /// The record is raised to the moment, whatever the answer is, and nothing else happens to the validator.
-    /// `OutOfMemory` may stand in place of an acceptance and of any refusal behind `NotThreeParts`.
+    /// The record is advanced to the moment, whatever the answer is, and nothing else about the validator changes.
+    /// `OutOfMemory` may come instead of an acceptance, and instead of any refusal after `NotThreeParts`.
     pub fn judge_by<W: Verifier>(
         &mut self,
         now: u64,

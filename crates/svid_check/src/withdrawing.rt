@@ -11,9 +11,9 @@ use svid_keys::Verifier;
 use svid_replay::{Use, UseStore};
 
 impl<V: Verifier, S: UseStore> Validator<V, S> {
-    /// Withdraws the tokens with this key until `exp`, when they expire, at a moment; both in seconds. Until
-    /// then a token with the key of which no earlier refusal holds is refused as `Withdrawn`, here and
-    /// wherever the record is told.
+    /// Withdraws the tokens with this key until `exp`, when they expire, at the moment `now`; both in
+    /// seconds. Until then a token with the key is refused as `Withdrawn`, unless an earlier refusal holds:
+    /// here, and at each validator that takes the record.
     ///
     /// The record is raised to `now` first, whatever the answer is. The withdrawal is made at the record's
     /// moment, which may be greater, and is added and answered, or `Expired` where `exp` is not greater than

@@ -1,4 +1,4 @@
--- A group whose members claim tokens at stores, each of which keeps the first entry of a key: what may happen in it, and what that leaves.
+-- A group whose members claim tokens at stores, which keep the first entry of each key: what may happen in it, and what that leaves.
 use Rattle.std.specs.Prelude.{◌≡◌, ℕ, ◌+◌, ◌-◌, max, Bool, true, not, ◌&&◌, nat_lt, nat_le, ◌==◌, List, [], ◌∷◌, ◌++◌, slice_get, Option, Some, None, if◌then◌else◌}
 use Rattle.std.specs.List.{list_any}
 use Rattle.svid_claims.specs.Owners.{same, withdrawn}

@@ -25,7 +25,7 @@ pub struct Found {
 }
 
 impl Claim {
-    /// What becomes of the claim by an answer of its store to any put of the key. `lasts` is how many seconds past the store's time a token may
+    /// The outcome of the claim by its store's answer to any put of the key. `lasts` is how many seconds past the store's time a token may
     /// expire, and `moment` is that of [`moment_by`](crate::moment_by), in seconds.
     ///
     /// After [`Outcome::Mine`], a validator that accepts a token once looks at its record too: if that has a use of the key that has not

@@ -1,4 +1,4 @@
-/// What becomes of a claim that its store answered. If several hold, the first in this order is answered.
+/// The outcome of a claim that its store answered. If several hold, the first in this order is the answer.
 #[derive(Clone, Copy, Debug, PartialEq, Eq)]
 pub enum Outcome {
     /// The token was withdrawn.

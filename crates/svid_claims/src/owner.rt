@@ -23,7 +23,7 @@ fn put_piece(bytes: &mut [u8; 32], at: usize, piece: &[u8])
     bytes[at..at + piece.len()].copy_from_slice(piece);
 }
 
-// The digest of a label, of what is told by it, and of an expiry.
+// The digest of a label, an identity and an expiry.
 fn digest(label: &[u8], told: &[u8], exp: u64) -> [u8; 32]
     ensures { result ≡ sha256 (label.now ++ (told.now ++ to_be_bytes w64 exp)) }
 {
@@ -40,8 +40,8 @@ impl Owner {
 
     /// The owner that a life of a validator claims a token for. `exp` is when the token expires, in seconds.
     ///
-    /// A life is told by 16 random bytes, which each start takes: so a restarted validator, or one from a copied state folder, is no owner of
-    /// what an earlier life claimed. The owner begins with the validator ID, so that whoever reads an entry sees who used the token.
+    /// `life` is 16 random bytes, new at each start. So a restarted validator, or one from a copied state folder, does not own what an
+    /// earlier life claimed. The owner begins with the validator ID, so an entry shows who used the token.
     pub fn of_life(validator_id: &[u8; 16], life: &[u8; 16], exp: u64) -> Owner
         ensures { result.bytes ≡ owner_of_life validator_id.now life.now exp }
     {
@@ -54,7 +54,7 @@ impl Owner {
 
     /// The owner that every validator claims a token for which this caller presents. `exp` is when the token expires, in seconds.
     ///
-    /// A caller is told by 32 bytes, as a digest of its certificate.
+    /// `caller` is 32 bytes that identify a caller, for example a digest of its certificate.
     pub fn of_caller(caller: &[u8; 32], exp: u64) -> Owner
         ensures { result.bytes ≡ owner_of_caller caller.now exp }
     {

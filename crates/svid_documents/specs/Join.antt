@@ -10,7 +10,7 @@ use Rattle.svid_documents.specs.declared.document_fault.DocumentFault.{DocumentF
 use Rattle.svid_documents.specs.declared.document_fault.DocumentFault.TheVariants.{Domain, Keys, Twice, OutOfMemory}
 use Rattle.svid_documents.specs.declared.join_fault.JoinFault.{JoinFault}
 
--- bundles and those that a document adds to them, of which the first has this index; or the first fault of these
+-- bundles and those that a document adds to them, the first of these at this index; or the first fault of these
 abbrev pub added : ℕ → Members → Members → Result Members DocumentFault
 added at joined no_members = Ok joined
 added at joined (member name set ms) =
@@ -29,7 +29,7 @@ abbrev pub and_then : ℕ → Result Members DocumentFault → (Members → Resu
 and_then at (Err fault) rest = Err (record { document = at; fault = fault })
 and_then at (Ok ms) rest = rest ms
 
--- bundles and those of documents, of which the first has this number; or the fault of the first that has one
+-- bundles and those of documents, numbered from this number on; or the first fault
 abbrev pub joined_to : ℕ → Members → List DocumentData → Result Members JoinFault
 joined_to at joined [] = Ok joined
 joined_to at joined (one ∷ more) = and_then at (with_bundles joined (bundles_of one)) (λ ms. joined_to (at + 1) ms more)

@@ -32,8 +32,8 @@ pub fn each_domain_is_read_as_alone()
         → (name : List ℕ) → IsSome (get_member name own) → bundle_at name (kept_of all) ≡ bundle_at name (kept_of own) }
 {}
 
-/// There is no reason against an entry exactly if `svid_keys` makes a key of it, in the bundle of any trust domain;
-/// and the text that is answered is that of this key.
+/// There is no reason against an entry exactly if `svid_keys` makes a key from it, in the bundle of any trust domain. The
+/// text that the call answers is that of this key.
 pub fn entries_without_a_reason_are_kept()
     ensures { (domain entry : List ℕ) → result_ok (key_due entry) ≡ kept_text domain entry }
 {}

@@ -17,7 +17,7 @@ use Rattle.svid_log.specs.Steps.{fate_at, is_early, reached}
 use Rattle.svid_group.specs.Told.{EventsLeaveLater, IsNoRestartOf}
 use Rattle.svid_group.specs.World.{Anew, Aside, Call, Event, Look, Miss, Put, Read, World, aside_of, gain_by, happens, passed, put, read_next, reader_at, told_by}
 
--- R holds of a validator before and after a fine event, if it does so of calls, of reads, and of a beginning anew
+-- R holds for a validator before and after a fine event, if it does so for calls, reads and fresh starts
 module _ (R : Member → Member → Type 0) (same : (x : Member) → R x x) (reads : (far : ℕ) (x : Member) (a : Aside) (now : ℕ) (refused : Bool) (c : Use) → R x (told_by far x a now refused c))
     (group : ℕ → Terms) (w : World) (v : ℕ) (Fine : Event → Type 0) (calls : (e : check.Event) → Fine (Call e) → R (w.group.members v) ((check.happens group w.group e).members v))
     (begins : (n front until : ℕ) → Fine (Anew n front until) → n ≡ v → R (w.group.members n) (check.with_renewal check.new_member (w.group.members n).renewal)) where

@@ -1,4 +1,4 @@
--- What is kept by all that may happen to a validator of a group that reads a log holds of each; so nothing is told that was not made.
+-- An invariant of all events of a validator that reads a log holds for each validator. So nothing is learned that was not made.
 use Rattle.std.proofs.Common.{◌≡◌, ℕ, zero, suc, Bool, true, false, List, [], ◌∷◌, Contains, Option, Some, None, refl, sym, ◌∙◌, subst, inl, inr}
 use Rattle.std.specs.Prelude.{◌==◌, drop, slice_get}
 use Rattle.std.specs.List.{AllByRecursion}
@@ -114,7 +114,7 @@ module _ (N : ℕ → Type 0) (A : Use → Type 0) (I : Member → Type 0) (kept
         happen_holds next events at.1 (λ u has. known u (Contains-append_right (made_by group w e) (made group next events) u has))
         (happens_holds w e at.0 (λ u has. known u (Contains-append_left (made_by group w e) (made group next events) u has)) h)
 
--- Each use that is told.
+-- Each use that is learned.
 
 module _ (P : Use → Type 0) where
   with_each : (s : Uses) (new : Use) → Each P s → P new → Each P (with s new)

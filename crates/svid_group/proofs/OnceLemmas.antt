@@ -94,7 +94,7 @@ accepted_leaves group w v now c a =
     let x = w.group.members v in
     ap (λ (o : Option Use). (read_next far w v now false o).group.members v) a.next ∙ cond-true (v == v) (told_by far x (w.asides v) now false c) x (eq-eqb v v refl)
 
--- the validator was told the claim
+-- the validator has learned the claim
 pub told_now_has : (group : ℕ → Terms) (w : World) (v now : ℕ) (c : Use) → Accepts group w v now c → IsTrue (holds (told_by (check.far group v now) (w.group.members v) (w.asides v) now false c).told.uses c)
 told_now_has group w v now c a =
     let y = passed (check.far group v now) (w.group.members v) now c in

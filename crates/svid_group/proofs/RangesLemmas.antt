@@ -1,4 +1,5 @@
--- Where the validator IDs, the moments and the uses of the log of a group are in range, so are each use that is told and each record's moment; so answers tell all.
+-- If the validator IDs, the moments and the uses of the log of a group are in range, so are each use that is learned and each record's moment. So
+-- answers carry everything.
 use Rattle.std.proofs.Common.{◌≡◌, ◌+◌, ◌-◌, ◌^◌, ◌<◌, ◌≤◌, ℕ, max, min, List, [], ◌∷◌, Contains, Option, None, Some, Result, Ok, Err, refl, sym, subst, inl, inr, arith}
 use Rattle.std.specs.List.{AllByRecursion}
 use Rattle.std.proofs.lemmas.List.Elements.{Contains-append_cases}
@@ -30,7 +31,7 @@ use Rattle.svid_group.proofs.StandsLemmas.{is_whole}
 abbrev IsMoment : ℕ → Type 0
 IsMoment n = n < 2 ^ 64
 
--- a validator's record is of a moment, and it was told uses
+-- a validator's record has a moment, and it has learned uses
 record IsFit (x : Member) : Type 0 where
   moment : IsMoment x.held.moment
   uses : Each IsUse x.told.uses

@@ -24,7 +24,7 @@ use Rattle.svid_check.proofs.LawfulLemmas.{is_used, of_its_input}
 use Rattle.svid_group.specs.Told.{ReportsAreExact, ReportsAreWhole, TwoValidatorsAreReported, group_after}
 use Rattle.svid_group.proofs.ToldLemmas.{records_are_told}
 
--- the test of what is no withdrawal
+-- a use is no withdrawal
 abbrev is_use : Use → Bool
 is_use u = not u.withdrawn
 

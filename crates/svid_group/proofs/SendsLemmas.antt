@@ -53,7 +53,7 @@ module _ (group : ℕ → Terms) (v k : ℕ) (q : Posting) where
   ]
   call_within w e d at h = subst Within (sym ((event_changes group w e).others v (λ same. d (sym same)))) h
 
-  -- posting k is q, and validator v was told no more than its maker
+  -- posting k is q, and validator v has learned no more than its maker
   record Under (w : World) : Type 0 where
     index : slice_get w.group.pool k ≡ Some q
     told : Within (w.group.members v)

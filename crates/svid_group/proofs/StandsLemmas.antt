@@ -1,4 +1,4 @@
--- Whatever happens in a group that reads a log, each record is what its validator was told.
+-- Whatever happens in a group that reads a log, each record is what its validator has learned.
 use Rattle.std.proofs.Common.{◌≡◌, ℕ, suc, Bool, true, false, List, [], ◌∷◌, ◌++◌, length, Option, Some, None, refl, sym, ap, ◌∙◌}
 use Rattle.std.specs.Prelude.{◌==◌, drop, slice_get}
 use Rattle.std.proofs.lemmas.Bool.{cond_both}

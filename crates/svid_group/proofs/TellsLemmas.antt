@@ -29,7 +29,8 @@ use Rattle.svid_group.specs.World.{Event, Read, World, as_terms, gain_by, happen
 use Rattle.svid_group.proofs.OnceLemmas.{carried, history}
 use Rattle.svid_group.proofs.ToldLemmas.{records_are_told}
 
--- a member to which a time was told, and then another unless a use is early, is at the state that a reader reaches; it has the record of what it was told, and was told no use
+-- a member that learned a time, and then another unless a use is early, is at the state that a reader reaches; its record is what it has learned, and
+-- it has learned no use
 passed_by : (early : Bool) (x : Member) (now at : ℕ) → x.held ≡ record_of x.told
     → let z = if early then ticked x now else ticked (ticked x now) at in
     (z.held ≡ (if early then raised_to x.held now else raised_to (raised_to x.held now) at)) × (z.held ≡ record_of z.told) × (z.told.uses ≡ x.told.uses)
@@ -37,7 +38,7 @@ passed_by true x now at is = (refl, sym (told_now x.told x.held now (sym is)), r
 passed_by false x now at is =
     (refl, sym (told_now (tell_now x.told now) (raised_to x.held now) at (told_now x.told x.held now (sym is))), refl)
 
--- what a use of a state is, by what was told
+-- how a state relates to a use, by what was learned
 module _ (group : ℕ → Terms) (events : List Event) (v now : ℕ) (c : Use) where
   abbrev w : World
   w = happen group start events
@@ -57,7 +58,7 @@ module _ (group : ℕ → Terms) (events : List Event) (v now : ℕ) (c : Use) w
   passed_is : (z.held ≡ y) × (z.held ≡ record_of z.told) × (z.told.uses ≡ x.told.uses)
   passed_is = passed_by (is_early (ticked x now).held far c) x now c.at (records_are_told group events v)
 
-  -- the uses at which it judges are those that were told and are live
+  -- the uses at which it judges are those that were learned and are live
   judged_holds : (u : Use) → holds y.uses u ≡ (nat_lt y.moment u.exp && holds x.told.uses u)
   judged_holds u =
       let is : y ≡ record_of z.told = sym passed_is.0 ∙ passed_is.1 in
@@ -79,7 +80,7 @@ module _ (group : ℕ → Terms) (events : List Event) (v now : ℕ) (c : Use) w
     | inr past ↦ past
   ]
 
-  -- what a read leaves of what was told
+  -- everything learned, after a read
   read_leaves : slice_get w.log (w.asides v).read ≡ Some c → (happens group w (Read v now false)).group.members v ≡ told_by far x (w.asides v) now false c
   read_leaves next =
       ap (λ (o : Option Use). (read_next far w v now false o).group.members v) next ∙ cond-true (v == v) (told_by far x (w.asides v) now false c) x (eq-eqb v v refl)

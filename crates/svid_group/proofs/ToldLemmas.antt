@@ -58,7 +58,7 @@ sends_tell_all group events v k q send taken =
     let w = group_after group events in
     send_told w (w.members v) k q (is_sound group events) ((is_sound group events).members v) send taken
 
--- the last maker of a chain was told what went along it
+-- the last maker of a chain has learned what went along it
 went_along : (w : check.World) → Sound w → (u : Use) (k : ℕ) (chain : List ℕ) (q : Posting) → IsSend w k q → WentAlong w u k chain → IsTrue (holds q.was.told.uses u)
 went_along w s u k [] q send along = subst (λ (p : Posting). IsTrue (holds p.was.told.uses u)) (same_Some along.0 q (sym along.1.0 ∙ send.0)) along.2
 went_along w s u k (before ∷ chain) q send along =

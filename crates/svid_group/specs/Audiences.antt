@@ -25,7 +25,8 @@ with_own s own = record { own = own; validator_id = s.validator_id; bundles = s.
 abbrev pub readdress : (ℕ → Terms) → World → (v : ℕ) (own : List (List ℕ)) → Event
 readdress group w v own = let s = setting_at group w.group v in Call (Renew v (record { own = own; bundles = s.bundles; says = s.says }))
 
--- from world w to world z, validator v got these audiences, and nothing else happened: its record, its position in the log, what it was told, what it noted, and the other validators are as they were
+-- from world w to world z, validator v got these audiences, and nothing else happened: its record, its position in the log, what it has learned, what
+-- it noted, and the other validators are unchanged
 pub record IsReaddressed (group : ℕ → Terms) (w : World) (v : ℕ) (own : List (List ℕ)) (z : World) : Type 0 where
   pub setting : setting_at group z.group v ≡ with_own (setting_at group w.group v) own
   pub reader : reader_at z v ≡ reader_at w v

@@ -23,11 +23,12 @@ OwnClaimIsAccepted = (group : ℕ → Terms) (v now : ℕ) (token : List ℕ) (a
 abbrev pub in_front : ℕ → List ℕ → List ℕ → ℕ → Renewal → Use → List Event
 in_front now token key exp renewal claim = map Call (check.every_kind now token key exp renewal) ++ judge_and_put 2 now claim
 
--- validator 2 reads its claim and looks at what stands beside its record; 3 misses the claim, and 4 begins anew behind it
+-- validator 2 reads its claim and looks at what stands beside its record; 3 misses the claim, and 4 begins afresh after it
 abbrev pub behind : ℕ → Use → List Event
 behind now claim = Read 2 now false ∷ Look 2 ∷ Miss 3 1 claim.exp ∷ Anew 4 1 claim.exp ∷ []
 
--- what is to be seen of these: all that is to be seen without a log; the claim stands in the log; 2 has read it, and was told it; 3 and 4 are behind it, and accept nothing until it expires
+-- what can be seen of these: everything as without a log; the claim is in the log; 2 has read and learned it; 3 and 4 are past it, and accept nothing
+-- until it expires
 pub record AllHappened (t : Terms) (now : ℕ) (first : Accepted) (key : List ℕ) (exp : ℕ) (renewal : Renewal) (claim : Use) (w : World) : Type 0 where
   pub group : check.AllHappened t now first key exp renewal w.group
   pub log : w.log ≡ claim ∷ []

@@ -38,7 +38,7 @@ AcceptedIsFirst = (group : ℕ → Terms) (events : List Event) (v now : ℕ) (c
     let moment = (judges group w v now c).moment in
     Accepts group w v now c → (moment < c.exp) × AllGone w.log (w.asides v).read c.key moment
 
--- an accepted claim is a use of the record, and was told
+-- an accepted claim is a use of the record, and the validator has learned it
 abbrev pub AcceptedIsHeld : Type 0
 AcceptedIsHeld = (group : ℕ → Terms) (w : World) (v now : ℕ) (c : Use)
     → let x = (happens group w (Read v now false)).group.members v in

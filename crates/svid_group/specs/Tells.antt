@@ -1,4 +1,4 @@
--- What a read of the log tells a validator, in words of the log and of what the validator was told before.
+-- What a validator learns by reading the log, in terms of the log and of its earlier knowledge.
 use Rattle.std.specs.Prelude.{◌≡◌, ◌⊎◌, ℕ, ◌<◌, ◌≤◌, true, false, List, slice_get, Some, IsTrue}
 use Rattle.svid_replay.specs.declared.token_use.Use.{Use}
 use Rattle.svid_replay.specs.Buckets.{raised_to}
@@ -17,11 +17,11 @@ pub record ReadsTimely (group : ℕ → Terms) (w : World) (v now : ℕ) (c : Us
   pub sound : c.at < c.exp
   pub live : (judges group w v now c).moment < c.exp
 
--- each use of a key that was told has expired by a moment
+-- each use of a key that was learned has expired by a moment
 abbrev pub IsToldGone : Told → List ℕ → ℕ → Type 0
 IsToldGone x key moment = (u : Use) → IsTrue (holds x.uses u) → u.key ≡ key → u.exp ≤ moment
 
--- what validator v was told after it read the next use
+-- what validator v has learned after it read the next use
 abbrev pub told_after : (ℕ → Terms) → World → (v now : ℕ) → Told
 told_after group w v now = ((happens group w (Read v now false)).group.members v).told
 
@@ -31,7 +31,7 @@ ReadsTellWithdrawals = (group : ℕ → Terms) (events : List Event) (v now : �
     → let w = happen group start events in
     ReadsTimely group w v now c → c.withdrawn ≡ true → IsTrue (holds (told_after group w v now).uses c)
 
--- it tells a claim where each use of its key has expired that was told or stands in front of it in the log
+-- it learns a claim if each use of its key that it has learned, or that is before it in the log, has expired
 abbrev pub ReadsTellFirstClaims : Type 0
 ReadsTellFirstClaims = (group : ℕ → Terms) (events : List Event) (v now : ℕ) (c : Use)
     → let w = happen group start events in
@@ -39,7 +39,8 @@ ReadsTellFirstClaims = (group : ℕ → Terms) (events : List Event) (v now : �
     ReadsTimely group w v now c → c.withdrawn ≡ false → IsToldGone (w.group.members v).told c.key moment → AllGone w.log (w.asides v).read c.key moment
     → IsTrue (holds (told_after group w v now).uses c)
 
--- and no use but the one that is read, where that is timely: a withdrawal, or a claim where each use of its key that was told has expired
+-- and it learns no use but the one that it reads, if that is timely: a withdrawal, or a claim for which each use of its key that it has
+-- learned has expired
 abbrev pub ReadsTellNothingElse : Type 0
 ReadsTellNothingElse = (group : ℕ → Terms) (events : List Event) (v now : ℕ) (c u : Use)
     → let w = happen group start events in

@@ -29,11 +29,11 @@ use Rattle.svid_group.specs.World.{Accepts, Anew, Aside, Call, Event, Put, Read,
 abbrev pub group_after : (ℕ → Terms) → List Event → check.World
 group_after group events = (happen group start events).group
 
--- each record is what its validator was told: the greatest moment, and the uses that are live at it
+-- each record is what its validator has learned: the greatest moment, and the uses that are live at it
 abbrev pub RecordsAreTold : Type 0
 RecordsAreTold = (group : ℕ → Terms) (events : List Event) (v : ℕ) → let x = (group_after group events).members v in x.held ≡ record_of x.told
 
--- each check is answered by the verdict for what was told, acceptance or refusal, or by want of memory
+-- each check answers the verdict for what the validator has learned, acceptance or refusal, or that it is out of memory
 abbrev pub ChecksAreVerdicts : Type 0
 ChecksAreVerdicts = (group : ℕ → Terms) (events : List Event) (v now : ℕ) (token : List ℕ) (refused : Bool)
     → let w = group_after group events in
@@ -58,12 +58,12 @@ module _ (group : ℕ → Terms) where
   made w [] = []
   made w (event ∷ events) = made_by w event ++ made (happens group w event) events
 
--- nothing else was told: each use that was told was accepted by a check of the group, made by a withdrawal, or put into the log
+-- nothing else was learned: each use was accepted by a check of the group, made by a withdrawal, or put into the log
 abbrev pub ToldWereMade : Type 0
 ToldWereMade = (group : ℕ → Terms) (events : List Event) (v : ℕ) (u : Use)
     → IsTrue (holds ((group_after group events).members v).told.uses u) → Contains (made group start events) u
 
--- validators that were told the same, in whatever groups and by whatever events, have the same record
+-- validators that have learned the same, in whatever groups and by whatever events, have the same record
 abbrev pub EqualTellings : Type 0
 EqualTellings = (group other : ℕ → Terms) (events others : List Event) (v w : ℕ)
     → let x = (group_after group events).members v in
@@ -77,7 +77,8 @@ TakesOnly v k (Read n now refused) = n ≢ v
 TakesOnly v k (Anew n front until) = n ≢ v
 TakesOnly v k _ = Unit {0}
 
--- a validator that was told no use that the sender had not been told at a send, and that takes it whole with no other event of its own between, was then told just the uses that the sender had been told
+-- a validator that has learned no use that the sender had not learned at a send, and takes the send whole with no other event of its own in between,
+-- then knows exactly the uses that the sender knew
 abbrev pub SendsMakeEqual : Type 0
 SendsMakeEqual = (group : ℕ → Terms) (events takes : List Event) (v k : ℕ) (q : Posting)
     → let before = happen group start events in
@@ -85,19 +86,19 @@ SendsMakeEqual = (group : ℕ → Terms) (events takes : List Event) (v k : ℕ)
     IsSend before.group k q → IsWithin (before.group.members v).told.uses q.was.told.uses → AllByRecursion (TakesOnly v k) takes → HasTaken (after.group.members v).log k q
     → (after.group.members v).told.uses ≡ q.was.told.uses
 
--- a validator that took a send whole was told all uses that its sender had been told by then, those of the log too
+-- a validator that took a send whole has learned all uses that its sender had learned by then, including those of the log
 abbrev pub SendsTellAll : Type 0
 SendsTellAll = (group : ℕ → Terms) (events : List Event) (v k : ℕ) (q : Posting)
     → let w = group_after group events in
     IsSend w k q → HasTaken (w.members v).log k q → IsWithin q.was.told.uses (w.members v).told.uses
 
--- a validator that took the last send of a chain whole was told each use that went along it
+-- a validator that took the last send of a chain whole has learned each use that went along it
 abbrev pub ChainsTell : Type 0
 ChainsTell = (group : ℕ → Terms) (events : List Event) (v k : ℕ) (q : Posting) (u : Use) (chain : List ℕ)
     → let w = group_after group events in
     IsSend w k q → HasTaken (w.members v).log k q → WentAlong w u k chain → IsTrue (holds (w.members v).told.uses u)
 
--- a validator that was told a use with the key and the expiry of a signing input accepts no token of it
+-- a validator that has learned a use with the key and the expiry of a signing input accepts no token of it
 abbrev pub ToldIsRefused : Type 0
 ToldIsRefused = (group : ℕ → Terms) (events : List Event) (v : ℕ) (input : List ℕ) (u : Use)
     → let x = (group_after group events).members v in
@@ -109,7 +110,7 @@ ClaimedIsRefused = (group : ℕ → Terms) (events : List Event) (v now : ℕ) (
     → let w = happen group start events in
     Accepts group w v now c → IsUseOf c input → IsRefusedBy ((happens group w (Read v now false)).group.members v) input
 
--- and one that was told of an acceptance, wherever that was, accepts no token of its signing input
+-- and one that has learned of an acceptance, wherever that was, accepts no token of its signing input
 abbrev pub AcceptedIsRefused : Type 0
 AcceptedIsRefused = (group : ℕ → Terms) (events : List Event) (v moment : ℕ) (s : Setting) (uses : Uses) (token input : List ℕ) (u : Use)
     → let x = (group_after group events).members v in
@@ -121,26 +122,26 @@ AcceptanceGoesAlong = (group : ℕ → Terms) (events : List Event) (v k moment 
     → let w = group_after group events in
     verdicts.Accepts s moment uses token u → input_of token ≡ Some input → IsSend w k q → HasTaken (w.members v).log k q → WentAlong w u k chain → IsRefusedBy (w.members v) input
 
--- a check accepts no token of whose key a withdrawal was told that is live, by the log or outside of it
+-- a check accepts no token if a live withdrawal of its key was learned, by the log or outside of it
 abbrev pub WithdrawnAreRefused : Type 0
 WithdrawnAreRefused = (group : ℕ → Terms) (events : List Event) (v now : ℕ) (token : List ℕ) (refused : Bool) (accepted : Accepted) (u : Use)
     → let w = group_after group events in
     let x = tell_now (w.members v).told now in
     IsTrue (holds x.uses u) → u.withdrawn ≡ true → x.greatest < u.exp → answer_at group w v now token refused ≡ Ok accepted → u.key ≢ accepted.used.key
 
--- a report lists the keys of which two different uses were told that are live, and are no withdrawals
+-- a report lists exactly the keys with two different live uses that were learned and are no withdrawals
 abbrev pub ReportsAreExact : Type 0
 ReportsAreExact = (group : ℕ → Terms) (events : List Event) (v : ℕ) (key : List ℕ)
     → let x = (group_after group events).members v in
     Contains (map (λ t. t.key) (report_of x)) key ↔ IsUsedTwice x.told key
 
--- each key that is listed stands with all of its uses that were told, are live, and are no withdrawals
+-- each key in the report has all of its live uses that were learned and are no withdrawals
 abbrev pub ReportsAreWhole : Type 0
 ReportsAreWhole = (group : ℕ → Terms) (events : List Event) (v : ℕ) (t : Twice) (u : Use)
     → let x = (group_after group events).members v in
     Contains (report_of x) t → Contains t.uses u ↔ IsLiveUse x.told t.key u
 
--- one signing input that was accepted at two validator IDs is reported wherever both uses were told, until it expires
+-- if one signing input was accepted at two validator IDs, every validator that learned both uses reports it until it expires
 abbrev pub TwoValidatorsAreReported : Type 0
 TwoValidatorsAreReported = (group : ℕ → Terms) (events : List Event) (v : ℕ) (s other : Setting) (moment later : ℕ) (uses others : Uses) (token again : List ℕ) (a b : Use)
     → let x = (group_after group events).members v in
@@ -163,7 +164,7 @@ RestartsPutBack = (group : ℕ → Terms) (events : List Event) (v k : ℕ) (s :
     → (a : Aside) × (slice_get w.saved k ≡ Some a) × (reader_at z v ≡ begins (reader_at w v) (reader s.was a))
     × (x.told ≡ s.was.told) × (x.log ≡ s.was.log) × (x.renewal ≡ (w.group.members v).renewal)
 
--- the event puts back no save of validator v, and it does not begin anew
+-- the event puts back no save of validator v, and is no fresh start
 abbrev pub IsNoRestartOf : ℕ → Event → Type 0
 IsNoRestartOf v (Call (Restart n k)) = n ≢ v
 IsNoRestartOf v (Anew n front until) = n ≢ v
@@ -180,7 +181,8 @@ IsEventInRange (Put u) = IsUse u
 IsEventInRange (Read v now refused) = now < 2 ^ 64
 IsEventInRange _ = Unit {0}
 
--- a validator that made a summary and took an answer to it whole was told all uses that the answerer had been told by then; or else some bucket of its own, when it made the summary, and of the answerer, when it answered, had two texts of one digest
+-- a validator that made a summary and took an answer to it whole has learned all uses that the answerer had learned by then; or some bucket of its
+-- own at the summary, and that of the answerer at the answer, are different texts with one digest
 abbrev pub AnswersTellAll : Type 0
 AnswersTellAll = (group : ℕ → Terms) (events : List Event) (v j k : ℕ) (answer summary : Posting) (parts : List BatchData) (s : SummaryData)
     → HasIds group → AllByRecursion IsEventInRange events

@@ -25,7 +25,7 @@ ClaimsAreVerdicts = (group : ℕ → Terms) (w : World) (v now moment : ℕ) (c 
     verdict s moment uses token ≡ Ok (Some a) → moment ≤ y.moment → IsClaimOf c a.used
     → Accepts group w v now c → verdict s y.moment y.uses token ≡ Ok (Some (made_at y.moment a))
 
--- the event is no restart of validator v, no beginning anew, and no renewal
+-- the event is no restart of validator v, no fresh start, and no renewal
 abbrev pub GoesOn : ℕ → Event → Type 0
 GoesOn v (Call (Restart n k)) = n ≢ v
 GoesOn v (Call (Renew n renewal)) = n ≢ v

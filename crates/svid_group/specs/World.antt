@@ -24,10 +24,10 @@ pub record World : Type 0 where
   pub asides : ℕ → Aside
   pub saved : List Aside
 
--- What may happen. `Call`: any event of a group without a log. `Put`: anyone puts any use at the end of the log. `Read`:
--- validator v reads the next use of the log at the time `now`, where memory may be refused. `Look`: what has expired beside its
--- record goes. `Anew`: it begins with an empty record, behind a front of the log that has expired. `Miss`: it misses uses, and
--- accepts nothing until a moment by which these have expired.
+-- What may happen. `Call`: any event of a group without a log. `Put`: anyone puts any use at the end of the log. `Read`: validator v reads the next
+-- use of the log at the time `now`, and memory may be refused. `Look`: uses beside its record that have expired are dropped. `Anew`: it begins with
+-- an empty record, at a position of the log before which everything has expired. `Miss`: it misses uses, and accepts nothing until a moment by which
+-- these have expired.
 pub data Event : Type 0 where
   Call : (event : check.Event) → Event
   Put : (u : Use) → Event
@@ -69,7 +69,7 @@ put_aside asides v a = λ n. if n == v then a else asides n
 abbrev pub put : World → ℕ → check.Member → Aside → World
 put w v x a = record { group = check.put w.group v x; log = w.log; asides = put_aside w.asides v a; saved = w.saved }
 
--- a validator is told a time, and then that of a use unless it is early
+-- a validator learns a time, and then that of a use unless it is early
 abbrev pub passed : ℕ → check.Member → ℕ → Use → check.Member
 passed far x now c = let y = check.ticked x now in if is_early y.held far c then y else check.ticked y c.at
 
@@ -79,7 +79,7 @@ gain_by First c = Some c
 gain_by Withdrawal c = Some c
 gain_by _ c = None
 
--- a validator that reads a use is told the moment at which it judges it, and what its record gains
+-- a validator that reads a use learns the moment at which it judges it, and what its record gains
 abbrev pub told_by : ℕ → check.Member → Aside → ℕ → Bool → Use → check.Member
 told_by far x a now refused c =
     let y = passed far x now c in
@@ -90,7 +90,7 @@ abbrev pub read_next : ℕ → World → ℕ → ℕ → Bool → Option Use →
 read_next far w v now refused None = w
 read_next far w v now refused (Some c) = put w v (told_by far (w.group.members v) (w.asides v) now refused c) (aside_of (log.reads far (reader_at w v) now refused c))
 
--- validator v begins anew behind a front of the log, if that has expired by then: it was told nothing, and its setting stays
+-- validator v begins afresh at a position of the log, if everything before it has expired by then: it has learned nothing, and its setting stays
 abbrev pub anew : World → (v front until : ℕ) → World
 anew w v front until =
     if log.is_gone until front w.log
@@ -112,7 +112,7 @@ abbrev pub asides_after : World → check.Event → ℕ → Aside
 asides_after w (check.Restart v k) = put_back w v (slice_get w.group.saves k) (slice_get w.saved k)
 asides_after w _ = w.asides
 
--- and of what was saved beside them
+-- and what was saved beside them
 abbrev pub saved_after : World → check.Event → List Aside
 saved_after w (check.Save v) = w.saved ++ w.asides v ∷ []
 saved_after w _ = w.saved

@@ -16,8 +16,8 @@ pub fn groups_accept_once()
     ensures later { LaterInLogIsPast }
 {}
 
-/// An accepted claim is live, all uses of its key in front of it in the log have expired, and nothing refused it. The record has
-/// it then, and the validator was told it.
+/// An accepted claim is live, all uses of its key before it in the log have expired, and nothing refused it. The record has it then, and
+/// the validator has learned it.
 pub fn accepted_claims_are_first()
     ensures first { AcceptedIsFirst }
     ensures held { AcceptedIsHeld }
@@ -31,16 +31,16 @@ pub fn own_claims_are_accepted()
     ensures only { OnlyClaimIsAccepted }
 {}
 
-/// Of a key of which no event outside of the log adds a use to a record, each record has one use at most, beside withdrawals.
+/// If no event outside of the log adds a use of a key to a record, each record has at most one use of that key, beside withdrawals.
 pub fn records_have_first_claims()
     ensures { OneUseOfAKey }
 {}
 
-/// Each validator's record is what it was told, by the log and outside of it: the greatest moment, and the uses that are live at
-/// it. Each check is answered by the verdict for that, acceptance or refusal, or by want of memory, and by nothing but the verdict
-/// where no memory is refused. Nothing else is told than what was accepted by a check of the group, withdrawn by a validator of it,
-/// or put into the log. Validators that were told the same have the same record; and one that takes a send whole, with no other event
-/// of its own between, was then told just what the sender had been told, if it had been told no more before.
+/// Each validator's record is exactly what it has learned, by the log and outside of it: the greatest moment, and the uses that are live
+/// at it. Each check answers the verdict for that record, acceptance or refusal, or that it is out of memory. If no memory is refused, it
+/// answers the verdict. Validators learn only what a check of the group accepted, a validator of it withdrew, or somebody put into the
+/// log. Validators that have learned the same have the same record. If a validator has learned no more than a sender, and takes its send
+/// whole with no other event of its own in between, it then knows exactly what the sender knew.
 pub fn records_are_told()
     ensures records { RecordsAreTold }
     ensures checks { ChecksAreVerdicts }
@@ -50,12 +50,12 @@ pub fn records_are_told()
     ensures taken { SendsMakeEqual }
 {}
 
-/// A validator that was told a use accepts no token of its key and its expiry, at any moment: so it is with a claim of the log that
-/// its record gained, with an acceptance, and with whatever came along a chain of records taken whole. A check accepts no token of
-/// whose key a withdrawal was told that is live.
+/// A validator that has learned a use accepts no token with its key and its expiry, at any moment. That includes a claim of the log that
+/// its record gained, an acceptance, and everything that came along a chain of records taken whole. A check accepts no token if a live
+/// withdrawal of its key was learned.
 ///
-/// That each use that was told was accepted by a check does not hold where there is a log: a claim may be told whose request was
-/// never answered. Of the uses that the log tells, [`accepted_claims_are_first`] and [`records_have_first_claims`] speak.
+/// With a log, a use that was learned need not have been accepted by a check: the request of a claim may never have been answered.
+/// [`accepted_claims_are_first`] and [`records_have_first_claims`] are about the uses that come from the log.
 pub fn told_tokens_are_refused()
     ensures told { ToldIsRefused }
     ensures claimed { ClaimedIsRefused }
@@ -66,8 +66,8 @@ pub fn told_tokens_are_refused()
     ensures along { AcceptanceGoesAlong }
 {}
 
-/// A report lists the keys of which two different uses were told that are live, with all of them, and no withdrawal; and one
-/// signing input that was accepted at two validator IDs is reported wherever both uses were told, until it expires.
+/// A report lists exactly the keys with two different live uses that were learned, withdrawals aside, each with all of these. If one
+/// signing input was accepted at two validator IDs, every validator that learned both uses reports it until it expires.
 pub fn reports_are_exact()
     ensures exact { ReportsAreExact }
     ensures whole { ReportsAreWhole }
@@ -82,39 +82,39 @@ pub fn restarts_absorb()
     ensures put_back { RestartsPutBack }
 {}
 
-/// A validator that made a summary and took all parts of an answer to it was told all uses that the answerer had been told by then,
-/// those of the log too; or else some bucket of its own, when it made the summary, and of the answerer, when it answered, had two
-/// texts of one digest. Fields have their ranges.
+/// A validator that made a summary and took all parts of an answer to it has learned all uses that the answerer had learned by then,
+/// including those of the log. The only exception is a collision: a bucket of the validator at the summary and that of the answerer at the
+/// answer are different texts with one digest. Fields have their ranges.
 pub fn answers_tell_all()
     ensures { AnswersTellAll }
 {}
 
-/// Each event but a restart and a beginning anew leaves a later record, so any number of them may come between the pieces of a save,
-/// which `saves_lose_nothing` of svid_check is about.
+/// Each event leaves a later record, except a restart and a fresh start with an empty record. So any number of them may come between the
+/// pieces of a save, as in `saves_lose_nothing` of svid_check.
 pub fn records_go_on()
     ensures { EventsLeaveLater }
 {}
 
-/// What a call of svid_log's `Member::read` does with the record of a validator of a group is what as many events leave, gaps and
-/// refused memory included; what it accepts is accepted in the group, and in a value that no earlier life has read that is exact.
-/// Other calls of a validator are events `Call`, by `calls_are_events` of svid_check, whose clauses speak of any group but for saves,
-/// of which [`restarts_absorb`] speaks.
+/// What svid_log's `Member::read` does with the record of a validator of a group, the same number of events does too, including gaps and
+/// refused memory. What it accepts, the group accepts; the converse holds too in a value that no earlier life has read. Other calls of a
+/// validator are events `Call`, by `calls_are_events` of svid_check. Its clauses hold for any group, except for saves, which
+/// [`restarts_absorb`] is about.
 pub fn reads_are_events()
     ensures { ReadsAreEvents }
 {}
 
-/// A read of a use that is neither early nor expired tells the validator a withdrawal; and a claim, where each use of its key has expired
-/// that the validator was told or that stands in front of the claim in the log. It tells no other use, and no claim while a use of its key
-/// is live that the validator was told.
+/// Reading a use that is neither early nor expired, a validator learns a withdrawal. It learns a claim if each use of its key that it has
+/// learned, or that is before the claim in the log, has expired. It learns no other use, and no claim while it knows a live use of its
+/// key.
 pub fn reads_tell()
     ensures withdrawals { ReadsTellWithdrawals }
     ensures claims { ReadsTellFirstClaims }
     ensures only { ReadsTellNothingElse }
 {}
 
-/// A token whose claim is accepted is one that the definition accepts, at the moment and by the uses at which the claim is judged: if
-/// it was judged to be accepted at a moment that is no greater, and the setting is the same. So it is where its validator judged it,
-/// and went on without a restart, a beginning anew or a renewal. Behind a renewal, one more judgment in front of the read serves.
+/// If a claim is accepted, the definition accepts its token, at the moment and by the uses at which the claim is judged. The premises: the
+/// token was judged to be accepted, at a moment that is no later, and the setting is the same. Both hold if its validator judged the
+/// token, and continued without a restart, a fresh start or a renewal. After a renewal, judge the token once more before the read.
 pub fn accepted_claims_are_verdicts()
     ensures claims { ClaimsAreVerdicts }
     ensures judged { JudgedAreVerdicts }

@@ -116,7 +116,7 @@ some_unless : (first : Option IdFault) (fault : IdFault) → fault ≡ unwrap_or
 some_unless None fault answered other = absurd (other answered)
 some_unless (Some first) fault answered other = cc
 
--- a text that is refused for another fault than want of memory has that fault
+-- a text that is refused for a fault other than out of memory has that fault
 pub refused_fault : (text : List ℕ) (fault : IdFault) → fault ≡ unwrap_or (id_fault text) OutOfMemory
     → fault ≢ OutOfMemory → id_fault text ≡ Some fault
 refused_fault text fault answered other = some_unless (id_fault text) fault answered other
@@ -126,7 +126,7 @@ pub refused_parts : (text : List ℕ) (fault : IdFault) → fault ≡ unwrap_or 
     → fault ≢ OutOfMemory → id_parts text ≡ None
 refused_parts text fault answered other = rw (refused_fault text fault answered other) refl
 
--- want of memory is neither of two faults, so not the one that is chosen
+-- out of memory is neither of two faults, so not the one that is chosen
 either-memory : (b : Bool) (one other : Option IdFault) → one ≢ Some OutOfMemory → other ≢ Some OutOfMemory
     → cond b one other ≢ Some OutOfMemory
 either-memory true one other is-not other-is-not = is-not

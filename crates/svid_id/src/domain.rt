@@ -43,7 +43,7 @@ pub(crate) fn check_domain(name: &[u8]) -> Result<(), IdFault>
 }
 
 /// Whether a text is a trust domain name (SPIFFE-ID, section 2.1): one to 255 bytes, each a small
-/// letter, a digit, `.`, `-` or `_`. Takes no memory.
+/// letter, a digit, `.`, `-` or `_`. Allocates nothing.
 pub fn is_domain_name(text: &[u8]) -> bool
     ensures value { result ≡ is_domain text.now }
     ensures domain { IsTrue result ↔ IsDomain text.now }

@@ -24,7 +24,7 @@ use Rattle.svid_keys.proofs.FirstLemmas.{first_here, first_later, first_or_later
 use Rattle.svid_keys.specs.declared.bundle_fault.BundleFault.{BundleFault}
 use Rattle.svid_keys.specs.declared.bundle_fault.BundleFault.TheVariants.{NotObject, Domain, Keys, OutOfMemory}
 
--- a JSON list of values, as the list of what they are
+-- a JSON list of values, as a list of values
 pub items_list_view : (entries : List Value) → items_list (items_view entries) ≡ map view entries
 items_list_view [] = refl
 items_list_view (entry ∷ entries) = ap (λ more. view entry ∷ more) (items_list_view entries)
@@ -176,11 +176,11 @@ whole : (text : List ℕ) (fault : BundleFault) → bundles_fault text ≡ Some 
 whole text fault found is =
     let none = bundles_fault-IsBundles text is in cc
 
--- bundles of which all members were read
+-- bundles whose members were all read
 pub bundles_in-members : (text : List ℕ) (ms : Members) → members_in text ≡ Some ms → AreBundles ms → bundles_in text ≡ Some (bundles_of ms)
 bundles_in-members text ms found are = rw (found, no_fault 0 ms are) refl
 
--- a text that is bundles is refused for want of memory alone
+-- a text that is bundles is refused only if out of memory
 pub memory_alone : (text : List ℕ) (fault : BundleFault) → IsRefusal (bundles_fault text) fault → IsBundles text → fault ≡ OutOfMemory
 memory_alone text NotObject refused is = absurd (whole text _ refused is)
 memory_alone text (Domain index) refused is = absurd (whole text _ refused is)
@@ -197,7 +197,7 @@ BadDomain m = ¬ IsDomain m.name
 abbrev BadKeys : Named → Type 0
 BadKeys m = IsDomain m.name × (entries_in m.set ≡ None)
 
--- of members, of which the first stands at a index, the fault is that of the first bad one
+-- the fault of members, the first of them at an index, is that of the first bad one
 abbrev IsFirstOf : ℕ → Members → BundleFault → Type 0
 IsFirstOf at ms NotObject = ⊥
 IsFirstOf at ms (Domain index) = (before : ℕ) × (index ≡ at + before) × IsFirstBad Good BadDomain (members_list ms) before

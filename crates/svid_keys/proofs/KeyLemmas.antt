@@ -56,7 +56,7 @@ is_object : (name : List ℕ) (entry : Data) (text : List ℕ) → text_at name 
 is_object name (object ms) text e = refl
 is_object name entry text e = cc
 
--- an entry of which a key was made is that key
+-- an entry from which a key was made is that key
 pub IsKey-from_kept : (name : List ℕ) (entry : Data) (key : KeyData) → kept_key name entry ≡ Some key → IsKey name entry key
 IsKey-from_kept name entry key kept =
     let said : Says (text_at (codes "use") entry) (text_at (codes "kid") entry) (kty_in entry) (has_float entry) (nat_le (length (compact_text entry)) most_key_bytes) name (compact_text entry) key =

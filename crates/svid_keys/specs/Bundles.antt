@@ -56,7 +56,7 @@ abbrev pub bundles_of : Members → List Bundle
 bundles_of no_members = []
 bundles_of (member name set ms) = bundle_of name (unwrap_or (entries_in set) []) ∷ bundles_of ms
 
--- the first fault of members, of which the first stands at a index
+-- the first fault of members, the first of them at an index
 abbrev pub members_fault : ℕ → Members → Option BundleFault
 members_fault at no_members = None
 members_fault at (member name set ms) =

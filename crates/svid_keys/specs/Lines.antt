@@ -34,7 +34,7 @@ lines_of text = map without_return (pieces_of text)
 abbrev pub IsPieceOf : List ℕ → List ℕ → Type 0
 IsPieceOf line piece = (piece ≡ line) ⊎ (piece ≡ line ++ carriage_return ∷ [])
 
--- the lines of what is left of a text, none after its end
+-- the lines of the rest of a text, none after its end
 abbrev pub lines_of_rest : Option (Bor (List ℕ)) → List (List ℕ)
 lines_of_rest None = []
 lines_of_rest (Some rest) = lines_of rest.now

@@ -57,7 +57,7 @@ impl Bundles {
         Ok(Bundles { domains })
     }
 
-    /// Whether there is a bundle of this trust domain. No memory is taken.
+    /// Whether there is a bundle of this trust domain. Allocates nothing.
     pub fn has_domain(&self, domain: &str) -> bool
         ensures { result ≡ is_some (bundle_at domain.now self.now) }
     {
@@ -65,7 +65,7 @@ impl Bundles {
     }
 
     /// The keys of a trust domain that may have signed a token of this algorithm which names its
-    /// key so, if it names one: in the order of the bundle's list. No memory is taken.
+    /// key so, if it names one: in the order of the bundle's list. Allocates nothing.
     pub fn candidates<'a>(&'a self, domain: &str, alg: Alg, kid: Option<&'a str>) -> Candidates<'a>
         ensures { candidates_left result
             ≡ candidates_of self.now domain.now alg (option_map (λ kid. kid.now) kid.entry) }

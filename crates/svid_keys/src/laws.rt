@@ -12,9 +12,9 @@ ghost use Rattle.svid_keys.specs.Table.{IsFirstTableFault, table_fault};
 use crate::bundle_fault::BundleFault;
 use crate::table_fault::TableFault;
 
-/// The key that is made of an entry of a bundle is the key that the entry is: it is for JWT-SVIDs,
-/// has a name and a family, holds whole numbers of 64 bits alone, and is not too long. An entry of
-/// which none is made is no key.
+/// The key that is made from an entry of a bundle is the key that the entry is: it is for JWT-SVIDs, has a
+/// name and a family, holds only whole numbers of 64 bits, and is not too long. If no key is made from an
+/// entry, it is no key.
 pub fn kept_entries_are_keys()
     ensures { (name : List ℕ) (entry : Data) (key : KeyData)
         → (kept_key name entry ≡ Some key) ↔ IsKey name entry key }

@@ -9,7 +9,7 @@ use svid_token::Alg;
 
 /// The question whether a signature over an input is good for a key and an algorithm: the SHA-256
 /// digest of the trust domain, the key's text, the algorithm's name, the signing input and the
-/// signature, each after its length in four bytes, the greatest first. No memory is taken.
+/// signature, each after its length in four bytes, the greatest first. Allocates nothing.
 pub fn question(key: &JwtKey, alg: Alg, input: &[u8], signature: &[u8]) -> [u8; 32]
     requires input_len { length input.now ≤ most_token_bytes }
     requires signature_len { length signature.now ≤ most_token_bytes }

@@ -14,7 +14,7 @@ pub trait Verifier {
     ghost says: { Self → KeyData → Alg → List ℕ → List ℕ → Bool };
 
     /// Whether a signature over an input is good for a key and an algorithm. The input and the
-    /// signature have at most 65,536 bytes each. No memory is taken.
+    /// signature have at most 65,536 bytes each. Allocates nothing.
     fn verify(&self, key: &JwtKey, alg: Alg, input: &[u8], signature: &[u8]) -> bool
         requires input_len { length input.now ≤ most_token_bytes }
         requires signature_len { length signature.now ≤ most_token_bytes }

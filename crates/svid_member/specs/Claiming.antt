@@ -27,7 +27,7 @@ use Rattle.svid_member.specs.Judging.{judged_by, judgment_of}
 use Rattle.svid_member.specs.Members.{Hears, MemberData}
 use Rattle.svid_member.specs.Modes.{adds_at_claim, is_bound}
 
--- the claim of a use is of what a token says
+-- a use is that of a token that says this
 abbrev pub is_of : Said → Use → Bool
 is_of t u = t.exp == u.exp && is_eq (slice_cmp nat_cmp (key_of t) u.key)
 

@@ -1,4 +1,4 @@
--- What the requests are told of a validator's answer.
+-- What the requests hear of a validator's answer.
 use Rattle.std.specs.Prelude.{◌≡◌, ℕ, Bool, Some, Result, Ok, Err, if◌then◌else◌}
 use Rattle.svid_token.specs.declared.refusal.Refusal.{Refusal}
 use Rattle.svid_replay.specs.Records.{State}

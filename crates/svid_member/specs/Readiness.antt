@@ -36,7 +36,7 @@ claims_first Strict = true
 claims_first Bound = true
 claims_first Reuse = false
 
--- why no token is judged, in the order in which it is told
+-- why no token is judged, in the order in which the reasons are reported
 abbrev pub block_rows : Readiness → Mode → List Row
 block_rows r mode =
     (Ended, r.ended)

@@ -56,7 +56,7 @@ impl Member {
         owner_by(self.mode.is_bound(), &self.life, used, caller)
     }
 
-    // What becomes of a claim by an answer of its store.
+    // The outcome of a claim by its store's answer.
     fn outcome<V: Verifier, S: UseStore>(
         &self,
         validator: &Validator<V, S>,
@@ -75,7 +75,7 @@ impl Member {
         claim.outcome(found, self.lasts, moment_by(moment, found.time, self.ahead))
     }
 
-    // Tells the request of this number what was judged behind the answer to its claim.
+    // Reports to the request of this number the judgment that followed the answer to its claim.
     fn tell_found(&mut self, up: u64, number: u64, judgment: Judgment) -> Deed
         ensures { Hears up (Event.Found number judgment) self.old result self.new }
     {
@@ -133,7 +133,7 @@ impl Member {
         match outcome {
             Outcome::Mine => self.mine(validator, now, up, number, reading, verifier),
             Outcome::Withdrawn => {
-                // (Where memory is refused, the store says it again when the token comes again.)
+                // (If memory is refused, the store says it again when the token is presented again.)
                 let _ = validator.withdraw(now, used.key, used.exp);
                 self.not_mine(up, number, Outcome::Withdrawn)
             }

@@ -1,7 +1,7 @@
 use crate::unready::Unready;
 use svid_requests::Deed;
 
-/// What becomes of a request that comes.
+/// The outcome for a request that arrives.
 #[derive(Clone, Copy, Debug, PartialEq, Eq)]
 pub enum Coming {
     /// It is there, and this is to be done.

@@ -36,11 +36,10 @@ impl Model for Member {
 }
 
 impl Member {
-    /// A member without requests. No memory is taken.
+    /// A member without requests. Allocates nothing.
     ///
-    /// `kept` says that there is a state folder. `life` is 16 random bytes, which each start takes anew. `ahead` is how many seconds the store's
-    /// time may be ahead of the own clock, and `lasts` how many seconds past the store's time a token may expire. Each request is answered within
-    /// `wait`.
+    /// `kept` says that there is a state folder. `life` is 16 random bytes, new at each start. `ahead` is how many seconds the store's time may be
+    /// ahead of this process's clock, and `lasts` how many seconds past the store's time a token may expire. Each request is answered within `wait`.
     pub fn new(
         alloc: Global,
         mode: Mode,
@@ -73,8 +72,8 @@ impl Member {
         self.readiness.unkept = unkept;
     }
 
-    /// A request comes. Where a reason says that no token is judged yet, nothing came. Else its number is that of the deed: it is to be judged, or
-    /// there is `Nothing` to do where no number is left.
+    /// Adds a request that arrives. If a reason says that no token is judged yet, nothing is added. Else the deed has its number: the request is to
+    /// be judged, or the deed is `Nothing` if no number is left.
     ///
     /// Where memory is refused, nothing came: the request is to be answered so.
     pub fn come(&mut self, up: u64) -> Result<Coming, AllocError>
@@ -120,7 +119,7 @@ impl Member {
         self.requests.hear(up, &Event::Send(number))
     }
 
-    /// Nobody waits any more for the answer to the request of this number. A use that is on its way to the disk goes there.
+    /// Reports that the client of this request has left. A use whose write to the disk is under way is still written.
     pub fn leave(&mut self, up: u64, number: u64) -> Deed
         ensures { Hears up (Event.Leave number) self.old result self.new }
     {

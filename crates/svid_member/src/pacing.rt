@@ -4,8 +4,8 @@ ghost use Rattle.svid_member.specs.Pacing.{after_answer, after_none, after_send,
 /// When the claims that wait go out: many share a call to the store, and none waits long for that. Times are milliseconds by a clock that only
 /// goes ahead.
 ///
-/// A call goes out at once where none is under way. Else claims wait for the answer, for 20 ms at the most, or until 32 wait and fewer than 4 calls
-/// are under way. No more than 64 calls are under way at a time.
+/// A call is sent at once if none is under way. Else claims wait for its answer, for at most 20 ms, or until 32 wait and fewer than 4 calls are
+/// under way. At most 64 calls are under way at a time.
 #[derive(Clone, Copy, Debug, PartialEq, Eq)]
 pub struct Pacing {
     /// How many calls are under way.
@@ -28,7 +28,7 @@ impl Pacing {
         }
     }
 
-    /// Whether a call goes out at `up`, where so many claims wait.
+    /// Whether to send a call at `up`, with so many claims waiting.
     pub fn may_send(&self, up: u64, waiting: u64) -> bool
         ensures { result ≡ may_send up waiting self.now }
     {
@@ -38,7 +38,7 @@ impl Pacing {
         self.calls == 0 || up >= self.at.saturating_add(20) || waiting >= 32 && self.calls < 4
     }
 
-    /// When a call goes out beside those that are under way, where claims wait. `None` where an answer has to come first.
+    /// When to send a call beside those under way, if claims wait. `None` if an answer has to come first.
     pub fn due(&self) -> Option<u64>
         ensures { result ≡ due self.now }
     {
@@ -48,7 +48,7 @@ impl Pacing {
         Some(self.at.saturating_add(20))
     }
 
-    /// A call goes out.
+    /// Reports that a call is sent.
     pub fn sent(&mut self, up: u64)
         ensures { self.new ≡ after_send up self.old }
     {

@@ -1,7 +1,7 @@
-/// How far a withdrawal is at one of the places that are to have it.
+/// The progress of a withdrawal at the state folder, the store or the log.
 #[derive(Clone, Copy, Debug, PartialEq, Eq)]
 pub enum Part {
-    /// It is on its way there.
+    /// Whether it is there is not known yet.
     Waits,
     /// It is there, or need not be.
     Done,

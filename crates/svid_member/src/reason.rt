@@ -3,7 +3,7 @@ ghost use Rattle.svid_member.specs.Reasons.{reason_of};
 
 use svid_token::Refusal;
 
-/// The number of a refusal: 101 for the first of [`Refusal`], and so on; 2 for want of memory.
+/// The number of a refusal: 101 for the first of [`Refusal`], and so on; 2 if out of memory.
 pub fn reason_of(refusal: &Refusal) -> u8
     ensures { result ≡ reason_of refusal.now }
 {

@@ -1,4 +1,4 @@
-/// Why a member judges no tokens, or why none are to be sent to it. If several hold, the first in this order is told.
+/// Why a member judges no tokens, or should be sent none. If several reasons hold, the first in this order is reported.
 #[derive(Clone, Copy, Debug, PartialEq, Eq)]
 pub enum Unready {
     /// It has ended.

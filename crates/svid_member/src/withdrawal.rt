@@ -4,7 +4,7 @@ ghost use Rattle.svid_member.specs.Withdrawals.{given_up, is_over, told, told_at
 use crate::part::Part;
 use crate::place::Place;
 
-/// A withdrawal that the record has, on its way to all places that are to have it.
+/// A withdrawal that the record has, on its way to the state folder, the store and the log.
 #[derive(Clone, Copy, Debug, PartialEq, Eq)]
 pub struct Withdrawal {
     /// The moment by which it is answered, by a clock that only goes ahead.
@@ -18,7 +18,7 @@ pub struct Withdrawal {
 }
 
 impl Part {
-    // Whether it is on its way.
+    // Whether it is not known yet.
     fn waits(self) -> bool
         ensures { result ≡ waits self }
     {
@@ -28,7 +28,7 @@ impl Part {
         }
     }
 
-    // What becomes of it, once it is known whether it is there. Who comes first counts.
+    // The outcome, once it is known whether it is there. The first report counts.
     fn told(self, ok: bool) -> Part
         ensures { result ≡ told ok self }
     {

@@ -67,9 +67,9 @@ impl Withdrawals {
         }
     }
 
-    /// A withdrawal was made, and the record has it. Answers its number, or `None` where no number is left: then it is on its way nowhere.
+    /// Adds a withdrawal that the record has. Answers its number, or `None` if no number is left: then it is not sent.
     ///
-    /// Where memory is refused, it is on its way nowhere either. The same withdrawal may be made again.
+    /// If memory is refused, it is not sent either, and the same withdrawal may be made again.
     pub fn come(&mut self, up: u64) -> Result<Option<u64>, AllocError>
         ensures ok { IfOk result (λ number. HasCome up self.old number self.new) }
         ensures err { OnErr result (self.new ≡ self.old) }
@@ -84,8 +84,8 @@ impl Withdrawals {
         Ok(Some(number))
     }
 
-    /// A place has the withdrawal of this number, or may not have it. Answers the withdrawal, if it waits for no place any more: it is done if all
-    /// places have it. One that has ended hears of nothing.
+    /// Reports that a place has the withdrawal of this number, or may not have it. Answers the withdrawal if it waits for no further place: it is
+    /// done if all places have it. Has no effect on one that has ended.
     pub fn told(&mut self, number: u64, place: Place, ok: bool) -> Option<(u64, Withdrawal)>
         ensures ended { result ≡ ended_by_place number place ok (find number self.old) }
         ensures left { self.new ≡ after_place number place ok (find number self.old) self.old }

@@ -24,7 +24,7 @@ use Rattle.svid_requests.proofs.ListsLemmas.{all_weaker, get_push_new, get_push_
 use Rattle.svid_requests.proofs.PlansLemmas.{Why, WhyAccept, WhyGo, granted_why}
 use Rattle.svid_requests.proofs.TablesLemmas.{Each, InOrder, each_followed, each_let_in, followed_in_order, let_in_in_order, none_in_order, subject_is}
 
--- What is told stays told.
+-- What was reported stays reported.
 
 abbrev StaysTold : List Call → List Call → Type 0
 StaysTold calls more = (e : Event) → Told e calls → Told e more

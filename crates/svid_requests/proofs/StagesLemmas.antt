@@ -1,4 +1,4 @@
--- A request that comes or goes on is told of, and deeds fit what their calls leave.
+-- The deed of a call is about the request that arrives or moves on, and deeds fit what their calls leave.
 use Rattle.std.proofs.Common.{◌≡◌, ◌⊎◌, inl, inr, ℕ, Bool, true, false, cond, refl, sym, ap, ◌∙◌, Option, Some, None}
 use Rattle.std.specs.Prelude.{◌&&◌, not}
 use Rattle.std.specs.Option.{option_map}

@@ -81,7 +81,7 @@ AcceptedInTime = (needs : Needs) (wait : ℕ) (calls : List Call)
 
 -- What answers rest on.
 
--- an event was told
+-- an event was reported
 abbrev pub Told : Event → List Call → Type 0
 Told e [] = ⊥
 Told e (Come up refused ∷ calls) = Told e calls
@@ -98,7 +98,7 @@ IsFounded needs calls n (Accept u) = Told (Judged n (Holds u)) calls ⊎ RestsOn
 IsFounded needs calls n (Refuse why) = Told (Judged n (Fails why)) calls ⊎ Told (Found n (Fails why)) calls
 IsFounded needs calls n _ = Unit {0}
 
--- Each acceptance and each refusal rests on what was told of that request before, or by the same call.
+-- Each acceptance and each refusal rests on an event of that request, reported before or by the same call.
 abbrev pub AnswersAreFounded : Type 0
 AnswersAreFounded = (needs : Needs) (wait : ℕ) (calls : List Call)
     → AllByRecursion (λ a. IsFounded needs calls a.number a.verdict) (history (fresh needs wait) calls).answers
@@ -213,7 +213,7 @@ brings n (Answer k v None) = false
 brings n (Answer k v (Some next)) = next == n
 brings n _ = false
 
--- A request that comes or goes on is told of by the deed of that call: what is to be done for it, or that its turn has come.
+-- If a request arrives or moves on, the deed of that call is about it: it says what to do for it, or that its turn has come.
 abbrev pub StagesAreTold : Type 0
 StagesAreTold = (needs : Needs) (wait : ℕ) (calls : List Call) (up : ℕ) (e : Event) (refused : Bool) (n : ℕ) (r : Request)
     → let w = history (fresh needs wait) calls in
@@ -221,7 +221,7 @@ StagesAreTold = (needs : Needs) (wait : ℕ) (calls : List Call) (up : ℕ) (e :
     (open_at n (happens w (Come up refused)) ≡ Some r → (open_at n w ≡ Some r) ⊎ (come_deed s ≡ deed_at n r.stage))
     × (open_at n (happens w (Hear up e refused)) ≡ Some r → (open_at n w ≡ Some r) ⊎ ((heard_deed refused s e ≡ deed_at n r.stage) ⊎ (brings n (heard_deed refused s e) ≡ true)))
 
--- what a deed asks for is what that request waits for, and one that is answered is open no more
+-- a deed asks for what that request waits for, and a request that it answers is closed
 abbrev pub FitsDeed : World → Deed → Type 0
 FitsDeed w (Judge n) = stage_is is_judging (open_at n w) ≡ true
 FitsDeed w (Append n u) = (deadline : ℕ) × (open_at n w ≡ Some (record { deadline = deadline; stage = Writing u }))

@@ -3,20 +3,20 @@
 
 ghost use Rattle.svid_requests.specs.Promises.{AcceptedAsFound, AcceptedAsJudged, AcceptedInTime, AnswersAreFounded, CallsAreHistory, DeedsFit, EachOnce, FirstInLineIsNext, FirstIsDueFirst, NextIsJudgedAgain, NoneWaitsInVain, NothingIsLeftOver, OneHasAClaim, OverdueAreAnswered, StagesAreTold};
 
-/// Histories are made of what the contracts of `come` and `hear` say. Each deed `Answer` is an answer.
+/// The contracts of `come` and `hear` are the steps of a history. Each deed `Answer` is an answer.
 pub fn calls_are_history()
     ensures { CallsAreHistory }
 {}
 
-/// A request that comes or goes on is told of by the deed of that call, so none is forgotten. One that begins to stand in line is told of
-/// when its turn comes. What a deed asks for is what that request waits for.
+/// If a request arrives or moves on, the deed of that call is about it, so none is forgotten. A request that joins a line gets a deed when
+/// its turn comes. A deed asks for what that request waits for.
 pub fn stages_are_told()
     ensures told { StagesAreTold }
     ensures fits { DeedsFit }
 {}
 
-/// Each request that comes is answered once, and by its deadline where the member is told that it is over. A token is accepted before the
-/// deadline of its request.
+/// Each request that arrives is answered once, and by its deadline if the caller reports that the deadline is over. A token is accepted
+/// before the deadline of its request.
 pub fn each_is_answered_once()
     ensures once { EachOnce }
     ensures overdue { OverdueAreAnswered }
@@ -24,16 +24,16 @@ pub fn each_is_answered_once()
     ensures timely { AcceptedInTime }
 {}
 
-/// Each acceptance and each refusal rests on what was told of that request. No more tokens are accepted than a validator accepted, or found
-/// the claims of.
+/// Each acceptance and each refusal rests on an event that was reported of that request. No more tokens are accepted than a validator
+/// accepted, or had its claims found.
 pub fn answers_are_founded()
     ensures founded { AnswersAreFounded }
     ensures judged { AcceptedAsJudged }
     ensures found { AcceptedAsFound }
 {}
 
-/// Of the requests with one token one has the claim at the most. Whoever waits for it waits behind one that is open, and is judged again when
-/// that one is answered. The table keeps nothing of a request that is answered.
+/// Of the requests with one token, at most one has the claim. Each other one waits behind an open request, and is judged again when that one
+/// is answered. The table forgets a request once it is answered.
 pub fn one_claims_a_token()
     ensures one { OneHasAClaim }
     ensures waits { NoneWaitsInVain }

@@ -1,7 +1,7 @@
 //! The requests of one member, from their coming to their answers: which there are, how far each is, and what is to be done next.
 //!
-//! There is no clock, thread, token or validator here. What happens is told by a call, and each call says one thing to do at the most. Of the
-//! requests with one token, one at a time puts a claim. The others stand in a line behind it.
+//! This crate has no clock, thread, token or validator. Each call reports one event, and answers at most one thing to do. Of the requests
+//! with one token, one at a time puts a claim. The others stand in a line behind it.
 #![tactic(auto)]
 
 mod deed;

@@ -23,7 +23,7 @@ impl Plan {
 }
 
 impl Needs {
-    // What becomes of a request whose token is accepted.
+    // The plan for a request whose token is accepted.
     fn passed(self, held: bool, used: Use) -> Plan
         ensures { result ≡ passed self held used }
     {
@@ -37,7 +37,7 @@ impl Needs {
 }
 
 impl Judgment {
-    // What becomes of a request whose token was judged.
+    // The plan for a request whose token was judged.
     fn plan(self, needs: Needs, held: bool) -> Plan
         ensures { result ≡ judged needs held self }
     {
@@ -48,7 +48,7 @@ impl Judgment {
         }
     }
 
-    // What becomes of one whose turn has come.
+    // The plan for a request whose turn has come.
     fn plan_again(self, own: Use) -> Plan
         ensures { result ≡ judged_again own self }
     {
@@ -59,7 +59,7 @@ impl Judgment {
         }
     }
 
-    // What becomes of one whose claim was answered.
+    // The plan for a request whose claim was answered.
     fn plan_found(self) -> Plan
         ensures { result ≡ found self }
     {
@@ -70,7 +70,7 @@ impl Judgment {
     }
 }
 
-// What becomes of one whose use was written, or not.
+// The plan for a request whose use was written, or could not be.
 fn written(ok: bool, used: Use) -> Plan
     ensures { result ≡ written ok used }
 {

@@ -32,7 +32,7 @@ impl Model for Requests {
 }
 
 impl Requests {
-    /// No requests. Each that comes is answered within `wait`. No memory is taken.
+    /// No requests. Each that comes is answered within `wait`. Allocates nothing.
     pub fn new(alloc: Global, needs: Needs, wait: u64) -> Requests
         ensures { result ≡ begun needs wait }
     {
@@ -45,7 +45,7 @@ impl Requests {
         }
     }
 
-    /// A request comes. Its number is that of the deed: it is to be judged. `Nothing` where no number is left.
+    /// Adds a request that arrives. The deed has its number, and says to judge it; it is `Nothing` if no number is left.
     ///
     /// Where memory is refused, nothing came: the request is to be answered so.
     pub fn come(&mut self, up: u64) -> Result<Deed, AllocError>

@@ -9,7 +9,7 @@ pub enum Stage {
     Writing(Use),
     /// Its claim is on its way to the store.
     Claiming(Use),
-    /// It stands in the line behind a claim of its token.
+    /// It waits in the line behind a claim of its token.
     Behind(Use),
     /// It is the next of such a line: a validator is to judge its token again.
     Again(Use),

@@ -14,7 +14,7 @@ pub fold-least : (number : ℕ) (bytes : List ℕ) → number ≤ fold with_byte
 fold-least number [] = omega arith
 fold-least number (byte ∷ bytes) = omega (arith, fold-least (with_byte number byte) bytes)
 
--- bytes that come to 2^31 or more are no number below that
+-- bytes of a number of 2^31 or more are no number below that
 pub not_small : (bytes : List ℕ) (number index : ℕ) → index < length bytes → fold with_byte number (drop index bytes) ≡ value bytes
     → 2147483648 ≤ number * 256 + get_or bytes index 0 → None ≡ (if nat_lt (value bytes) 2147483648 then Some (value bytes) else None)
 not_small bytes number index within whole great =

@@ -9,7 +9,7 @@ use Rattle.svid_token.specs.Rows.{Refuses, Row, fails, first_row, judged}
 use Rattle.svid_token.specs.declared.refusal.Refusal.{Refusal}
 use Rattle.svid_token.specs.declared.refusal.Refusal.TheVariants.{HeaderSpelling, HeaderNotObject, OutOfMemory}
 
--- where something is said, want of memory alone refuses
+-- if something is said, only a lack of memory refuses
 refuses-ok : {A B : Type 0} (refusal : Refusal) (said : A) (due : Result B Refusal) → Refuses refusal (Ok said) → Refuses refusal due
 refuses-ok OutOfMemory said due refused = tt
 refuses-ok _ said due refused = absurd (cc)

@@ -1,4 +1,4 @@
--- The key by which a token's uses are told apart.
+-- The key of a token, which identifies the token.
 use Rattle.std.specs.Prelude.{ℕ, List, [], ◌∷◌, ◌++◌, length, Option, Some, None}
 use Rattle.std.specs.Int.{to_be_bytes, w32}
 

@@ -18,7 +18,7 @@ impl Alg {
     ghost use Rattle.std.specs.Prelude.{◌≡◌, ◌≢◌, IfSome, IsNone};
     ghost use Rattle.svid_token.specs.Alg.{alg_named, kty_of, name_of};
 
-    /// The algorithm of this name, in capitals as RFC 7518 writes it. No memory is taken.
+    /// The algorithm of this name, in capitals as RFC 7518 writes it. Allocates nothing.
     pub fn of(name: &str) -> Option<Alg>
         ensures value { result ≡ alg_named name.now }
         ensures named { IfSome result (λ alg. name_of alg ≡ name.now) }
@@ -38,7 +38,7 @@ impl Alg {
         }
     }
 
-    /// The name that `alg` gives the algorithm in a header. No memory is taken.
+    /// The name that `alg` gives the algorithm in a header. Allocates nothing.
     pub fn name(self) -> &'static str
         ensures { result.now ≡ name_of self }
     {
@@ -55,7 +55,7 @@ impl Alg {
         }
     }
 
-    /// The family of the keys that the algorithm signs with. No memory is taken.
+    /// The family of the keys that the algorithm signs with. Allocates nothing.
     pub fn kty(self) -> Kty
         ensures { result ≡ kty_of self }
     {

@@ -27,7 +27,7 @@ impl<'a> Compact<'a> {
     ghost use Rattle.svid_token.specs.Compact.{IsCompact, compact_of, compact_view, most_token_bytes, signing_input};
     ghost use Rattle.svid_token.specs.Rows.{seen};
 
-    /// Splits a token at its two periods. No memory is taken.
+    /// Splits a token at its two periods. Allocates nothing.
     ///
     /// It answers `TooLong` for more than 65,536 bytes, and else `NotThreeParts` where there are
     /// fewer or more periods than two. A part may be empty.

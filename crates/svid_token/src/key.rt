@@ -5,7 +5,7 @@ ghost use Rattle.svid_token.specs.TokenKey.{token_text};
 use sha2::{Digest, Sha256};
 use svid_id::SpiffeId;
 
-/// The key by which two uses of one token are told, a SHA-256 digest. No memory is taken.
+/// The key of a token, which identifies the token: a SHA-256 digest. Allocates nothing.
 ///
 /// It is the digest of byte 01, the length of the subject's trust domain name in four bytes with
 /// the greatest first, the name and the `jti`. Where there is no `jti`, or an empty one, it is the

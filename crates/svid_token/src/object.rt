@@ -10,7 +10,7 @@ use crate::refusal::Refusal;
 use serde_json::Value;
 use std::alloc::{AllocError, Global};
 
-// The JSON object that a part spells, or the refusal of its spelling, or that of what it spells.
+// The JSON object that a part encodes, or the refusal for its encoding or its content.
 pub(crate) fn read_object(
     alloc: Global,
     part: &[u8],

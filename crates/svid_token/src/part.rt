@@ -31,7 +31,7 @@ pub fn decode_part(alloc: Global, part: &[u8]) -> Result<Vec<u8>, PartFault>
     ensures refused { IfErr result (IsPartFault part.now) }
     ensures len { IfOk result (λ v. vec_len v ≤ length part.now) }
 {
-    // The decoder answers want of memory as one of two faults, so it is told apart by hand.
+    // The decoder reports a lack of memory as one of two faults, so this separates them.
     match URL_SAFE_NO_PAD.decode(alloc, part) {
         Ok(bytes) => Ok(bytes),
         Err(DecodeAllocError::OutOfMemory) => Err(PartFault::OutOfMemory),

@@ -4,7 +4,7 @@ use crate::refusal::Refusal;
 use serde_json::Value;
 use std::alloc::Global;
 
-/// The payload of a token: a JSON object (RFC 7519, section 7.2), of which the claims are read.
+/// The payload of a token: a JSON object (RFC 7519, section 7.2) with the claims.
 #[derive(Debug, Drop)]
 pub struct Payload {
     object: Value,

@@ -1,9 +1,8 @@
 use std::alloc::{AllocError, AllocFailed};
 use thiserror::Error;
 
-/// Why a token is refused. The variants stand in the order in which they are looked for: of two
-/// that hold, the earlier one is answered. `OutOfMemory` may stand in place of any that follows
-/// `NotThreeParts`.
+/// Why a token is refused. The variants are in the order of their tests: if two hold, the earlier one is
+/// answered. `OutOfMemory` may come instead of any that follows `NotThreeParts`.
 #[derive(Clone, Copy, Debug, Drop, PartialEq, Eq, Error)]
 pub enum Refusal {
     /// The token has more than 65,536 bytes.
