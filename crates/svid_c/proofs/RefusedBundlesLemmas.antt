@@ -1,4 +1,4 @@
--- Bytes that are refused as trust bundles, and what is told of them.
+-- Bytes that are refused as trust bundles, and what a call says of them.
 use Rattle.std.proofs.Common.{◌≡◌, ◌≤◌, ◌&&◌, ℕ, List, length, true, false, refl}
 use Rattle.std.proofs.lemmas.Bool.{and_parts}
 use Rattle.svid_documents.specs.Document.{is_unnamed}
