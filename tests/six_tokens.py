@@ -30,7 +30,7 @@ class Case:
 
 
 class Signer:
-    """A private key of vectors/, which signs by `cryptography`."""
+    """A private key of tests/vectors/, which signs by `cryptography`."""
 
     def __init__(self, alg: str, text: str = "one") -> None:
         made = self.made = key(alg, text)

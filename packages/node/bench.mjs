@@ -1,8 +1,8 @@
 // Times a check beside `jwtVerify` of jose with a Set of used `jti`s, and beside `crypto.verify` alone.
 //
-//     node node/bench.mjs [TOKENS [ROUNDS]]
+//     node packages/node/bench.mjs [TOKENS [ROUNDS]]
 //
-// SVID_PACKAGE names the folder of the package (`node/build --folder FOLDER` makes FOLDER/svid). All sides get the same tokens, in turns, and each
+// SVID_PACKAGE names the folder of the package (`packages/node/build --folder FOLDER` makes FOLDER/svid). All sides get the same tokens, in turns, and each
 // has a round's least time: of the clock, and of the processor with all threads, in microseconds a token. jose is handed the right key at once, so
 // it looks for none. Without signatures, `check` is given a verifier that says yes, and jose decodes without verifying.
 

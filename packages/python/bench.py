@@ -1,6 +1,6 @@
 """Times one `Validator.check` beside `jwt.decode` of PyJWT with a set of used `jti`s.
 
-    /usr/bin/python3 python/bench.py [TOKENS [ROUNDS]]
+    /usr/bin/python3 packages/python/bench.py [TOKENS [ROUNDS]]
 
 LIBSVID names libsvid.so (tools/dist shared FILE makes it). Both sides get the same tokens, in
 turns, and each has a round's least time of the processor. PyJWT is handed the right key at once,

@@ -22,7 +22,7 @@ MACHINES = {b"\x3e\0": "x86_64", b"\xb7\0": "aarch64"}
 def library():
     paths = [
         pathlib.Path(os.environ.get("LIBSVID") or HERE / "svid" / "libsvid.so"),
-        HERE.parent / "dist" / platform.machine() / "libsvid.so",
+        HERE.parents[1] / "dist" / platform.machine() / "libsvid.so",
     ]
     for path in paths:
         if path.is_file():

@@ -8,7 +8,7 @@ import subprocess
 import sys
 from pathlib import Path
 
-TOP = Path(__file__).resolve().parent.parent
+TOP = Path(__file__).resolve().parents[2]
 VERSION = (TOP / "VERSION").read_text(encoding="utf-8").strip()
 # The names that Debian has for the machines of dist/.
 MACHINES = {"amd64": "x86_64", "arm64": "aarch64"}
@@ -16,7 +16,7 @@ PYTHON = "/usr/bin/python3"
 
 
 def script():
-    return f"packaging/{Path(sys.argv[0]).name}"
+    return f"tools/packaging/{Path(sys.argv[0]).name}"
 
 
 def loaded(path):

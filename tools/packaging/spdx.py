@@ -14,8 +14,8 @@ OF_KIT = re.compile(r"(^|/)(svid|svid\.wasm|svid\.html|libsvid(_\w+)?\.a|libsvid
 OF_GO = re.compile(r"(^|/)svidd$")
 
 
-CHECK = loaded("packaging/check")
-COPYRIGHT = {pattern: it for it in CHECK.paragraphs(TOP / "packaging/copyright") for pattern in it.get("Files", "").split()}
+CHECK = loaded("tools/packaging/check")
+COPYRIGHT = {pattern: it for it in CHECK.paragraphs(TOP / "tools/packaging/copyright") for pattern in it.get("Files", "").split()}
 
 
 @functools.cache
@@ -98,7 +98,7 @@ def bundled(artifact, files, room):
         elif is_kit and not data.startswith(b"# "):
             found += kit()
         elif data.startswith((b"\x7fELF", b"!<arch>", b"\0asm")):
-            raise SystemExit(f"packaging/spdx.py: {artifact} has {path}, of which nobody says what is linked into it")
+            raise SystemExit(f"tools/packaging/spdx.py: {artifact} has {path}, of which nobody says what is linked into it")
     return {(it["name"], it["versionInfo"]): it for it in found}
 
 

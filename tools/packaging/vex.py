@@ -19,7 +19,7 @@ HOW = {
 
 
 def listed():
-    return tomllib.loads((TOP / "packaging/faults.toml").read_text(encoding="utf-8"))
+    return tomllib.loads((TOP / "tools/packaging/faults.toml").read_text(encoding="utf-8"))
 
 
 def inside(path):
@@ -28,7 +28,7 @@ def inside(path):
     modules = {"stdlib": re.search(r": go(\S+)", said)[1], **dict(re.findall(r"^\tdep\t(\S+)\tv(\S+)", said, re.M))}
     names = {it.split(maxsplit=2)[2] for it in run("go", "tool", "nm", path).splitlines() if len(it.split(maxsplit=2)) == 3}
     if "main.main" not in names:
-        raise SystemExit(f"packaging/vex.py: {path} has no table of symbols")
+        raise SystemExit(f"tools/packaging/vex.py: {path} has no table of symbols")
     # (a point in the last part of a package's path is written so)
     return modules, {it.replace("%2e", ".") for it in names}
 
@@ -41,7 +41,7 @@ def statement(fault, programs):
     """What is said of a fault: `fixed`, `not_affected` with a justification, or `affected` with what to do. A row that says too much or too
     little of these programs ends the release."""
     name, of = fault["names"][0], fault["of"]
-    wrong = f"packaging/faults.toml: {name} of {of}:"
+    wrong = f"tools/packaging/faults.toml: {name} of {of}:"
     versions = {modules[of] for modules, _ in programs if of in modules}
     found = sorted(
         it
@@ -98,6 +98,6 @@ def document(folder, room):
         "author": f"svid-packaging-{VERSION}",
         "timestamp": datetime.fromtimestamp(epoch(), timezone.utc).strftime("%Y-%m-%dT%H:%M:%SZ"),
         "version": 1,
-        "tooling": f"packaging/vex.py. Faults known until {faults['until']}. {faults['about']}",
+        "tooling": f"tools/packaging/vex.py. Faults known until {faults['until']}. {faults['about']}",
         "statements": statements,
     }

@@ -6,7 +6,7 @@ import { createServer } from "node:http";
 import { test } from "node:test";
 import { PACKAGE, TOP, issuer, token } from "./making.mjs";
 
-const { Browser } = await import(`${TOP}/page/tests/browser.mjs`);
+const { Browser } = await import(`${TOP}/packages/page/tests/browser.mjs`);
 const TYPES = { js: "text/javascript", wasm: "application/wasm" };
 
 test("a token is accepted once, in Chromium too", async () => {

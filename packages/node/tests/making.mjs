@@ -7,7 +7,7 @@ import { pathToFileURL } from "node:url";
 /** The folder of the package that is tested. */
 export const PACKAGE = process.env.SVID_PACKAGE;
 /** The checkout. */
-export const TOP = process.env.SVID_TOP ?? new URL("../..", import.meta.url).pathname;
+export const TOP = process.env.SVID_TOP ?? new URL("../../..", import.meta.url).pathname;
 /** What a module of the package exports. */
 export const imported = (name = "index.js") => import(pathToFileURL(`${PACKAGE}/${name}`));
 

@@ -20,10 +20,10 @@ before(async () => {
 after(() => rm(room, { recursive: true, force: true }));
 
 test("the archive is the same each time, and works by itself where it is unpacked", async () => {
-  const { name, version } = JSON.parse(read("node/package.json"));
+  const { name, version } = JSON.parse(read("packages/node/package.json"));
   const archives = [];
   for (const it of ["first", "second"]) {
-    await run(`${TOP}/node/build`, [join(room, it)]);
+    await run(`${TOP}/packages/node/build`, [join(room, it)]);
     archives.push(join(room, it, `${name}-${version}.tgz`));
   }
   const [first, second] = await Promise.all(archives.map(async (it) => digest(await readFile(it))));
@@ -33,7 +33,7 @@ test("the archive is the same each time, and works by itself where it is unpacke
   const quiet = ["--offline", "--silent", "--no-audit", "--no-fund", "--no-update-notifier", "--cache", join(room, "cache")];
   await run("npm", ["install", ...quiet, archives[0]], { cwd: elsewhere });
   const files = (await run("tar", ["-tzf", archives[0]])).stdout.trim().split("\n").map((it) => it.replace("package/", "")).sort();
-  const src = (await readdir(`${TOP}/node/src`)).map((it) => `src/${it}`);
+  const src = (await readdir(`${TOP}/packages/node/src`)).map((it) => `src/${it}`);
   const types = ["index", "testing"].flatMap((it) => [`${it}.d.cts`, `${it}.d.ts`]);
   assert.deepEqual(files, ["README.md", "index.cjs", "index.js", "package.json", "testing.js", ...types, ...src, "svid.wasm"].sort());
   await Promise.all(["bundles.json", "token.txt"].map((it) => copyFile(`${TOP}/examples/${it}`, join(elsewhere, it))));
@@ -59,8 +59,8 @@ test("the types compile under strict, and say what is wrong", async () => {
   await mkdir(join(folder, "node_modules/svid/src"), { recursive: true });
   const types = (await readdir(PACKAGE)).filter((it) => /\.d\.c?ts$/.test(it));
   for (const it of ["package.json", ...types]) await copyFile(`${PACKAGE}/${it}`, join(folder, "node_modules/svid", it));
-  await copyFile(`${TOP}/node/tests/types.ts`, join(folder, "types.mts"));
-  await copyFile(`${TOP}/node/tests/required.ts`, join(folder, "required.cts"));
+  await copyFile(`${TOP}/packages/node/tests/types.ts`, join(folder, "types.mts"));
+  await copyFile(`${TOP}/packages/node/tests/required.ts`, join(folder, "required.cts"));
   const compilerOptions = {
     strict: true, noEmit: true, target: "es2022", module: "nodenext", moduleResolution: "nodenext", lib: ["es2022", "dom"], types: [],
     exactOptionalPropertyTypes: true, noUnusedLocals: true,
@@ -81,9 +81,9 @@ test("no name in the package is unknown or unused", async () => {
 });
 
 test("the types have what the package has", async () => {
-  const types = read("node/index.d.ts"), svid = await imported();
+  const types = read("packages/node/index.d.ts"), svid = await imported();
   for (const it of ["index", "testing"]) {
-    const declared = [...read(`node/${it}.d.ts`).matchAll(/^export (?:(?:class|function|const) (\w+)|\{ (\w+) \})/gm)].map(([, name, other]) => name ?? other);
+    const declared = [...read(`packages/node/${it}.d.ts`).matchAll(/^export (?:(?:class|function|const) (\w+)|\{ (\w+) \})/gm)].map(([, name, other]) => name ?? other);
     assert.deepEqual(declared.sort(), Object.keys(await imported(`${it}.js`)).sort());
   }
   for (const name of ["Validator", "Bundles"]) {
@@ -99,7 +99,7 @@ test("the types have what the package has", async () => {
 });
 
 for (const file of ["index.d.ts", "testing.d.ts"]) test(`everything public in ${file} is documented`, () => {
-  const lines = read(`node/${file}`).split("\n");
+  const lines = read(`packages/node/${file}`).split("\n");
   for (const [n, line] of lines.entries()) {
     if (!/^export (class|interface|type|function|const) |^ {2}(static |readonly )?\w+\??[(:]/.test(line) || /constructor|\boff: /.test(line)) continue;
     const isOfOutgoing = /^ {2}(statusCode|setHeader|end)\b/.test(line);

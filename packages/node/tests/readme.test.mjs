@@ -11,7 +11,7 @@ import { promisify } from "node:util";
 import { PACKAGE, TOP, read } from "./making.mjs";
 
 const MOST_LINES = 15;
-const text = read("node/README.md");
+const text = read("packages/node/README.md");
 const blocks = [...text.matchAll(/^```(js|text)\n([^]*?)^```$/gm)].map(([, kind, body]) => ({ kind, body }));
 const service = blocks.find((it) => it.body.includes("protect(validator, hello)")).body;
 

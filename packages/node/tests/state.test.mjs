@@ -404,7 +404,7 @@ test("another writer may put a position before the messages", async () => {
 test("a kill at any time loses no acceptance", async () => {
   const program = `
     const { Validator } = await import("${PACKAGE}/index.js"), { Journal } = await import("${PACKAGE}/src/journal.js");
-    const { issuer, token } = await import("${TOP}/node/tests/making.mjs"), one = issuer(), real = Journal.open;
+    const { issuer, token } = await import("${TOP}/packages/node/tests/making.mjs"), one = issuer(), real = Journal.open;
     Journal.open = (folder) => real.call(Journal, folder, { small: 3000 });
     const terms = { audiences: "ledger", bundles: one.bundles, verify: () => true, state: ${JSON.stringify(state)}, wait: ${LONG} };
     const validator = await Validator.open(terms);

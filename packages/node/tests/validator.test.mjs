@@ -584,9 +584,9 @@ test("a module of another build is refused by name", async () => {
 });
 
 test("JavaScript names nothing of tokens, keys and messages", () => {
-  const files = ["index.js", ...readdirSync(`${TOP}/node/src`).map((it) => `src/${it}`)];
+  const files = ["index.js", ...readdirSync(`${TOP}/packages/node/src`).map((it) => `src/${it}`)];
   // (what tools/lists writes in errors.js is no rule, nor is an example of an ID)
-  const code = files.map((it) => read(`node/${it}`).replace(/lists:begin[^]*?lists:end/g, "").replace(/(^|\s)\/\/.*|\/\*[^]*?\*\//gm, "")).join("\n");
+  const code = files.map((it) => read(`packages/node/${it}`).replace(/lists:begin[^]*?lists:end/g, "").replace(/(^|\s)\/\/.*|\/\*[^]*?\*\//gm, "")).join("\n");
   for (const it of [/\bkty\b/, /\bcrv\b/, /\bkid\b/, /\bjti\b/, /\baud\b/, /\bexp\b/, /\bnbf\b/, /jwt-svid/, /base64url/, /\bJSR\b/, /spiffe:(?!\/\/(example\.org|DOMAIN))/, /"jwk"/]) {
     assert.doesNotMatch(code, it);
   }

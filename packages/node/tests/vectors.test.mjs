@@ -1,4 +1,4 @@
-// The vectors of vectors/, which say where their answers come from: those that the Python package reads too.
+// The vectors of tests/vectors/, which say where their answers come from: those that the Python package reads too.
 
 import assert from "node:assert/strict";
 import { mkdtemp, rm, writeFile } from "node:fs/promises";
@@ -16,7 +16,7 @@ const READER = "python";
 const LONG = 600; // seconds for a check: a machine may be busy
 
 function vectorsOf(name) {
-  const file = JSON.parse(read(`vectors/${name}.json`));
+  const file = JSON.parse(read(`tests/vectors/${name}.json`));
   const vectors = file.vectors.filter((it) => it.readers.split(" ").includes(READER));
   assert.equal(vectors.length, file.counts[READER]);
   assert.ok(vectors.length > 0);

@@ -10,7 +10,7 @@ import { REFUSALS } from "../src/refusals.js";
 import { base64url, batch, mutated as mutatedBy, random } from "./tokens.mjs";
 
 const CALLS = 100_000, ROUND = 500, SESSION_CALLS = 8;
-const examples = new URL("../../examples/", import.meta.url);
+const examples = new URL("../../../examples/", import.meta.url);
 const example = (name) => readFileSync(new URL(name, examples));
 const bundles = example("bundles.json"), tokens = example("tokens.txt").toString().split("\n").filter(Boolean);
 const messages = [example("two-uses.batch"), example("shared.messages"), Buffer.alloc(0)];

@@ -10,7 +10,7 @@ import { Browser } from "./browser.mjs";
 import { batch, random } from "./tokens.mjs";
 import { vectorsOf } from "./vectors.mjs";
 
-const EXAMPLES = new URL("../../examples/", import.meta.url).pathname;
+const EXAMPLES = new URL("../../../examples/", import.meta.url).pathname;
 const WIDTHS = { wide: 1440, middle: 900, narrow: 390, less: 360, least: 320 };
 const NOW = 1767225600;
 let browser, page, room;

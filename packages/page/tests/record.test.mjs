@@ -24,7 +24,7 @@ test("what changed is counted", () => {
 
 test("calls leave nothing in the memory of the module", async () => {
   const library = await Library.load(readFileSync(process.env.SVID_MODULE));
-  const messages = readFileSync(new URL("../../examples/shared.messages", import.meta.url)), validatorId = new Uint8Array(16);
+  const messages = readFileSync(new URL("../../../examples/shared.messages", import.meta.url)), validatorId = new Uint8Array(16);
   const call = () => {
     assert.equal(library.report(messages).status, 0);
     const took = library.withValidator({ validatorId }, "ledger", "{}", (validator) => [validator.take(0n, messages).status, validator.tell().status]);

@@ -1,4 +1,4 @@
-// The vectors of vectors/ that ask the module alone: calls of a validator, IDs and messages. (verdicts.mjs has those of keys, signatures and
+// The vectors of tests/vectors/ that ask the module alone: calls of a validator, IDs and messages. (verdicts.mjs has those of keys, signatures and
 // bundles, in each browser.)
 
 import assert from "node:assert/strict";

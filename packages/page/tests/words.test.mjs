@@ -3,7 +3,7 @@
 import assert from "node:assert/strict";
 import { readFileSync } from "node:fs";
 import { test } from "node:test";
-import { clause, LISTED, sentences, wholeClause } from "../../lists/listed.mjs";
+import { clause, LISTED, sentences, wholeClause } from "../../../lists/listed.mjs";
 import { BUNDLE_FAULTS } from "../src/bundles.js";
 import { examine, readRecord } from "../src/examine.js";
 import { Library } from "../src/library.js";

@@ -23,10 +23,10 @@ import svid
 
 NOW = 1_767_225_600
 PROGRAM = os.environ["SVID"]
-# How many seconds a test waits for what must come. python/wrong/run sets it.
+# How many seconds a test waits for what must come. packages/python/wrong/run sets it.
 PATIENCE = float(os.environ.get("SVID_TEST_PATIENCE") or 180)
 # What a copy of the checkout leaves out: what tests beside this one write into it and remove.
-# (python/wrong/run makes a folder tmp)
+# (packages/python/wrong/run makes a folder tmp)
 LEFT = ["__pycache__", "build", "dist", "*.egg-info", ".*_cache", ".hypothesis", "tmp"]
 VALIDATOR_ID = "00112233445566778899aabbccddeeff"
 SUBJECT = "spiffe://example.org/billing/api"

@@ -26,8 +26,8 @@ BLOCKS = BLOCK.findall((PYTHON / "README.md").read_text())
 @pytest.fixture
 def checkout(tmp_path, monkeypatch):
     """A folder with what the page uses of a checkout."""
-    for name in "python", "examples":
-        shutil.copytree(PYTHON.parent / name, tmp_path / name, ignore=shutil.ignore_patterns(*LEFT))
+    for name in "packages/python", "examples":
+        shutil.copytree(PYTHON.parents[1] / name, tmp_path / name, ignore=shutil.ignore_patterns(*LEFT))
     (tmp_path / "dist" / platform.machine()).mkdir(parents=True)
     shutil.copy(os.environ["LIBSVID"], tmp_path / "dist" / platform.machine() / "libsvid.so")
     monkeypatch.chdir(tmp_path)

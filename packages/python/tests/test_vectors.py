@@ -1,4 +1,4 @@
-"""The vectors of vectors/, which say where their answers come from."""
+"""The vectors of tests/vectors/, which say where their answers come from."""
 
 import asyncio
 

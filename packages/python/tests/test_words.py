@@ -11,7 +11,7 @@ from vectors import HERE, read
 
 STATUSES = {
     group.get("prefix", "") + it["name"]: {"advice": group.get("advice", ""), **it}
-    for group in tomllib.loads((HERE.parent / "lists/statuses.toml").read_text())["group"]
+    for group in tomllib.loads((HERE.parents[1] / "lists/statuses.toml").read_text())["group"]
     for it in group["status"]
 }
 BAD_MESSAGES = {it["fault"]["reason"]: it for it in read("messages")["vectors"] if "fault" in it}

@@ -1,4 +1,4 @@
-"""The files of vectors/, which the tests of every language read (vectors/README.md)."""
+"""The files of tests/vectors/, which the tests of every language read (tests/vectors/README.md)."""
 
 import json
 import os
@@ -6,9 +6,10 @@ import pathlib
 
 import svid
 
-# (a copy of the package, as python/wrong/run makes them, has the program of a checkout)
-CHECKOUTS = (pathlib.Path(__file__).parents[2], pathlib.Path(os.environ["SVID"]).parent)
-HERE = next(it / "vectors" for it in CHECKOUTS if (it / "vectors" / "tokens.json").exists())
+# (a copy of the package, as packages/python/wrong/run makes them, has the program of a checkout)
+CHECKOUTS = (pathlib.Path(__file__).parents[3], pathlib.Path(os.environ["SVID"]).parent)
+FOLDERS = [it / "tests" / "vectors" for it in CHECKOUTS]
+HERE = next(it for it in FOLDERS if (it / "tokens.json").exists())
 READER = "python"
 
 

@@ -24,7 +24,7 @@ fn find(arch: &str, system: &str, crate_folder: &Path) -> Result<(), String> {
     }
     let folders: Vec<PathBuf> = match named {
         Some(name) => vec![PathBuf::from(name)],
-        None => vec![crate_folder.join("lib").join(arch), crate_folder.join("../../dist").join(arch)],
+        None => vec![crate_folder.join("lib").join(arch), crate_folder.join("../../../dist").join(arch)],
     };
     let found = folders.iter().find(|it| it.join("libsvid.a").is_file());
     let folder = found.ok_or_else(|| format!("no libsvid.a is in {folders:?}: let LIBSVID_DIR name the folder that has it"))?;

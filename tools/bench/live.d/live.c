@@ -1,4 +1,4 @@
-/* Measures a validator that C keeps (bench/live): live FOLDER INPUT.. opens one with FOLDER/bundles.json, takes each INPUT as messages, asks for
+/* Measures a validator that C keeps (tools/bench/live): live FOLDER INPUT.. opens one with FOLDER/bundles.json, takes each INPUT as messages, asks for
  * and checks each line of FOLDER/tokens.txt, with the answer yes to each question, saves the record in pieces of a mebibyte, and ticks to the
  * moment at which a tenth of all uses has expired.
  *
@@ -15,13 +15,13 @@
 #include <unistd.h>
 
 #define NOW UINT64_C(1767225600)
-#define LIFE 3600 /* the uses and the tokens of bench/make expire evenly within so many seconds */
+#define LIFE 3600 /* the uses and the tokens of tools/bench/make expire evenly within so many seconds */
 #define TOKENS 100000
 #define ROOM (1 << 20)
 
 typedef struct { uint8_t *bytes; size_t len; } text;
 
-static void holds(int truth, const char *why) { if (!truth) { fprintf(stderr, "bench/live: %s\n", why); exit(1); } }
+static void holds(int truth, const char *why) { if (!truth) { fprintf(stderr, "tools/bench/live: %s\n", why); exit(1); } }
 
 static uint64_t clock_ns(void) {
     struct timespec t;

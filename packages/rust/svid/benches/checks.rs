@@ -1,4 +1,4 @@
-//! Measures a check without its signature, for rust/bench: `checks FOLDER` opens a guard with the bundles of the folder, checks each of its tokens
+//! Measures a check without its signature, for packages/rust/bench: `checks FOLDER` opens a guard with the bundles of the folder, checks each of its tokens
 //! with each signature taken for good, and prints the median microseconds of a check. Times are of this thread on the processor.
 
 use std::os::raw::{c_int, c_long};

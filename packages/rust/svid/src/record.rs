@@ -167,8 +167,8 @@ impl Accepted {
     ///
     /// ```
     /// # #[cfg(feature = "openssl")] {
-    /// # let bundles = include_bytes!(concat!(env!("CARGO_MANIFEST_DIR"), "/../../examples/bundles.json"));
-    /// # let token = include_str!(concat!(env!("CARGO_MANIFEST_DIR"), "/../../examples/token.txt")).trim();
+    /// # let bundles = include_bytes!(concat!(env!("CARGO_MANIFEST_DIR"), "/../../../examples/bundles.json"));
+    /// # let token = include_str!(concat!(env!("CARGO_MANIFEST_DIR"), "/../../../examples/token.txt")).trim();
     /// # let guard = svid::Guard::open(&svid::Options::new(["ledger"]).any_life(), bundles, svid::OpenSsl::new())?;
     /// let accepted = guard.check(token)?;
     /// assert_eq!(accepted.claims().unwrap()["sub"], "spiffe://example.org/billing/api");

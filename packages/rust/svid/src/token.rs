@@ -8,7 +8,7 @@ use crate::record::TokenKey;
 /// What a token says, for a log, say, or to withdraw it. Nobody has vouched for it: no signature, time or audience was looked at.
 ///
 /// ```
-/// let token = include_str!(concat!(env!("CARGO_MANIFEST_DIR"), "/../../examples/token.txt")).trim();
+/// let token = include_str!(concat!(env!("CARGO_MANIFEST_DIR"), "/../../../examples/token.txt")).trim();
 /// let said = svid::Said::of(token)?;
 /// assert_eq!((said.subject(), said.expires()), ("spiffe://example.org/billing/api", 4102444800));
 /// # Ok::<(), svid::Error>(())

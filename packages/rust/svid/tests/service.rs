@@ -131,14 +131,14 @@ fn a_request_without_one_token() {
 }
 
 fn readme() -> String {
-    std::fs::read_to_string(top().join("rust/README.md")).expect("the page")
+    std::fs::read_to_string(top().join("packages/rust/README.md")).expect("the page")
 }
 
 /// README.md shows the examples as they are, each in at most fifteen lines of its own.
 #[test]
 fn the_readme_shows_the_examples() {
     for name in ["hyper", "strict"] {
-        let example = std::fs::read_to_string(top().join(format!("rust/svid/examples/{name}.rs"))).expect("the example");
+        let example = std::fs::read_to_string(top().join(format!("packages/rust/svid/examples/{name}.rs"))).expect("the example");
         let code = example.split_once("\n\n").expect("a line of what it is, and the code").1;
         assert!(readme().contains(&format!("```rust\n{code}```\n")), "README.md shows another example {name}");
         let lines = code.lines().filter(|it| !it.is_empty() && !it.starts_with("use ")).count();
@@ -165,7 +165,7 @@ fn a_test_of_a_service() -> Result<(), svid::Error> {
     let expired = guard.check(issuer.wrong(Wrong::Expired, "/billing/api", "ledger"));
     assert_eq!(expired, Err(svid::Error::Refused(svid::Refusal::Expired)));
     // (so far)
-    let own = std::fs::read_to_string(top().join("rust/svid/tests/service.rs")).expect("this file");
+    let own = std::fs::read_to_string(top().join("packages/rust/svid/tests/service.rs")).expect("this file");
     let five = own.split("// in five lines\n").nth(1).and_then(|it| it.split("    // (so far)").next()).expect("the lines");
     let shown: String = five.lines().map(|line| line.trim_start().to_owned() + "\n").collect();
     assert!(readme().contains(&shown), "README.md shows another test than {shown}");

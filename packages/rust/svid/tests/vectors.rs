@@ -1,4 +1,4 @@
-//! The vectors of vectors/, which say where their answers come from. (Those of state folders are in tests/journal.rs.)
+//! The vectors of tests/vectors/, which say where their answers come from. (Those of state folders are in tests/journal.rs.)
 
 mod common;
 

@@ -1,5 +1,5 @@
 //! A validator as one keeps it in a service, over a hash map, to be measured beside that of the C library
-//! (bench/live).
+//! (tools/bench/live).
 
 use crate::batch;
 use crate::bundles;
@@ -116,7 +116,7 @@ fn resident_mb() -> Result<f64, Box<dyn Error>> {
     Ok(pages * 4096.0 / 1e6)
 }
 
-/// Opens a validator, takes the inputs, asks for and checks each token, and saves: prints what bench/live.d/live.c prints.
+/// Opens a validator, takes the inputs, asks for and checks each token, and saves: prints what tools/bench/live.d/live.c prints.
 pub fn run(words: &[String], out: &mut impl Write) -> Result<(), Box<dyn Error>> {
     let (folder, files) = words
         .split_first()

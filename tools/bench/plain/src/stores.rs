@@ -1,4 +1,4 @@
-//! Sets of uses as one keeps them with the standard library, to be measured beside the stores (bench/stores): two
+//! Sets of uses as one keeps them with the standard library, to be measured beside the stores (tools/bench/stores): two
 //! `BTreeSet`s, by use and by key, and a `HashMap` by key, which has one use of a key and is sorted for each walk.
 
 use crate::clock::clock;
@@ -115,7 +115,7 @@ fn mixed(number: u64) -> u64 {
     c ^ (c >> 31)
 }
 
-/// The use of a number: the same as in bench/stores.d/main.rt.txt.
+/// The use of a number: the same as in tools/bench/stores.d/main.rt.txt.
 fn use_of(given: Given, number: u64) -> Use {
     let noise = mixed(number);
     let (second, first) = if given.is_rising {
@@ -243,7 +243,7 @@ fn tell<S: Store>(given: Given, what: &str) {
     }
 }
 
-/// `stores BTreeSet|HashMap rising|random COUNT mean|longest|tokens`: prints the numbers that bench/stores reads.
+/// `stores BTreeSet|HashMap rising|random COUNT mean|longest|tokens`: prints the numbers that tools/bench/stores reads.
 pub fn run(words: &[String]) -> Result<bool, Box<dyn Error>> {
     let [store, order, count, what] = words else {
         return Err(

@@ -1,4 +1,4 @@
-//! What the inputs of `bench/run` don't show: faults, uses that expire, digests of any length, and tokens that
+//! What the inputs of `tools/bench/run` don't show: faults, uses that expire, digests of any length, and tokens that
 //! are refused. The expected values are worked out by hand from docs/FORMATS.md, and digests by `sha256sum`.
 
 use crate::base64url;

@@ -1,6 +1,6 @@
 // Plain is what a service writes today to accept a JWT-SVID once: Go's HTTP server, and SET NX in Redis, INSERT .. ON CONFLICT DO
 // NOTHING in PostgreSQL, or kv.Create in NATS. Without the address of one of these it accepts a token as often as it comes, so it shows
-// what a request costs that is verified, and nothing else. bench/sidecar measures svidd beside it.
+// what a request costs that is verified, and nothing else. tools/bench/sidecar measures svidd beside it.
 //
 //	plain standard ADDRESS BUNDLE AUDIENCE [STORE]   verifies by the standard library, as little as will do
 //	plain jose ADDRESS BUNDLE AUDIENCE [STORE]       verifies by go-jose, in the steps of go-spiffe

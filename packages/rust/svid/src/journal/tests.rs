@@ -1,4 +1,4 @@
-//! State folders: the vectors of vectors/, and a disk that fails.
+//! State folders: the vectors of tests/vectors/, and a disk that fails.
 
 use std::fs;
 use std::sync::atomic::{AtomicBool, AtomicUsize, Ordering};

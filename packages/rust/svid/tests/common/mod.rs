@@ -1,4 +1,4 @@
-//! What the tests share: the files of vectors/, which the tests of every language read (vectors/README.md).
+//! What the tests share: the files of tests/vectors/, which the tests of every language read (tests/vectors/README.md).
 #![allow(dead_code)]
 
 use std::path::{Path, PathBuf};
@@ -10,7 +10,7 @@ use svid::{Candidate, Error, Guard, Options, Said, TokenKey, Unverified, Validat
 
 /// The root of the checkout.
 pub fn top() -> PathBuf {
-    Path::new(env!("CARGO_MANIFEST_DIR")).join("../..")
+    Path::new(env!("CARGO_MANIFEST_DIR")).join("../../..")
 }
 
 pub struct Vectors {
@@ -20,7 +20,7 @@ pub struct Vectors {
 
 /// The vectors of a file that are for this crate. There are as many as it says.
 pub fn read(name: &str) -> Vectors {
-    let path = top().join("vectors").join(format!("{name}.json"));
+    let path = top().join("tests/vectors").join(format!("{name}.json"));
     let text = std::fs::read(&path).unwrap_or_else(|why| panic!("{}: {why}", path.display()));
     let file: Value = serde_json::from_slice(&text).expect("the file is JSON");
     let all = file["vectors"].as_array().expect("it has vectors");

@@ -23,7 +23,7 @@ import org.junit.rules.TemporaryFolder;
 
 /** {@link Library} is what include/svid.h declares, as a compiler of C has it. */
 public class HeaderTest {
-    private static final String HEADER = Vectors.text("include/svid.h");
+    private static final String HEADER = Vectors.text("packages/c/include/svid.h");
 
     @Rule public final TemporaryFolder room = new TemporaryFolder();
 
@@ -35,7 +35,7 @@ public class HeaderTest {
         Path source = room.newFile("numbers.c").toPath();
         Files.writeString(source, "#include <stdio.h>\n#include \"svid.h\"\nint main(void) {\n" + lines + "    return 0;\n}\n");
         String program = room.getRoot() + "/numbers";
-        ran("cc", "-Wall", "-Werror", "-I" + Vectors.TOP + "/include", source.toString(), "-o", program);
+        ran("cc", "-Wall", "-Werror", "-I" + Vectors.TOP + "/packages/c/include", source.toString(), "-o", program);
         return ran(program).lines().map(Long::parseUnsignedLong).toList();
     }
 

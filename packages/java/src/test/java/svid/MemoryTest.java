@@ -26,7 +26,7 @@ import org.junit.rules.TemporaryFolder;
  * Want of memory: in each call, each allocation of the library is refused once. The call says so, or does without; nothing is accepted by
  * one that fails; and the same call succeeds then.
  *
- * <p>The library is one whose allocations go through {@code refusing.c}: java/test links it.
+ * <p>The library is one whose allocations go through {@code refusing.c}: packages/java/test links it.
  */
 public class MemoryTest {
     @Rule public final TemporaryFolder room = new TemporaryFolder();

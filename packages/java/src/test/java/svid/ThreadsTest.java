@@ -216,7 +216,7 @@ public class ThreadsTest {
 
     /** Bundles with a key of the same name that is another one: that of the vectors. */
     private static String otherKeys() {
-        String usual = JsonParser.parseString(Vectors.text("vectors/tokens.json"))
+        String usual = JsonParser.parseString(Vectors.text("tests/vectors/tokens.json"))
                                .getAsJsonObject()
                                .getAsJsonObject("bundles")
                                .get("usual")
@@ -433,7 +433,7 @@ public class ThreadsTest {
                 Validator.open(ledgerAt(NOW), bundles()).check(tokens().get(0));
             }
         }
-        // (java/wrong/run says how long: with a wrong body they never are)
+        // (packages/java/wrong/run says how long: with a wrong body they never are)
         String patience = System.getenv("SVID_TEST_PATIENCE");
         long until = System.nanoTime() + TimeUnit.SECONDS.toNanos(patience == null ? 180 : Long.parseLong(patience));
         while (all.stream().anyMatch(it -> it.get() != null) && System.nanoTime() < until) {

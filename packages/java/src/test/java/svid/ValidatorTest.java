@@ -250,7 +250,7 @@ public class ValidatorTest {
     /** Times that no Instant has are the last Instant, which stands for all of them. */
     @Test
     public void timesWithoutEnd() throws Refusal {
-        JsonObject file = JsonParser.parseString(Vectors.text("vectors/tokens.json")).getAsJsonObject();
+        JsonObject file = JsonParser.parseString(Vectors.text("tests/vectors/tokens.json")).getAsJsonObject();
         int count = 0;
         for (JsonElement it : file.getAsJsonArray("vectors")) {
             JsonObject call = it.getAsJsonObject().getAsJsonArray("calls").get(0).getAsJsonObject();

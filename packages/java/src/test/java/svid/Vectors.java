@@ -15,7 +15,7 @@ import java.util.HexFormat;
 import java.util.List;
 import java.util.function.Predicate;
 
-/** The files of vectors/, which the tests of every language read (vectors/README.md), and what tests share. */
+/** The files of tests/vectors/, which the tests of every language read (tests/vectors/README.md), and what tests share. */
 final class Vectors {
     static final Path TOP = Path.of(System.getProperty("svid.top"));
     /** The folder of the package. */
@@ -36,7 +36,7 @@ final class Vectors {
     }
 
     static void each(String name, String reader, Predicate<JsonObject> isOurs, Each test) {
-        JsonObject file = JsonParser.parseString(text("vectors/" + name + ".json")).getAsJsonObject();
+        JsonObject file = JsonParser.parseString(text("tests/vectors/" + name + ".json")).getAsJsonObject();
         List<String> failures = new ArrayList<>();
         int count = 0;
         for (JsonElement element : file.getAsJsonArray("vectors")) {
