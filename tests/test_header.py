@@ -186,7 +186,13 @@ def test_the_numbers_are_those_of_the_sources():
 
 
 # What has a number by hand, since it decides by it.
-BY_HAND = ["packages/python/svid/_library.py", "examples/embed/svid.py", "packages/node/src/library.js", "packages/node/src/errors.js", *sorted(SCRIPTS)]
+BY_HAND = [
+    "packages/python/svid/_library.py",
+    "examples/embed/svid.py",
+    "packages/node/src/library.js",
+    "packages/node/src/errors.js",
+    *sorted(SCRIPTS),
+]
 
 
 @pytest.mark.parametrize("path", BY_HAND)

@@ -58,8 +58,8 @@ def output(*words, **more):
 @pytest.fixture(scope="session")
 def releases(request, session):
     """Two releases: of this checkout, and of a copy elsewhere without .git, under another umask, time zone and language. The first one stays where
-    SVID_RELEASE names a folder for it, which tests/run services and tools/packaging/test take. The other one is built beside the tests of the first one, and the
-    last test awaits it."""
+    SVID_RELEASE names a folder for it, which tests/run services and tools/packaging/test take. The other one is built beside the tests of the first
+    one, and the last test awaits it."""
     for command in NEEDED.split():
         needs(command)
     if os.getuid():

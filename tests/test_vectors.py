@@ -121,7 +121,9 @@ def by_the_library(session, archive):
         "-fno-sanitize-recover=all",
     ]
     sources = [TOP / "tests/c/vectors.c", embed / "verify.c", embed / "jwk.c", archive, "-lcrypto", "-ljansson"]
-    subprocess.run(["cc", *words, f"-I{TOP}/packages/c/include", f"-I{embed}", *filter(exists, sources), "-o", session / "vectors"], check=True)
+    subprocess.run(
+        ["cc", *words, f"-I{TOP}/packages/c/include", f"-I{embed}", *filter(exists, sources), "-o", session / "vectors"], check=True
+    )
     return subprocess.run([session / "vectors", VECTORS], capture_output=True, text=True)
 
 
