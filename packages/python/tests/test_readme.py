@@ -26,8 +26,9 @@ BLOCKS = BLOCK.findall((PYTHON / "README.md").read_text())
 @pytest.fixture
 def checkout(tmp_path, monkeypatch):
     """A folder with what the page uses of a checkout."""
+    top, left = PYTHON.parents[1], shutil.ignore_patterns(*LEFT)
     for name in "packages/python", "examples":
-        shutil.copytree(PYTHON.parents[1] / name, tmp_path / name, ignore=shutil.ignore_patterns(*LEFT))
+        shutil.copytree(top / name, tmp_path / name, ignore=left)
     (tmp_path / "dist" / platform.machine()).mkdir(parents=True)
     shutil.copy(os.environ["LIBSVID"], tmp_path / "dist" / platform.machine() / "libsvid.so")
     monkeypatch.chdir(tmp_path)

@@ -18,7 +18,7 @@ import java.util.concurrent.TimeUnit;
 /** Tokens of now, and what tests wait for. */
 final class Making {
     static final String SUBJECT = "spiffe://example.org/billing/api";
-    /** For how many seconds a test waits for what must come. (packages/java/wrong/run says how long: with a wrong body most never comes.) */
+    /** For how many seconds a test waits for what must come. (packages/java/wrong/run says how long: with a wrong body most never do.) */
     static final long PATIENCE = System.getenv("SVID_TEST_PATIENCE") == null ? 180 : Long.parseLong(System.getenv("SVID_TEST_PATIENCE"));
 
     private static final KeyPair KEY = key();
