@@ -3,8 +3,8 @@
 // of its bundles in 4, each the least first, the name and the token.
 
 import { readFileSync } from "node:fs";
-import { examine, readRecord } from "../page/src/examine.js";
-import { Library } from "../page/src/library.js";
+import { examine, readRecord } from "../packages/page/src/examine.js";
+import { Library } from "../packages/page/src/library.js";
 
 const [module, bundlesPath, audiencesPath, longest] = process.argv.slice(2);
 const library = await Library.load(readFileSync(module));

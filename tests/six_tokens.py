@@ -9,7 +9,7 @@ from dataclasses import dataclass
 from conftest import TOP
 from cryptography.hazmat.primitives.asymmetric import ec, padding, rsa, utils
 
-sys.path.insert(0, str(TOP))
+sys.path.insert(0, str(TOP / "tests"))
 from vectors.source import crypto  # noqa: E402
 from vectors.source.crypto import ALGORITHMS, CURVE_OF, b64, key, number, rsa_key, unb64  # noqa: E402
 
@@ -30,7 +30,7 @@ class Case:
 
 
 class Signer:
-    """A private key of vectors/, which signs by `cryptography`."""
+    """A private key of tests/vectors/, which signs by `cryptography`."""
 
     def __init__(self, alg: str, text: str = "one") -> None:
         made = self.made = key(alg, text)

@@ -7,11 +7,11 @@ import subprocess
 import pytest
 from conftest import TOP
 
-ADAPTERS = ("go", "python/svid", "node/src", "rust/svid/src", "page/src", "java/src/main")
+ADAPTERS = ("go", "packages/python/svid", "packages/node/src", "packages/rust/svid/src", "packages/page/src", "packages/java/src/main")
 # Not ours, or not what a service runs: tests, and what only they use.
 OTHERS = re.compile(
     r"^go/vendor/|_test\.go$|/tests?/|/tests\.rs$|/(issuer|testing|natstest|agenttest|logtest|sim|vectors|broker|refusing|cluster|svidbench|vendored)/|wrong/"
-    r"|cmd/svidd/(outside|member)\.py$|^python/svid/testing\.py$"
+    r"|cmd/svidd/(outside|member)\.py$|^packages/python/svid/testing\.py$"
 )
 COMMENT = re.compile(r"^\s*(//|/\*|\*|#|\"\"\")")
 BEHIND = re.compile(r"\s(//|#) .*")  # a comment behind code
@@ -24,7 +24,7 @@ RULES = {
     "base64url": (
         r"encoding/base64|RawURLEncoding|urlsafe_b64|binascii|\batob\(|\bbtoa\(|fn base64|util\.Base64|\"base64url\"|'base64url'|ABCDEFGHIJKLMNOPQRSTUVWXYZ",
         {
-            "page/src/page.js": "the module in the page is base64",
+            "packages/page/src/page.js": "the module in the page is base64",
             "go/claims/nats/nats.go": "the subject of an entry has the key as base64url: no other letters may stand in a subject",
             "go/claims/nats/ask.go": "an inbox has random letters that may stand in a subject",
             "go/claims/nats/withdraw.go": "the subject of a withdrawal has the key as base64url too",
@@ -54,7 +54,7 @@ RULES = {
 
 # What answers requests by a member of the library, and what hands requests to it. Stores are none of these: they keep what they are told.
 SHELLS = re.compile(
-    r"^(go/(internal/server|guard|svidhttp|cmd/svidd|svid)|python/svid|node/src|rust/svid/src|java/src/main)/"
+    r"^(go/(internal/server|guard|svidhttp|cmd/svidd|svid)|packages/python/svid|packages/node/src|packages/rust/svid/src|packages/java/src/main)/"
     r"(?!(java/svid/)?[Pp]ostgres|_group|redis|answers|group-store)"
 )
 

@@ -15,12 +15,12 @@ import tempfile
 import pytest
 from conftest import TOP, needs
 
-STRICT = ["-std=c11", "-Wall", "-Wextra", "-Wpedantic", "-Werror", "-O1", f"-I{TOP}/include", "-pthread"]
+STRICT = ["-std=c11", "-Wall", "-Wextra", "-Wpedantic", "-Werror", "-O1", f"-I{TOP}/packages/c/include", "-pthread"]
 WRAPPED = [*STRICT, "-Wl,--wrap=malloc,--wrap=realloc,--wrap=free", "-DWRAPPED"]
 BUILDS = {
     "wrapped": ["cc", *WRAPPED],
     "bare": ["cc", *STRICT],
-    "musl": ["musl-gcc", "-std=c11", "-O1", "-static", f"-I{TOP}/include", "-pthread"],
+    "musl": ["musl-gcc", "-std=c11", "-O1", "-static", f"-I{TOP}/packages/c/include", "-pthread"],
     "sanitized": ["cc", *WRAPPED, "-g", "-fsanitize=address,undefined", "-fno-sanitize-recover=all"],
     "threads": ["cc", *STRICT, "-g", "-fsanitize=thread"],
     "valgrind": ["cc", *WRAPPED],
@@ -146,7 +146,7 @@ def runs_here(*words):
 @pytest.fixture(scope="session")
 def built(session, archive):
     """Builds a program in one of the ways, once."""
-    header = re.sub(r"/\*.*?\*/", "", (TOP / "include/svid.h").read_text(), flags=re.S)
+    header = re.sub(r"/\*.*?\*/", "", (TOP / "packages/c/include/svid.h").read_text(), flags=re.S)
     statuses = len(re.findall(r"SVID_\w+", re.search(r"enum svid_status \{(.*?)\}", header, re.S)[1]))
 
     @functools.cache

@@ -15,7 +15,7 @@ from test_manual import helps, run, text_of
 
 # What may be given more than once.
 REPEATED = {"--record"}
-BASH, FISH, ZSH = (TOP / f"completions/{name}" for name in ("svid.bash", "svid.fish", "_svid"))
+BASH, FISH, ZSH = (TOP / f"tools/packaging/completions/{name}" for name in ("svid.bash", "svid.fish", "_svid"))
 
 
 @pytest.fixture(scope="module")
@@ -68,7 +68,7 @@ def test_bash(said, room):
 
 
 def test_fish_has_each_command_and_option(said):
-    text = text_of("completions/svid.fish")
+    text = text_of("tools/packaging/completions/svid.fish")
     assert re.findall(r"^set -l commands (.*)$", text, re.M) == [" ".join(said)]
     assert re.findall(r"^complete -c svid -n __svid_begins -a (\w+) ", text, re.M) == list(said)
     found = re.findall(r"^complete -c svid -n '__svid_is (\w+)' -l ([\w-]+) (-r -F|-x|-d)", text, re.M)
@@ -97,7 +97,7 @@ def test_fish(said, room):
 
 
 def test_zsh_has_each_command_and_option(said):
-    text = text_of("completions/_svid")
+    text = text_of("tools/packaging/completions/_svid")
     assert re.findall(r"^    '(\w+):.*'$", text, re.M) == list(said)
     cases = dict(re.findall(r"^    (\w+)\)\n(.*?)^      ;;$", text, re.M | re.S))
     assert list(cases) == list(said)
@@ -169,7 +169,7 @@ def test_zsh(zsh, typed, due):
 
 def sidecar_offers(shell, room, *words):
     """The words that bash or fish offers for the last word of a command line of `svidd`."""
-    file = TOP / f"completions/svidd.{shell}"
+    file = TOP / f"tools/packaging/completions/svidd.{shell}"
     if shell == "bash":
         script = 'source "$1"; shift; COMP_WORDS=("$@"); COMP_CWORD=$(($# - 1)); _svidd; printf "%s\\n" "${COMPREPLY[@]}"'
         done = run("bash", "--norc", "-c", script, "bash", file, "svidd", *words, cwd=room)
@@ -205,4 +205,4 @@ def test_the_sidecar(shell, room, words, due):
 def test_completions_of_the_sidecar_are_read(shell, words):
     needs(shell)
     name = "_svidd" if shell == "zsh" else f"svidd.{shell}"
-    assert subprocess.run([shell, *words, TOP / "completions" / name]).returncode == 0
+    assert subprocess.run([shell, *words, TOP / "tools/packaging/completions" / name]).returncode == 0

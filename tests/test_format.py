@@ -6,7 +6,8 @@ import sys
 import pytest
 from conftest import TOP
 
-FOLDERS = [*(TOP / "tests").rglob("*.py"), *(TOP / "tools").iterdir(), *(TOP / "packaging").iterdir()]
+OF_TESTS = [path for path in (TOP / "tests").rglob("*.py") if not path.is_relative_to(TOP / "tests/vectors")]
+FOLDERS = [*OF_TESTS, *(TOP / "tools").iterdir(), *(TOP / "tools/packaging").iterdir()]
 SCRIPTS = [path for path in FOLDERS if path.is_file() and path.suffix in ("", ".py")]
 PYTHON = [path for path in sorted(SCRIPTS) if path.suffix or path.read_text().startswith(("#!/usr/bin/env python3", "#!/usr/bin/python3"))]
 

@@ -107,7 +107,7 @@ def test_it_has_the_library_for_both_processors(proxy):
     with zipfile.ZipFile(proxy / f"{MODULE}/@v/{version()}.zip") as archive:
         inside = archive.namelist()
         for path, within in (
-            ("include/svid.h", "svid.h"),
+            ("packages/c/include/svid.h", "svid.h"),
             ("dist/x86_64/libsvid.a", "libsvid_amd64.a"),
             ("dist/aarch64/libsvid.a", "libsvid_arm64.a"),
         ):
@@ -211,7 +211,7 @@ def test_a_service_for_aarch64(service):
     needs("qemu-aarch64-static")
     service.write(TWICE)
     flags = ["-trimpath", "-tags", "gocrypto", "-gcflags=all=-dwarf=false", "-ldflags", "-w -linkmode external -extldflags -static"]
-    # (with these options packaging/svidd-arm64 compiles Go's own library, too, and it is kept)
+    # (with these options tools/packaging/svidd-arm64 compiles Go's own library, too, and it is kept)
     kept = subprocess.run(["go", "env", "GOCACHE"], capture_output=True, text=True, check=True).stdout.strip()
     ran = service.go("build", *flags, "-o", "service", GOARCH="arm64", CGO_ENABLED="1", CC="aarch64-linux-gnu-gcc", GOCACHE=kept)
     assert ran.returncode == 0, ran.stderr

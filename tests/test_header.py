@@ -1,4 +1,4 @@
-"""include/svid.h is what the sources of the C library export: each function with its parameters, each structure with its fields in their order, and
+"""packages/c/include/svid.h is what the sources of the C library export: each function with its parameters, each structure with its fields in their order, and
 the number of each status; so are the structures in the example in Python and in the crate for Rust. (tools/lists writes the names and
 numbers of all languages.)"""
 
@@ -9,7 +9,7 @@ import pytest
 from conftest import TOP
 
 SOURCES = TOP / "crates/svid_c/src"
-SCRIPTS = [str(path.relative_to(TOP)) for path in TOP.glob("page/src/*.js")]
+SCRIPTS = [str(path.relative_to(TOP)) for path in TOP.glob("packages/page/src/*.js")]
 # What a type of Rattle is in C, in Python and in Rust.
 TYPES = {
     "usize": ("size_t {}", "c_size_t", "usize"),
@@ -73,9 +73,9 @@ def snake(name):
 
 SOURCE = "\n".join(path.read_text() for path in sorted(SOURCES.glob("*.rt")))
 # (without its comments)
-HEADER = re.sub(r"/\*.*?\*/", "", text_of("include/svid.h"), flags=re.S)
+HEADER = re.sub(r"/\*.*?\*/", "", text_of("packages/c/include/svid.h"), flags=re.S)
 PYTHON = text_of("examples/embed/svid.py")
-RUST = text_of("rust/svid/src/ffi.rs")
+RUST = text_of("packages/rust/svid/src/ffi.rs")
 # The structures that C sees, each with its fields, in their order, and their types.
 STRUCTURES = {
     name: re.findall(r"^    pub (\w+): (.*),$", body, re.M)
@@ -186,7 +186,13 @@ def test_the_numbers_are_those_of_the_sources():
 
 
 # What has a number by hand, since it decides by it.
-BY_HAND = ["python/svid/_library.py", "examples/embed/svid.py", "node/src/library.js", "node/src/errors.js", *sorted(SCRIPTS)]
+BY_HAND = [
+    "packages/python/svid/_library.py",
+    "examples/embed/svid.py",
+    "packages/node/src/library.js",
+    "packages/node/src/errors.js",
+    *sorted(SCRIPTS),
+]
 
 
 @pytest.mark.parametrize("path", BY_HAND)
@@ -200,10 +206,10 @@ def test_a_number_by_hand(path):
 @pytest.mark.parametrize(
     "path, name, least, most",
     [
-        ("page/src/refusals.js", "ID_FAULTS", "ID_TOO_LONG", "ID_PATH_BYTE"),
-        ("page/src/verify.js", "KEY_FAULTS", "NO_ALGORITHM", "KEY_Y"),
-        ("page/src/token.js", "BEARER_FAULTS", "BEARER_ABSENT", "BEARER_SPELLING"),
-        ("page/src/bundles.js", "ENTRY_FAULTS", "ENTRY_NOT_OBJECT", "ENTRY_TOO_LONG"),
+        ("packages/page/src/refusals.js", "ID_FAULTS", "ID_TOO_LONG", "ID_PATH_BYTE"),
+        ("packages/page/src/verify.js", "KEY_FAULTS", "NO_ALGORITHM", "KEY_Y"),
+        ("packages/page/src/token.js", "BEARER_FAULTS", "BEARER_ABSENT", "BEARER_SPELLING"),
+        ("packages/page/src/bundles.js", "ENTRY_FAULTS", "ENTRY_NOT_OBJECT", "ENTRY_TOO_LONG"),
     ],
 )
 def test_the_page_has_words_for_each(path, name, least, most):
@@ -263,7 +269,7 @@ def capital(text):
 
 def test_each_status_says_what_the_list_says():
     # (texts that stand beside each other are one)
-    said = dict(re.findall(r'case (\w+): return "(.* .*)";', text_of("include/svid.h").replace('" "', "").replace('\\"', "\0")))
+    said = dict(re.findall(r'case (\w+): return "(.* .*)";', text_of("packages/c/include/svid.h").replace('" "', "").replace('\\"', "\0")))
     said = {name: text.replace("\0", '"') for name, text in said.items()}
     assert {name: said.get(name) for name, _ in said_by_the_list()} == dict(said_by_the_list())
 
@@ -278,11 +284,11 @@ def test_the_version():
     "path, form",
     [
         ("tools/dist", r"^soname=libsvid\.so\.(\d+)$"),
-        ("python/svid/_library.py", r'"libsvid\.so\.(\d+)"'),
-        ("python/svid/_library.py", r"^_MAJOR = (\d+)$"),
-        ("node/src/library.js", r"^const MAJOR = (\d+);$"),
-        ("rust/svid/src/ffi.rs", r"^pub const MAJOR: u32 = (\d+);$"),
-        ("java/src/main/java/svid/Library.java", r"^    static final int VERSION = (\d+)0000;$"),
+        ("packages/python/svid/_library.py", r'"libsvid\.so\.(\d+)"'),
+        ("packages/python/svid/_library.py", r"^_MAJOR = (\d+)$"),
+        ("packages/node/src/library.js", r"^const MAJOR = (\d+);$"),
+        ("packages/rust/svid/src/ffi.rs", r"^pub const MAJOR: u32 = (\d+);$"),
+        ("packages/java/src/main/java/svid/Library.java", r"^    static final int VERSION = (\d+)0000;$"),
     ],
 )
 def test_the_name_of_the_shared_library_has_the_major_number(path, form):
@@ -292,24 +298,24 @@ def test_the_name_of_the_shared_library_has_the_major_number(path, form):
 @pytest.mark.parametrize(
     "path, form, name",
     [
-        ("python/svid/_library.py", r"^MOST_CANDIDATES = (\d+)$", "SVID_MOST_CANDIDATES"),
-        ("page/src/library.js", r"^export const MOST_CANDIDATES = (\d+)n;$", "SVID_MOST_CANDIDATES"),
-        ("page/tests/native.py", r"^MOST_CANDIDATES = (\d+)$", "SVID_MOST_CANDIDATES"),
-        ("node/src/library.js", r"^const MOST_CANDIDATES = (\d+)n;$", "SVID_MOST_CANDIDATES"),
-        ("node/src/library.js", r"^export const USUAL_RSA_BITS = (\d+), ", "SVID_USUAL_RSA_BITS"),
-        ("node/src/library.js", r"^const SPKI_ROOM = (\d+), FRAME_MORE = \d+;$", "SVID_SPKI_ROOM"),
-        ("node/src/library.js", r"^const SPKI_ROOM = \d+, FRAME_MORE = (\d+);$", "SVID_FRAME_MORE"),
+        ("packages/python/svid/_library.py", r"^MOST_CANDIDATES = (\d+)$", "SVID_MOST_CANDIDATES"),
+        ("packages/page/src/library.js", r"^export const MOST_CANDIDATES = (\d+)n;$", "SVID_MOST_CANDIDATES"),
+        ("packages/page/tests/native.py", r"^MOST_CANDIDATES = (\d+)$", "SVID_MOST_CANDIDATES"),
+        ("packages/node/src/library.js", r"^const MOST_CANDIDATES = (\d+)n;$", "SVID_MOST_CANDIDATES"),
+        ("packages/node/src/library.js", r"^export const USUAL_RSA_BITS = (\d+), ", "SVID_USUAL_RSA_BITS"),
+        ("packages/node/src/library.js", r"^const SPKI_ROOM = (\d+), FRAME_MORE = \d+;$", "SVID_SPKI_ROOM"),
+        ("packages/node/src/library.js", r"^const SPKI_ROOM = \d+, FRAME_MORE = (\d+);$", "SVID_FRAME_MORE"),
         ("examples/embed/svid.py", r"^OK, .*\nMOST_CANDIDATES = (\d+)", "SVID_MOST_CANDIDATES"),
-        ("rust/svid/src/ffi.rs", r"^pub const MOST_CANDIDATES: usize = (\d+);$", "SVID_MOST_CANDIDATES"),
+        ("packages/rust/svid/src/ffi.rs", r"^pub const MOST_CANDIDATES: usize = (\d+);$", "SVID_MOST_CANDIDATES"),
         ("docs/FORMATS.md", r"at most the first (\d+) candidates", "SVID_MOST_CANDIDATES"),
-        ("vectors/source/checks.py", r"^MOST_CANDIDATES = (\d+)\b", "SVID_MOST_CANDIDATES"),
-        ("python/svid/_library.py", r"^USUAL_RSA_BITS = (\d+)$", "SVID_USUAL_RSA_BITS"),
-        ("page/src/library.js", r"^export const MOST_RSA_BITS = (\d+)n;$", "SVID_USUAL_RSA_BITS"),
-        ("rust/svid/src/ffi.rs", r"^pub const SPKI_ROOM: usize = (\d+);$", "SVID_SPKI_ROOM"),
-        ("rust/svid/src/ffi.rs", r"^pub const USUAL_RSA_BITS: usize = (\d+);$", "SVID_USUAL_RSA_BITS"),
+        ("tests/vectors/source/checks.py", r"^MOST_CANDIDATES = (\d+)\b", "SVID_MOST_CANDIDATES"),
+        ("packages/python/svid/_library.py", r"^USUAL_RSA_BITS = (\d+)$", "SVID_USUAL_RSA_BITS"),
+        ("packages/page/src/library.js", r"^export const MOST_RSA_BITS = (\d+)n;$", "SVID_USUAL_RSA_BITS"),
+        ("packages/rust/svid/src/ffi.rs", r"^pub const SPKI_ROOM: usize = (\d+);$", "SVID_SPKI_ROOM"),
+        ("packages/rust/svid/src/ffi.rs", r"^pub const USUAL_RSA_BITS: usize = (\d+);$", "SVID_USUAL_RSA_BITS"),
         ("examples/embed/svid.py", r"^SPKI_ROOM, USUAL_RSA_BITS = \d+, (\d+)", "SVID_USUAL_RSA_BITS"),
         ("examples/embed/svid.py", r"^SPKI_ROOM, USUAL_RSA_BITS = (\d+), \d+", "SVID_SPKI_ROOM"),
-        ("python/svid/_library.py", r"^SPKI_ROOM = (\d+)$", "SVID_SPKI_ROOM"),
+        ("packages/python/svid/_library.py", r"^SPKI_ROOM = (\d+)$", "SVID_SPKI_ROOM"),
     ],
 )
 def test_a_bound_of_the_header_elsewhere(path, form, name):

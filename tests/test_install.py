@@ -10,11 +10,11 @@ from conftest import TOP, needs
 # The files under PREFIX, each with its mode and the file of the repository that it is, or what is built.
 FILES = {
     "bin/svid": (0o755, "program"),
-    "share/man/man1/svid.1": (0o644, "man/svid.1"),
-    "share/bash-completion/completions/svid": (0o644, "completions/svid.bash"),
-    "share/zsh/site-functions/_svid": (0o644, "completions/_svid"),
-    "share/fish/vendor_completions.d/svid.fish": (0o644, "completions/svid.fish"),
-    "include/svid.h": (0o644, "include/svid.h"),
+    "share/man/man1/svid.1": (0o644, "tools/packaging/man/svid.1"),
+    "share/bash-completion/completions/svid": (0o644, "tools/packaging/completions/svid.bash"),
+    "share/zsh/site-functions/_svid": (0o644, "tools/packaging/completions/_svid"),
+    "share/fish/vendor_completions.d/svid.fish": (0o644, "tools/packaging/completions/svid.fish"),
+    "include/svid.h": (0o644, "packages/c/include/svid.h"),
     "lib/libsvid.a": (0o644, "archive"),
     "lib/libsvid.so.3.0.0": (0o644, "shared"),
     "lib/libsvid.so.3": (0o644, "shared"),
@@ -109,7 +109,7 @@ def test_installed_twice_and_removed(tmp_path):
     page = tmp_path / "new/prefix/share/man/man1/svid.1"
     page.write_text("other")
     install(tmp_path / "new/prefix")
-    assert below(tmp_path / "new/prefix")[0] == {*FILES, FOLDERS} and page.read_bytes() == (TOP / "man/svid.1").read_bytes()
+    assert below(tmp_path / "new/prefix")[0] == {*FILES, FOLDERS} and page.read_bytes() == (TOP / "tools/packaging/man/svid.1").read_bytes()
     said = install("--remove", tmp_path / "new/prefix")
     assert said == "".join(f"removed {tmp_path}/new/prefix/{name}\n" for name in FILES)
     assert below(tmp_path) == (set(), set())

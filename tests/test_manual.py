@@ -10,8 +10,8 @@ from conftest import TOP, needs
 
 # The options that every command has, which the page has once.
 EVERY = {"explain"}
-SIDECAR_PAGE = TOP / "man/svidd.8"
-PAGE = TOP / "man/svid.1"
+SIDECAR_PAGE = TOP / "tools/packaging/man/svidd.8"
+PAGE = TOP / "tools/packaging/man/svid.1"
 
 
 def text_of(path):

@@ -1,6 +1,6 @@
 """Names say one thing each: what names a validator is a validator ID, where a fault stands is an offset, where a log is read is a position.
 
-So no name in code, of tests and examples too, and none of vectors/ has the word place. A token is refused and withdrawn: nothing here rejects
+So no name in code, of tests and examples too, and none of tests/vectors/ has the word place. A token is refused and withdrawn: nothing here rejects
 or revokes, but calls of others. And a file of crates/svid_c/src is named after a call of the header that stands in it, or it is a private
 module without calls."""
 
@@ -111,7 +111,7 @@ def members(value):
             yield from members(it)
 
 
-@pytest.mark.parametrize("path", sorted((TOP / "vectors").glob("*.json")), ids=lambda path: path.stem)
+@pytest.mark.parametrize("path", sorted((TOP / "tests/vectors").glob("*.json")), ids=lambda path: path.stem)
 def test_no_member_of_a_vector_has_the_word_place(path):
     ordinary = {FILE_OF_A_FOLDER} if path.stem == "folders" else set()
     assert {name for name in members(json.loads(path.read_text())) if is_of_place(name)} - ordinary == set()

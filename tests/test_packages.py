@@ -10,10 +10,10 @@ from conftest import TOP
 COLUMNS = ("`svidd`", "Go", "Python", "Rust", "Node", "Java")
 SOURCES = {
     "Go": "go",
-    "Python": "python/svid",
-    "Rust": "rust/svid/src",
-    "Node": "node/index.d.ts node/testing.d.ts node/src",
-    "Java": "java/src/main",
+    "Python": "packages/python/svid",
+    "Rust": "packages/rust/svid/src",
+    "Node": "packages/node/index.d.ts packages/node/testing.d.ts packages/node/src",
+    "Java": "packages/java/src/main",
 }
 # Of each row what a package has by which a service gets it. It stands in the package where the row says so, and nowhere where the row denies it.
 NAMES = {
@@ -221,47 +221,47 @@ DEFAULTS = {
         3600,
         {
             "go/guard/guard.go": r"usualLongest +=",
-            "python/svid/_validator.py": r"longest: Seconds =",
-            "python/svid/_group.py": r"DEFAULT_LONGEST =",
-            "rust/svid/src/options.rs": r"USUAL_LONGEST: u64 =",
-            "node/src/given.js": r"const HOUR =",
-            "node/src/postgres.js": r"longest =",
-            "java/src/main/java/svid/Options.java": r"long longest =",
-            "java/src/main/java/svid/PostgresStore.java": r"long longest =",
+            "packages/python/svid/_validator.py": r"longest: Seconds =",
+            "packages/python/svid/_group.py": r"DEFAULT_LONGEST =",
+            "packages/rust/svid/src/options.rs": r"USUAL_LONGEST: u64 =",
+            "packages/node/src/given.js": r"const HOUR =",
+            "packages/node/src/postgres.js": r"longest =",
+            "packages/java/src/main/java/svid/Options.java": r"long longest =",
+            "packages/java/src/main/java/svid/PostgresStore.java": r"long longest =",
         },
     ),
     "ahead": (
         None,
         {
             "go/guard/guard.go": r"usualAhead +=",
-            "python/svid/_validator.py": r"ahead: int =",
-            "python/svid/_group.py": r"DEFAULT_AHEAD =",
-            "rust/svid/src/options.rs": r"^            ahead:",
-            "node/src/validator.js": r"options\.ahead \?\?",
-            "node/src/postgres.js": r"ahead =",
-            "java/src/main/java/svid/Options.java": r"long ahead =",
-            "java/src/main/java/svid/PostgresStore.java": r"long ahead =",
+            "packages/python/svid/_validator.py": r"ahead: int =",
+            "packages/python/svid/_group.py": r"DEFAULT_AHEAD =",
+            "packages/rust/svid/src/options.rs": r"^            ahead:",
+            "packages/node/src/validator.js": r"options\.ahead \?\?",
+            "packages/node/src/postgres.js": r"ahead =",
+            "packages/java/src/main/java/svid/Options.java": r"long ahead =",
+            "packages/java/src/main/java/svid/PostgresStore.java": r"long ahead =",
         },
     ),
     "wait": (
         None,
         {
             "go/guard/guard.go": r"usualWait +=",
-            "python/svid/_validator.py": r"wait: float =",
-            "python/svid/_group.py": r"DEFAULT_WAIT =",
-            "rust/svid/src/options.rs": r"wait: Duration::from_secs\(",
-            "node/src/given.js": r"waitOf\(given =",
-            "node/src/postgres.js": r"wait =",
+            "packages/python/svid/_validator.py": r"wait: float =",
+            "packages/python/svid/_group.py": r"DEFAULT_WAIT =",
+            "packages/rust/svid/src/options.rs": r"wait: Duration::from_secs\(",
+            "packages/node/src/given.js": r"waitOf\(given =",
+            "packages/node/src/postgres.js": r"wait =",
         },
     ),
     "rsa-bits": (
         None,
         {
-            "include/svid.h": r"^#define SVID_USUAL_RSA_BITS",
-            "python/svid/_library.py": r"USUAL_RSA_BITS =",
-            "rust/svid/src/ffi.rs": r"USUAL_RSA_BITS: usize =",
-            "node/src/library.js": r"USUAL_RSA_BITS =",
-            "java/src/main/java/svid/Library.java": r"USUAL_RSA_BITS =",
+            "packages/c/include/svid.h": r"^#define SVID_USUAL_RSA_BITS",
+            "packages/python/svid/_library.py": r"USUAL_RSA_BITS =",
+            "packages/rust/svid/src/ffi.rs": r"USUAL_RSA_BITS: usize =",
+            "packages/node/src/library.js": r"USUAL_RSA_BITS =",
+            "packages/java/src/main/java/svid/Library.java": r"USUAL_RSA_BITS =",
         },
     ),
     "summaries": (None, {"go/guard/guard.go": r"usualSummaries +="}),
@@ -280,4 +280,4 @@ def test_a_default_is_the_same_in_all_packages(name):
         found[path] = [float(value.replace("_", "").rstrip(".")) * (60 if "Minute" in unit else 1) for value, unit in values]
     assert found == {path: [due] for path in written}
     if name == "wait":
-        assert f"long wait = {due}000;" in (TOP / "java/src/main/java/svid/Options.java").read_text()
+        assert f"long wait = {due}000;" in (TOP / "packages/java/src/main/java/svid/Options.java").read_text()

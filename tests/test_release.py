@@ -1,4 +1,4 @@
-"""What packaging/release builds: the same bytes wherever the checkout is, and artifacts that work without it. Each is installed by what its users
+"""What tools/packaging/release builds: the same bytes wherever the checkout is, and artifacts that work without it. Each is installed by what its users
 install it with, in a folder from where no checkout can be seen and no network be reached, and accepts a token once. Its list names all that is inside."""
 
 import base64
@@ -25,7 +25,7 @@ SPIFFE_ID = "spiffe://example.org/billing/api"
 # Where Debian has glibc for aarch64, and the emulator that runs programs over it.
 EMULATOR = ["qemu-aarch64-static", "-L", "/usr/aarch64-linux-gnu"]
 NEEDED = "go cargo npm node cc pkg-config dpkg-deb buildah unshare readelf qemu-aarch64-static aarch64-linux-gnu-gcc man"
-JAR = (TOP / "java/build").exists()
+JAR = (TOP / "packages/java/build").exists()
 NEEDED += " javac java" if JAR else ""
 MODULE = "go/build module" in (TOP / "go/build").read_text()
 NAMES = [
@@ -43,7 +43,7 @@ NAMES = [
 BESIDE = ("SHA256SUMS", ".spdx.json", ".vex.json")
 
 
-sys.path.insert(0, str(TOP / "packaging"))
+sys.path.insert(0, str(TOP / "tools/packaging"))
 VEX = importlib.import_module("vex")
 script = importlib.import_module("common").loaded
 DOCS = script("tools/docs")
@@ -58,8 +58,8 @@ def output(*words, **more):
 @pytest.fixture(scope="session")
 def releases(request, session):
     """Two releases: of this checkout, and of a copy elsewhere without .git, under another umask, time zone and language. The first one stays where
-    SVID_RELEASE names a folder for it, which tests/run services and packaging/test take. The other one is built beside the tests of the first one, and the
-    last test awaits it."""
+    SVID_RELEASE names a folder for it, which tests/run services and tools/packaging/test take. The other one is built beside the tests of the first
+    one, and the last test awaits it."""
     for command in NEEDED.split():
         needs(command)
     if os.getuid():
@@ -76,12 +76,12 @@ def releases(request, session):
     one = Path(os.environ.get("SVID_RELEASE") or session / "one")
 
     def release_elsewhere():
-        output(copy / "packaging/release", session / "two", env=os.environ | other, umask=0o077, timeout=3600)
+        output(copy / "tools/packaging/release", session / "two", env=os.environ | other, umask=0o077, timeout=3600)
         shutil.rmtree(copy)
         return session / "two"
 
     # (one after the other: side by side each would compile what the other one does)
-    output(TOP / "packaging/release", one, umask=0o022, timeout=3600)
+    output(TOP / "tools/packaging/release", one, umask=0o022, timeout=3600)
     with ThreadPoolExecutor(1) as pool:
         wanted = any(it.name == "test_the_same_bytes_from_another_folder" for it in request.session.items)
         yield one, pool.submit(release_elsewhere) if wanted else None
@@ -168,7 +168,7 @@ def test_the_sums(release):
 
 
 def refusal(*words):
-    """What packaging/release says where it builds nothing."""
+    """What tools/packaging/release says where it builds nothing."""
     ran = subprocess.run(words, stdin=subprocess.DEVNULL, capture_output=True, text=True, timeout=600)
     assert (ran.returncode, ran.stdout) == (1, "")
     return ran.stderr
@@ -176,29 +176,28 @@ def refusal(*words):
 
 def test_a_folder_that_is_no_release_stays(tmp_path):
     (tmp_path / "mine").write_text("mine")
-    assert f"{tmp_path} is there, and is no release" in refusal(TOP / "packaging/release", tmp_path)
+    assert f"{tmp_path} is there, and is no release" in refusal(TOP / "tools/packaging/release", tmp_path)
     assert [it.name for it in tmp_path.iterdir()] == ["mine"]
 
 
 def test_a_folder_for_a_package_is_made(tmp_path):
-    """As by `packaging/build out` in a fresh checkout."""
-    shutil.copytree(TOP / "packaging", tmp_path / "packaging", ignore=shutil.ignore_patterns("__pycache__"))
+    """As by `tools/packaging/build out` in a fresh checkout."""
+    shutil.copytree(TOP / "tools/packaging", tmp_path / "tools/packaging", ignore=shutil.ignore_patterns("__pycache__"))
     shutil.copy(TOP / "VERSION", tmp_path)
     (tmp_path / "install").write_text("#!/bin/sh\nexit 1\n")
     (tmp_path / "install").chmod(0o755)
     said = subprocess.run(
-        ["packaging/build", "a/out"], cwd=tmp_path, env=os.environ | {"SOURCE_DATE_EPOCH": "0"}, capture_output=True, text=True
+        ["tools/packaging/build", "a/out"], cwd=tmp_path, env=os.environ | {"SOURCE_DATE_EPOCH": "0"}, capture_output=True, text=True
     )
-    assert said.stderr == "packaging/build: ./install failed\n" and (tmp_path / "a/out").is_dir()
-    said = subprocess.run(["packaging/build", "a", "b"], cwd=tmp_path, capture_output=True, text=True)
+    assert said.stderr == "tools/packaging/build: ./install failed\n" and (tmp_path / "a/out").is_dir()
+    said = subprocess.run(["tools/packaging/build", "a", "b"], cwd=tmp_path, capture_output=True, text=True)
     assert said.returncode == 2 and not (tmp_path / "b").exists()
 
 
 def test_no_release_of_other_sources(tmp_path):
-    for name in "packaging", "tools":
-        shutil.copytree(TOP / name, tmp_path / name, ignore=shutil.ignore_patterns("__pycache__"))
+    shutil.copytree(TOP / "tools", tmp_path / "tools", ignore=shutil.ignore_patterns("__pycache__"))
     shutil.copy(TOP / "VERSION", tmp_path)
-    assert "dist/ was not built from these sources: run ./prove --release" in refusal(tmp_path / "packaging/release")
+    assert "dist/ was not built from these sources: run ./prove --release" in refusal(tmp_path / "tools/packaging/release")
     assert not (tmp_path / "out").exists()
 
 
@@ -449,7 +448,13 @@ def test_each_link_of_a_document_leads_somewhere(room, name, usr):
     room.run(*(["dpkg-deb", "-x", room.take(name), "."] if name.endswith(".deb") else ["tar", "-xf", room.take(name)]))
     root = (room.folder / usr).resolve()
     documents = sorted((root / "share/doc/svid").rglob("*.md"))
-    assert {"README.md", "INSTALL.md", "SIDECAR.md", "CHANGELOG.md"} <= {it.name for it in documents}
+    # (these paths stay within a major version, wherever the folders are in the repository)
+    kept = (
+        "README.md CHANGELOG.md docs/INSTALL.md docs/SIDECAR.md go/README.md python/README.md rust/README.md node/README.md java/README.md"
+    )
+    kept = {*kept.split(), "page/README.md", "cases/README.md", "vectors/README.md", "bench/README.md"}
+    assert kept <= {it.relative_to(root / "share/doc/svid").as_posix() for it in documents}
+    assert (root / "share/doc/svid/include/svid.h").resolve() == root / "include/svid.h"
     links = [(it, link) for it in documents for link in re.findall(r"\]\(([^)\s]+)\)", it.read_text()) if not re.match(r"\w+:", link)]
     assert len(links) > 300
     lost = []
@@ -468,7 +473,7 @@ def test_a_signature_of_the_sums(tmp_path):
     """A dry run, with keys that are made here."""
     needs("gpg")
     needs("gpgv")
-    for it in "packaging", "tools", "VERSION":
+    for it in "tools", "VERSION":
         (shutil.copytree if (TOP / it).is_dir() else shutil.copy)(TOP / it, tmp_path / it)
     release = tmp_path / "release"
     release.mkdir()
@@ -481,7 +486,7 @@ def test_a_signature_of_the_sums(tmp_path):
         try:
             for name in "owner@example.org", "other@example.org":
                 output(*gpg, "--passphrase", "", "--quick-generate-key", name, "ed25519", "sign", "never")
-            words = [tmp_path / "packaging/release", "--sign"]
+            words = [tmp_path / "tools/packaging/release", "--sign"]
 
             def refused(name):
                 ran = subprocess.run(
@@ -491,7 +496,7 @@ def test_a_signature_of_the_sums(tmp_path):
                 return ran.stderr
 
             assert "write your public key to it (gpg --armor --export KEY), and commit it" in refused("owner@example.org")
-            (tmp_path / "packaging/release-key.asc").write_text(output(*gpg, "--armor", "--export", "owner@example.org"))
+            (tmp_path / "tools/packaging/release-key.asc").write_text(output(*gpg, "--armor", "--export", "owner@example.org"))
             assert "is not the key that signed. Nothing is signed" in refused("other@example.org")
             (release / "file").write_text("another\n")
             assert "file: FAILED" in refused("owner@example.org")
@@ -502,7 +507,7 @@ def test_a_signature_of_the_sums(tmp_path):
     # What INSTALL.md says to do, as somebody who has nothing but the public key.
     with tempfile.TemporaryDirectory() as home:
         [block] = re.findall(r"```\n(gpg --import .*?)```", (TOP / "docs/INSTALL.md").read_text(), re.S)
-        shutil.copy(tmp_path / "packaging/release-key.asc", release)
+        shutil.copy(tmp_path / "tools/packaging/release-key.asc", release)
         script = ["bash", "-ec", block]
         assert (
             "Good signature"
@@ -520,7 +525,7 @@ def test_what_is_said_of_known_faults(release):
     """Of the form of OpenVEX 0.2.0, of each row, and of each artifact that has svidd."""
     said = json.loads((release / f"svid-{VERSION}.vex.json").read_text())
     assert {"@context", "@id", "author", "timestamp", "version", "statements"} <= said.keys()
-    rows = tomllib.loads((TOP / "packaging/faults.toml").read_text())["fault"]
+    rows = tomllib.loads((TOP / "tools/packaging/faults.toml").read_text())["fault"]
     assert [it["vulnerability"]["name"] for it in said["statements"]] == [it["names"][0] for it in rows]
     machines = [f"svid_{VERSION}_{it}.deb" for it in ARCHITECTURES] + [f"svidd-{VERSION}-{it}.oci.tar" for it in ARCHITECTURES]
     machines += [f"svid-{VERSION}-linux-{it}.tar.gz" for it in MACHINES.values()]
@@ -669,7 +674,7 @@ def test_what_is_in_a_wheel_is_recorded(unpacked, it):
 )
 def test_the_glibc_of_a_tag(tmp_path, source, flags, due):
     needs("cc")
-    module = script("packaging/wheel")
+    module = script("tools/packaging/wheel")
     (tmp_path / "one.c").write_text(source)
     output("cc", "-shared", "-fPIC", "-o", tmp_path / "one.so", tmp_path / "one.c", *flags)
     if isinstance(due, tuple):

@@ -84,7 +84,7 @@ def of_rust(room):
     }.items():
         (room.folder / name).parent.mkdir(exist_ok=True)
         (room.folder / name).write_text(text)
-    # (of the compiler that is used here, wherever that is; rust/test compiles the same crates of others in this target)
+    # (of the compiler that is used here, wherever that is; packages/rust/test compiles the same crates of others in this target)
     tools = Path(output("rustc", "--print", "sysroot").strip()) / "bin"
     target = os.environ.get("SVID_RUST_TARGET", f"{room.folder}/target")
     path = f"{tools}:/usr/sbin:/usr/bin:/sbin:/bin"
@@ -138,7 +138,7 @@ def release(session):
         pytest.skip("mounts want root")
     made = Path(os.environ.get("SVID_RELEASE") or session / "release")
     if not (made / "SHA256SUMS").exists():
-        output(TOP / "packaging/release", made, umask=0o022, timeout=3600)
+        output(TOP / "tools/packaging/release", made, umask=0o022, timeout=3600)
     return made
 
 

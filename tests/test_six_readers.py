@@ -146,7 +146,7 @@ class Readers:
                 "-Wall",
                 "-Wextra",
                 "-Werror",
-                f"-I{TOP}/include",
+                f"-I{TOP}/packages/c/include",
                 f"-I{TOP}/examples/embed",
                 "-o",
                 self.six,
@@ -179,7 +179,12 @@ class Readers:
         return [f"accepted {row[2]} {row[1]}" if row[0] == "0" else f"refused {NAMES.get(int(row[0]), row[0])}" for row in rows]
 
     def python(self, group: Group, cases: list[Case], now: int) -> Answers:
-        env = {"LIBSVID": str(self.shared), "PYTHONPATH": str(TOP / "python"), "PYTHONDONTWRITEBYTECODE": "1", "PYTHONIOENCODING": "utf-8"}
+        env = {
+            "LIBSVID": str(self.shared),
+            "PYTHONPATH": str(TOP / "packages/python"),
+            "PYTHONDONTWRITEBYTECODE": "1",
+            "PYTHONIOENCODING": "utf-8",
+        }
         return self.shares(
             group,
             cases,

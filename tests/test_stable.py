@@ -31,17 +31,17 @@ def options():
 
 def numbers():
     """Of the header, but for its version."""
-    header = read("include/svid.h")
+    header = read("packages/c/include/svid.h")
     found = re.findall(r"^\s*(?:#define )?(SVID_\w+)(?: =)? (\d+)\b", header, re.M)
     return [f"{name} {number}" for name, number in found if not name.startswith("SVID_VERSION")]
 
 
 def packages():
-    yield f"Debian {re.search(r'^Package: (.*)$', read('packaging/build'), re.M)[1]}"
+    yield f"Debian {re.search(r'^Package: (.*)$', read('tools/packaging/build'), re.M)[1]}"
     yield f"Go {re.search(r'^module (.*)$', read('go/go.mod'), re.M)[1]}"
-    yield f"Node {json.loads(read('node/package.json'))['name']}"
-    yield f"Python {tomllib.loads(read('python/pyproject.toml'))['project']['name']}"
-    yield f"Rust {tomllib.loads(read('rust/svid/Cargo.toml'))['package']['name']}"
+    yield f"Node {json.loads(read('packages/node/package.json'))['name']}"
+    yield f"Python {tomllib.loads(read('packages/python/pyproject.toml'))['project']['name']}"
+    yield f"Rust {tomllib.loads(read('packages/rust/svid/Cargo.toml'))['package']['name']}"
     yield from (f"C {it}" for it in re.findall(r"^link (libsvid\.so\.\d+) ", read("install"), re.M))
 
 
@@ -51,7 +51,7 @@ def named():
     reasons = read("go/internal/server/http.go")
     return {
         "alert": re.findall(r"^ +- alert: (\w+)", read("go/deploy/prometheus/rules.yaml"), re.M),
-        "call of C": re.findall(r"^(?!static)\w[\w ]*?\*?(svid_\w+)\(", read("include/svid.h"), re.M),
+        "call of C": re.findall(r"^(?!static)\w[\w ]*?\*?(svid_\w+)\(", read("packages/c/include/svid.h"), re.M),
         "exit status": [" ".join(it) for it in re.findall(r"^\texit(\w+) += (\d)", read("go/cmd/svidd/main.go"), re.M)],
         "field of the log": ["time", *re.findall(r'append\w+\(line, "(\w+)"', log), *re.findall(r',"(\w+)":`', log)],
         "metric": metrics(),

@@ -18,9 +18,9 @@ UNFIT = "dist/ was not built from these sources"
 STALE = "dist/ was not built from these sources, or a file of it is not whole"
 SOURCE = "crates/svid_id/src/lib.rt"
 # What of the checkout the copies have: all that ./svid, ./prove and the tools look at.
-PARTS = "svid prove install tools tests dist page include man completions crates.txt HANDLES examples/bundles.json examples/token.txt cases/uses.case".split()
+PARTS = "svid prove install tools tests dist packages/page packages/c crates.txt HANDLES examples/bundles.json examples/token.txt".split()
 # What the tests change, in place.
-EDITED = ["dist", "page", "include", "crates.txt", "crates/svid_id"]
+EDITED = ["dist", "packages/page", "packages/c", "crates.txt", "crates/svid_id"]
 
 
 @pytest.fixture(scope="session")
@@ -280,7 +280,7 @@ FOUND = {
     "KIT is changed, and its sum with it": (other_kit_with_its_sum, "names another kit"),
     **{
         f"{name} is changed": (lambda copy, name=name: copy.append(name), "the page of dist/ was not built from these sources")
-        for name in ("page/src/page.js", "page/module/heap.c", "page/build", "include/svid.h")
+        for name in ("packages/page/src/page.js", "packages/page/module/heap.c", "packages/page/build", "packages/c/include/svid.h")
     },
 }
 

@@ -1,4 +1,4 @@
-"""The vectors of vectors/ are what the program that makes them writes, and the program `svid` and the C library answer each as it says is due.
+"""The vectors of tests/vectors/ are what the program that makes them writes, and the program `svid` and the C library answer each as it says is due.
 
 The tests of the Go library, the Python package and the page see to theirs; here, whether each of them names each file that has vectors for it."""
 
@@ -9,14 +9,14 @@ import subprocess
 import pytest
 from conftest import TOP, needs
 
-VECTORS = TOP / "vectors"
+VECTORS = TOP / "tests/vectors"
 FILES = {path.stem: json.loads(path.read_text()) for path in sorted(VECTORS.glob("*.json"))}
 # What the tests of the other languages read, and how they name a file.
 READERS = {
     "go": ["go/internal/vectors/vectors_test.go"],
-    "page": ["page/tests/verdicts.mjs", "page/tests/vectors.test.mjs"],
-    "python": ["python/tests/test_vectors.py", "python/tests/vectors.py", "python/tests/test_allow.py"],
-    "rust": ["rust/svid/tests/vectors.rs", "rust/svid/src/journal/tests.rs"],
+    "page": ["packages/page/tests/verdicts.mjs", "packages/page/tests/vectors.test.mjs"],
+    "python": ["packages/python/tests/test_vectors.py", "packages/python/tests/vectors.py", "packages/python/tests/test_allow.py"],
+    "rust": ["packages/rust/svid/tests/vectors.rs", "packages/rust/svid/src/journal/tests.rs"],
 }
 
 
@@ -121,7 +121,9 @@ def by_the_library(session, archive):
         "-fno-sanitize-recover=all",
     ]
     sources = [TOP / "tests/c/vectors.c", embed / "verify.c", embed / "jwk.c", archive, "-lcrypto", "-ljansson"]
-    subprocess.run(["cc", *words, f"-I{TOP}/include", f"-I{embed}", *filter(exists, sources), "-o", session / "vectors"], check=True)
+    subprocess.run(
+        ["cc", *words, f"-I{TOP}/packages/c/include", f"-I{embed}", *filter(exists, sources), "-o", session / "vectors"], check=True
+    )
     return subprocess.run([session / "vectors", VECTORS], capture_output=True, text=True)
 
 

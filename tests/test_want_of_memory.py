@@ -1,6 +1,6 @@
 """The table "Out of memory, call by call" of crates/PROOFS.md fits the sources and the cases.
 
-Each public call of each library stands in a row, and each row names calls that are public. Each call of a row is named in a table of cases/README.md,
+Each public call of each library stands in a row, and each row names calls that are public. Each call of a row is named in a table of tests/cases/README.md,
 by a line of svid_script that makes it; and one such line stands in a case that tools/cases runs with each allocation refused, or, of a call that
 takes no memory, in any case. Laws, which do nothing, and calls of std's traits need no row."""
 
@@ -67,9 +67,9 @@ def words():
 
 @pytest.fixture(scope="module")
 def lines():
-    """For the last word of each call that cases/README.md names, the words of the lines that make it."""
+    """For the last word of each call that tests/cases/README.md names, the words of the lines that make it."""
     found = {}
-    for cells in (line.split(" | ") for line in text_of("cases/README.md").splitlines() if line.startswith("| `") and " | " in line):
+    for cells in (line.split(" | ") for line in text_of("tests/cases/README.md").splitlines() if line.startswith("| `") and " | " in line):
         for call in re.findall(r"`([\w:]+)`", cells[1]):
             found.setdefault(call.split("::")[-1], set()).update(re.findall(r"`([a-z_.]+)[^`]*`", cells[0]))
     return found
@@ -83,7 +83,7 @@ def test_the_calls_of_a_row_are_tested(row, words, lines):
     every, swept = words
     for call in re.findall(r"[\w:]+", names):
         made_by = lines.get(call.split("::")[-1], set())
-        assert made_by, f"{call}: no line of cases/README.md makes it"
+        assert made_by, f"{call}: no line of tests/cases/README.md makes it"
         assert made_by & (swept if takes == "yes" else every), f"{call}: no case has a line that makes it: {', '.join(sorted(made_by))}"
 
 

@@ -1,6 +1,6 @@
 """Wrong bodies of what nobody proves: for each, the test that it names must fail.
 
-go/wrong/run, page/wrong/run and python/wrong/run say what their language needs, and this does the rest. The file
+go/wrong/run, packages/page/wrong/run and packages/python/wrong/run say what their language needs, and this does the rest. The file
 wrong/PATH.edits of a language's folder lists those of its file PATH. tools/edits.py has the form; here each has a line
 'why:', and a line 'test:' for each test that must catch it.
 

@@ -1,4 +1,4 @@
-"""Writes what live.c, live.py and rust/src/bin/live run on: new keys, tokens that they sign, and the answers that are due.
+"""Writes what live.c, live.py and packages/rust/src/bin/live run on: new keys, tokens that they sign, and the answers that are due.
 
 Usage: tokens.py FOLDER. Writes bundles.json, renewed.json (the bundles as they are later), tokens.txt (a name and a token a line), and
 due.txt, the lines that live.py prints, sorted. Needs the packages `cryptography` and `jwt` (PyJWT), which signs."""

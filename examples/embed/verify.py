@@ -1,5 +1,5 @@
 """Whether a key made the signature of a token, by the package `cryptography`. A busy service reads each key once, and keeps it by its
-algorithm and JSON text, as python/svid/_signatures.py does."""
+algorithm and JSON text, as packages/python/svid/_signatures.py does."""
 import base64
 from cryptography.exceptions import InvalidSignature, UnsupportedAlgorithm
 from cryptography.hazmat.primitives import hashes

@@ -4,7 +4,7 @@ package svid
 
 // The C library and its header. (In the module they are beside this file: `go/build module`.)
 
-// #cgo CFLAGS: -I${SRCDIR}/../../include
+// #cgo CFLAGS: -I${SRCDIR}/../../packages/c/include
 // #cgo linux,amd64 LDFLAGS: ${SRCDIR}/../../dist/x86_64/libsvid.a
 // #cgo linux,arm64 LDFLAGS: ${SRCDIR}/../../dist/aarch64/libsvid.a
 import "C"

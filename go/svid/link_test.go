@@ -10,7 +10,7 @@ import (
 
 // The header of this folder says the sum of the one that it includes. Go compiles this package anew only if a file of this folder has changed.
 func TestTheHeaderSaysTheSumOfTheOneThatItIncludes(t *testing.T) {
-	included, err := os.ReadFile("../../include/svid.h")
+	included, err := os.ReadFile("../../packages/c/include/svid.h")
 	if err != nil {
 		t.Fatal(err)
 	}
@@ -19,7 +19,7 @@ func TestTheHeaderSaysTheSumOfTheOneThatItIncludes(t *testing.T) {
 		t.Fatal(err)
 	}
 	sum := sha256.Sum256(included)
-	if due := hex.EncodeToString(sum[:]); !bytes.Contains(header, []byte(due+" */\n#include \"../../include/svid.h\"\n")) {
-		t.Errorf("write the sum of include/svid.h into go/svid/svid.h: %s", due)
+	if due := hex.EncodeToString(sum[:]); !bytes.Contains(header, []byte(due+" */\n#include \"../../packages/c/include/svid.h\"\n")) {
+		t.Errorf("write the sum of packages/c/include/svid.h into go/svid/svid.h: %s", due)
 	}
 }

@@ -148,7 +148,7 @@ func TestKeyErrorsInWords(t *testing.T) {
 
 // An error of messages says what is wrong and due.
 func TestMessageErrorsInWords(t *testing.T) {
-	text, err := os.ReadFile("../../vectors/messages.json")
+	text, err := os.ReadFile("../../tests/vectors/messages.json")
 	if err != nil {
 		t.Fatal(err)
 	}

@@ -1,4 +1,4 @@
-/* Makes the calls of the files in vectors/ (vectors/README.md) by the C library, with signatures by examples/embed/verify.c.
+/* Makes the calls of the files in tests/vectors/ (tests/vectors/README.md) by the C library, with signatures by examples/embed/verify.c.
  * Usage: vectors FILE.json.. It says which answers are not those that are due, and how many vectors of each file it read. */
 #include "svid.h"
 #include "verify.h"

@@ -31,7 +31,7 @@ var taken = regexp.MustCompile(`^go\.mod$|^README\.md$|\.go$|^internal/dev/page\
 // The library and its header are beside go/ in the checkout. In the module they are in the folder of the package that links them: `go mod
 // vendor` copies no folder without Go files.
 var library = []struct{ outside, flag, within string }{
-	{"include/svid.h", "-I${SRCDIR}/../../include", "svid.h"},
+	{"packages/c/include/svid.h", "-I${SRCDIR}/../../packages/c/include", "svid.h"},
 	{"dist/x86_64/libsvid.a", "${SRCDIR}/../../dist/x86_64/libsvid.a", "libsvid_amd64.a"},
 	{"dist/aarch64/libsvid.a", "${SRCDIR}/../../dist/aarch64/libsvid.a", "libsvid_arm64.a"},
 }

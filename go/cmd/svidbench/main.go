@@ -1,4 +1,4 @@
-// Svidbench makes what bench/sidecar measures with, and measures what wrk can't: the group as it grows.
+// Svidbench makes what tools/bench/sidecar measures with, and measures what wrk can't: the group as it grows.
 //
 //	svidbench mint --tokens N --out DIR             DIR/bundle.json, and DIR/tokens, one a line; --algorithm RS256 for
 //	                                                another than ES256, --keys N for a bundle of so many keys

@@ -1,4 +1,4 @@
-// Package vectors reads the files of the folder vectors/, which the tests of every language read.
+// Package vectors reads the files of the folder tests/vectors/, which the tests of every language read.
 //
 // The files are outside of the module, so `go test` does not see that one has changed: run it with -count=1.
 package vectors
@@ -54,7 +54,7 @@ func Read[Vector interface{ each() Each }](t testing.TB, name string, file any) 
 	return mine
 }
 
-// folder is the folder vectors/. It stands beside the module, and `go test` runs a test in the folder of its package. (A program that
+// folder is the folder tests/vectors/. It stands beside the module, and `go test` runs a test in the folder of its package. (A program that
 // was compiled with -trimpath does not know where its sources are.)
 func folder(t testing.TB) string {
 	t.Helper()
@@ -64,7 +64,7 @@ func folder(t testing.TB) string {
 	}
 	for module := here; module != filepath.Dir(module); module = filepath.Dir(module) {
 		if _, err := os.Stat(filepath.Join(module, "go.mod")); err == nil {
-			return filepath.Join(filepath.Dir(module), "vectors")
+			return filepath.Join(filepath.Dir(module), "tests", "vectors")
 		}
 	}
 	t.Fatalf("no folder above %s has a go.mod", here)

@@ -1,0 +1,99 @@
+// What the tests share: the package, keys, tokens and bundles.
+
+import { createHash, generateKeyPairSync, randomUUID, sign } from "node:crypto";
+import { readFileSync } from "node:fs";
+import { pathToFileURL } from "node:url";
+
+/** The folder of the package that is tested. */
+export const PACKAGE = process.env.SVID_PACKAGE;
+/** The checkout. */
+export const TOP = process.env.SVID_TOP ?? new URL("../../..", import.meta.url).pathname;
+/** What a module of the package exports. */
+export const imported = (name = "index.js") => import(pathToFileURL(`${PACKAGE}/${name}`));
+
+export const read = (name) => readFileSync(`${TOP}/${name}`, "utf8");
+export const hex = (bytes) => Buffer.from(bytes).toString("hex");
+export const bytesOf = (text) => Uint8Array.from(Buffer.from(text, "hex"));
+/** What lists/statuses.toml says. */
+export const listed = () => import(pathToFileURL(`${TOP}/lists/listed.mjs`));
+/** The time by the clock. */
+export const now = () => Math.floor(Date.now() / 1000);
+
+/** A key with its bundle. */
+export function issuer(kid = "k1", curve = "P-256", domain = "example.org") {
+  const { privateKey, publicKey } = generateKeyPairSync("ec", { namedCurve: curve });
+  const entry = { use: "jwt-svid", kid, ...publicKey.export({ format: "jwk" }) };
+  return { privateKey, entry, kid, domain, bundles: { [domain]: { keys: [entry] } } };
+}
+
+/** A token of this issuer. */
+export function token({ privateKey, kid, domain }, claims = {}, header = {}) {
+  const part = (it) => Buffer.from(JSON.stringify(it)).toString("base64url");
+  const id = `spiffe://${domain}/billing/api`;
+  const signed = `${part({ alg: "ES256", kid, ...header })}.${part({ sub: id, aud: ["ledger"], exp: now() + 3000, jti: randomUUID(), ...claims })}`;
+  return `${signed}.${sign("SHA256", Buffer.from(signed), { key: privateKey, dsaEncoding: "ieee-p1363" }).toString("base64url")}`;
+}
+
+/** What a call answers, in one word: "accepted", or the name of what it throws. */
+export async function said(call) {
+  try {
+    await (typeof call === "function" ? call() : call);
+    return "accepted";
+  } catch (why) {
+    return why.name;
+  }
+}
+
+/** How often each answer stands in a list. */
+export function counted(list) {
+  const found = {};
+  for (const it of list) found[it] = (found[it] ?? 0) + 1;
+  return found;
+}
+
+export const digest = (bytes) => createHash("sha256").update(bytes).digest("hex");
+
+/** What a call opens, and the exports of the instance that it started last. */
+export async function seen(open) {
+  const before = WebAssembly.instantiate;
+  let calls;
+  WebAssembly.instantiate = async (...given) => {
+    const instance = await before(...given);
+    calls = instance.exports;
+    return instance;
+  };
+  try {
+    return [await open(), calls];
+  } finally {
+    WebAssembly.instantiate = before;
+  }
+}
+
+/** Takes all memory that an instance may ever have, and gives the blocks of it that a call needs, to be freed. */
+export function exhausted(calls) {
+  const taken = (size) => calls.room(BigInt(size));
+  const spare = Array.from({ length: 32 }, () => Array.from({ length: 12 }, (_, n) => taken(16 * 2 ** n))).flat();
+  for (let size = 2 ** 31; size >= 16; size /= 2) while (taken(size) !== 0n);
+  return spare;
+}
+
+/** For how many seconds a test waits for what does not come. */
+export const PATIENCE = Number(process.env.SVID_TEST_PATIENCE ?? 180);
+
+// (a test may have a clock of its own)
+const clock = performance.now.bind(performance);
+
+/** Awaits a condition, which may be asynchronous. */
+export async function until(holds) {
+  for (const end = clock() + PATIENCE * 1000; !(await holds()); ) {
+    if (clock() > end) throw new Error("it does not come");
+    await new Promise((resolve) => setTimeout(resolve, 2));
+  }
+}
+
+/** A promise that is kept once `open` is called. */
+export function gate() {
+  const it = {};
+  it.passed = new Promise((resolve) => (it.open = resolve));
+  return it;
+}

@@ -1,0 +1,217 @@
+// PostgresStore, over real servers. The tests of go/claims/postgres run over it too.
+
+import assert from "node:assert/strict";
+import { execFile, spawn } from "node:child_process";
+import { mkdtemp, rm } from "node:fs/promises";
+import { tmpdir } from "node:os";
+import { join } from "node:path";
+import { createInterface } from "node:readline";
+import { after, test } from "node:test";
+import { promisify } from "node:util";
+import { PATIENCE, TOP, imported, issuer, now, said, token, until } from "./making.mjs";
+
+const run = promisify(execFile);
+const { Validator } = await imported();
+const { PostgresStore, StoreFault } = await imported("src/postgres.js");
+const LOUD = { maxBuffer: 1 << 26 };
+const OPEN = { ...process.env, TMPDIR: "/tmp" }; // (the user of PostgreSQL may not go through a folder of this one)
+const room = await mkdtemp(join(tmpdir(), "svid-postgres-"));
+const binary = join(room, "postgres.test"), go = `${TOP}/go`;
+await run("go", ["test", "-c", "-o", binary, "./claims/postgres"], { cwd: go, ...LOUD });
+
+// A server of PostgreSQL, which `kill`, `start`, `pause`, `resume` and SQL are told to.
+const serving = spawn(binary, ["-test.run", "^TestAServerOfAnotherLanguage$"], { env: { ...OPEN, SVID_STORE_SERVER: "1" }, stdio: ["pipe", "pipe", "inherit"] });
+const lines = createInterface({ input: serving.stdout })[Symbol.asyncIterator]();
+const heard = async () => (await lines.next()).value;
+const url = await heard();
+const tell = async (what) => {
+  serving.stdin.write(`${what}\n`);
+  return heard();
+};
+after(async () => {
+  serving.stdin.end();
+  await new Promise((resolve) => serving.once("close", resolve));
+  await rm(room, { recursive: true, force: true });
+});
+
+let groups = 0;
+const OWNER = new Uint8Array(32).fill(111), WITHDRAWN = new Uint8Array(32);
+const claim = (n, owner = OWNER) => ({ key: new Uint8Array(32).fill(n), owner, expires: BigInt(now() + 3000) });
+
+/** A group of its own, whose store is there. */
+async function group() {
+  const name = `group${++groups}`;
+  assert.equal(await tell(`schema ${name}`), "done");
+  return name;
+}
+
+/** Does something with stores, and closes them. */
+async function withStores(all, act) {
+  const stores = await Promise.all(all.map((options) => PostgresStore.open({ servers: url, onWarning: () => {}, ...options })));
+  try {
+    return await act(...stores);
+  } finally {
+    for (const it of stores) it.close();
+  }
+}
+
+/** What the first claim finds, once it is answered. */
+async function put(store, ...claims) {
+  let found;
+  await until(async () => {
+    found = await store.put(claims).catch((why) => assert(why instanceof StoreFault, why));
+    return found;
+  });
+  return found[0];
+}
+
+const isOf = async (store, n, owner) => Buffer.compare((await put(store, claim(n))).owner, owner) === 0;
+
+// The tests of go/claims/postgres, in groups that take some time each.
+const TESTS = {
+  member: "TestAMemberOfAnotherLanguage|TestStore",
+  alone: "TestStoreAlone|TestRights|TestAServerThatForgets|TestAPartOfAStore|TestTLS",
+  ends: "TestStoreOfAServerThatEnds|TestTrouble|TestFullDisk|TestCloseLeavesNothing|TestQuarantine",
+  losses: "TestRowsThatGoByHandEndTheEpoch|TestALookMissesRows|TestAnOlderCopyThatWentOn|TestAStoreMadeAgain|TestADumpThatIsReadInAgain|" +
+    "TestAClockThatIsADayOff|TestASmallStepBack",
+  calls: "TestAClaimThatWaitsWhileTheEpochEnds|TestOneOrder|TestWithdrawalsOfAnotherEpoch|TestAnEntryThatIsGoneMeanwhile|TestWhatIsOverGoes|" +
+    "TestALookAtAStoreOfWhichMuchIsOver|TestTimesOfTheLibrary|TestNobodyLooks|TestAClaimThatIsNotCommitted",
+  standbys: "TestFailoverToAStandbyThatLacksClaims|TestFailoverToAStandbyThatHasAll|TestFailoverToTheWrongStandby|TestACancelledWait",
+  primaries: "TestTwoPrimaries|TestTwoStandbysArePromoted|TestServersOfTwoClusters|TestStandbysAreNotWaitedForAnyMore|TestWhatIsGivenUpEndsAtTheServer",
+};
+async function runs(tests) {
+  const env = { ...OPEN, SVID_STORE_CLIENT: `${process.execPath} ${TOP}/packages/node/tests/store-client.mjs` };
+  const words = ["-test.v", "-test.timeout", "50m", "-test.run", `^(${tests})$`];
+  const ran = await run(binary, words, { cwd: `${go}/claims/postgres`, env, ...LOUD }).catch((why) => why);
+  assert.equal(ran.code, undefined, `${ran.stdout?.match(/^--- FAIL.*/gm)} ${ran.stdout?.slice(-5000)} ${ran.stderr?.slice(-2000)}`);
+  assert.equal(ran.stdout.match(/^--- PASS: /gm).length, tests.split("|").length);
+}
+
+test("go/claims/postgres: a member", () => runs(TESTS.member));
+test("go/claims/postgres: alone with a server", () => runs(TESTS.alone));
+test("go/claims/postgres: a server that ends", () => runs(TESTS.ends));
+test("go/claims/postgres: losses", () => runs(TESTS.losses));
+test("go/claims/postgres: calls", () => runs(TESTS.calls));
+test("go/claims/postgres: standbys", () => runs(TESTS.standbys));
+test("go/claims/postgres: primaries", () => runs(TESTS.primaries));
+
+test("each test of a store in Go is run", async () => {
+  const others = ["TestAServerOfAnotherLanguage", "TestStandbys", "TestOptions", "TestOptionsOfTheEnvironment", "TestTheEpochsRowStays"];
+  const { stdout } = await run(binary, ["-test.list", "^Test"]);
+  assert.deepEqual([...Object.values(TESTS).join("|").split("|"), ...others].sort(), stdout.trim().split("\n").sort());
+});
+
+test("one validator accepts a token", async () => {
+  const name = await group(), one = issuer();
+  await withStores([{ group: name }, { group: name }], async (first, second) => {
+    const terms = { audiences: "ledger", bundles: one.bundles, mode: "strict", wait: PATIENCE };
+    const [a, b] = await Promise.all([first, second].map((store) => Validator.open({ ...terms, store })));
+    const shown = token(one);
+    assert.deepEqual([await said(a.check(shown)), await said(b.check(shown))], ["accepted", "Replayed"]);
+    for (const it of [a, b]) it.close();
+  });
+});
+
+test("a withdrawal wins over a claim", async () => {
+  const name = await group();
+  await withStores([{ group: name }, { group: name }], async (one, other) => {
+    assert(await isOf(one, 1, OWNER));
+    assert(await isOf(other, 1, OWNER));
+    await one.withdraw(claim(1).key, claim(1).expires);
+    assert(await isOf(one, 1, WITHDRAWN));
+    await until(() => isOf(other, 1, WITHDRAWN));
+    await one.withdraw(claim(2).key, claim(2).expires);
+    assert(await isOf(other, 2, WITHDRAWN));
+    await withStores([{ group: name }], async (late) => assert(await isOf(late, 1, WITHDRAWN))); // (it has read all before it answers)
+    const { these, last } = await other.withdrawals();
+    assert.deepEqual(these.map(({ key }) => key[0]), [1, 2]);
+    assert.deepEqual(await other.withdrawals(last), { these: [], last });
+  });
+});
+
+test("a call ends though the server does not answer", async () => {
+  const name = await group();
+  await withStores([{ group: name, wait: 1.5 }], async (store) => {
+    assert(await isOf(store, 1, OWNER));
+    await tell("pause");
+    try {
+      const calls = [() => store.put([claim(2)]), () => store.put([]), () => store.withdraw(claim(3).key, 1n), () => store.withdrawals(), () => store.state()];
+      for (const call of calls) {
+        const begun = performance.now();
+        await assert.rejects(call, StoreFault);
+        assert(performance.now() - begun < (PATIENCE * 1000) / 3); // (a busy machine)
+      }
+    } finally {
+      await tell("resume");
+    }
+    assert(await isOf(store, 2, OWNER));
+  });
+});
+
+test("closing ends calls", async () => {
+  const name = await group();
+  await withStores([{ group: name, wait: PATIENCE }], async (store) => {
+    await put(store, claim(1));
+    await tell("pause");
+    try {
+      const call = store.put([claim(2)]).catch((why) => why.reason);
+      store.close();
+      assert.equal(await call, "closed");
+    } finally {
+      await tell("resume");
+    }
+    store.close();
+    await assert.rejects(store.put([claim(1)]), /closed/);
+  });
+});
+
+test("warnings of a store", async () => {
+  const name = await group(), told = [];
+  const count = (text) => told.filter((it) => it.includes(text)).length;
+  await withStores([{ group: name, onWarning: (text) => told.push(text) }], async (store) => {
+    await put(store, claim(1));
+    await tell(`TRUNCATE ${name}.claim`);
+    await until(() => count("has ended"));
+    await tell("kill");
+    await until(() => count("can't be looked at"));
+    await tell("start");
+    assert((await put(store, claim(1))).deaf >= claim(1).expires);
+  });
+  assert.deepEqual([count("has ended"), count("can't be looked at")], [1, 1]);
+});
+
+test("a store that is not there yet", async () => {
+  await withStores([{ group: "later" }], async (store) => {
+    await assert.rejects(store.put([]), { reason: "missing", message: /svidd schema/ });
+    await tell("schema later");
+    assert(await isOf(store, 1, OWNER));
+  });
+});
+
+test("terms of a store are those of svidd", async () => {
+  const name = await group();
+  await withStores([{ group: name, longest: 8000, ahead: 10 }], async (store) => {
+    await put(store, claim(1));
+    assert.equal(await tell(`DO $$ BEGIN ASSERT (SELECT lasts FROM ${name}.epoch) = 8020; END $$`), "done");
+  });
+  await withStores([{ group: name, ahead: 61 }], (store) => assert.rejects(store.put([]), /give all members the same clock tolerance/));
+});
+
+test("what is no store in PostgreSQL", async () => {
+  for (const options of [
+    {}, { servers: [] }, { servers: "redis://u:secret@h" }, { servers: "postgres://u:secret@h1,h2/d" }, { servers: "secret" }, { servers: url, group: 'a"b' },
+    { servers: url, group: "pg_x" }, { servers: url, group: "x".repeat(64) }, { servers: url, replicas: 0 }, { servers: url, wait: 0 },
+  ]) {
+    await assert.rejects(PostgresStore.open(options), (why) => (why instanceof TypeError || why instanceof RangeError) && !why.message.includes("secret"));
+  }
+});
+
+test("an open store keeps no process", async () => {
+  const name = await group();
+  const program = `import { PostgresStore } from "${process.env.SVID_PACKAGE}/src/postgres.js";
+    const store = await PostgresStore.open({ servers: "${url}", group: "${name}" });
+    for (;;) try { await store.put([]); break; } catch {}
+    console.log("there");`;
+  const { stdout } = await run(process.execPath, ["--input-type=module", "--eval", program], { timeout: PATIENCE * 1000 });
+  assert.equal(stdout, "there\n");
+});

@@ -1,0 +1,432 @@
+//! State folders: the vectors of tests/vectors/, and a disk that fails.
+
+use std::fs;
+use std::sync::atomic::{AtomicBool, AtomicUsize, Ordering};
+use std::sync::Barrier;
+
+use super::file::frames;
+use super::*;
+use crate::common::*;
+use crate::handle::Core;
+use crate::record::{TokenKey, Use};
+
+const WAIT: Duration = Duration::from_secs(60);
+const NOW: u64 = 1_767_225_600;
+
+/// A use of the token of this number.
+fn entry(number: u64) -> Use {
+    let mut key = [0; 32];
+    key[..8].copy_from_slice(&number.to_be_bytes());
+    Use { expires: NOW + 3600, key: TokenKey(key), validator_id: ValidatorId([7; 16]), at: NOW, withdrawn: false }
+}
+
+/// A validator that takes messages of any time, and whose record is empty.
+fn empty() -> Core {
+    Core::open(&ledger().ahead(u64::MAX)).expect("it opens")
+}
+
+/// A validator with the record of a folder.
+fn loaded(journal: &mut Journal) -> Core {
+    let mut validator = empty();
+    journal.load(|messages| validator.take(NOW, messages)).expect("the messages are good");
+    validator
+}
+
+fn uses(validator: &mut Core) -> usize {
+    validator.size().expect("it is open").uses
+}
+
+/// A journal whose calls of the system can be let fail, and how.
+fn failing(room: &Room) -> (Journal, Faults) {
+    let faults = Faults::default();
+    (opened(&room.0, &faults).expect("it is new"), faults)
+}
+
+fn opened(path: &Path, faults: &Faults) -> Result<Journal, JournalError> {
+    Journal::open_by(Folder::hold(path, faults.clone())?)
+}
+
+#[test]
+fn files_of_vectors() {
+    each("files", |_, it| {
+        let (content, mut payloads) = (bytes_of(it, "content"), Vec::new());
+        let (end, at) = frames(&content, number_of(it, "journal"), validator_id_of(it, "folder_id"), |range| {
+            payloads.push(hex(&content[range]));
+            Ok(())
+        })
+        .map_err(|why| why.to_string())?;
+        let due: Vec<&str> = list_of(it, "payloads").iter().map(|it| it.as_str().expect("a text")).collect();
+        same(payloads.iter().map(String::as_str).collect::<Vec<_>>(), due)?;
+        let (name, format) = match end {
+            End::Nothing => ("end", None),
+            End::Tear => ("tear", None),
+            End::Damage => ("damage", None),
+            End::Other(format) => ("format", Some(format)),
+        };
+        same((name, format, at), (text_of(it, "end"), it["format"].as_u64(), number_of(it, "at")))
+    });
+}
+
+#[test]
+fn folders_of_vectors() {
+    each("folders", |_, it| {
+        let room = Room::new("folder");
+        for (name, content) in it["files"].as_object().expect("files by their names") {
+            fs::write(room.0.join(name), from_hex(content.as_str().expect("a text"))).map_err(|why| why.to_string())?;
+        }
+        let file = |name: &str| room.0.join(text_of(it, name));
+        match Journal::open(&room.0) {
+            Ok(mut journal) => {
+                let mut due = empty();
+                due.take(0, &bytes_of(it, "record")).map_err(fault)?;
+                let mut validator = empty();
+                journal.load(|messages| validator.take(0, messages)).map_err(fault)?;
+                // (the moment of a record may be later than that of its uses)
+                let moment = due.size().and_then(|due| Ok(due.moment.max(validator.size()?.moment))).map_err(fault)?;
+                due.tick(moment).and_then(|()| validator.tick(moment)).map_err(fault)?;
+                same(validator.tell(), due.tell())
+            }
+            Err(JournalError::Damaged { file: damaged, at }) => same((damaged, at), (file("damaged"), number_of(it, "at"))),
+            Err(JournalError::OtherFormat { file: other, format }) => same((other, format), (file("of_format"), number_of(it, "format"))),
+            Err(why) => Err(why.to_string()),
+        }
+    });
+}
+
+#[test]
+fn what_was_appended_is_found_again() {
+    let room = Room::new("found");
+    let folder = room.0.join("state");
+    let mut journal = Journal::open(&folder).expect("its parent is there");
+    let id = journal.validator_id();
+    assert_eq!(uses(&mut loaded(&mut journal)), 0);
+    assert!(journal.wants_snapshot());
+    for number in 0..3 {
+        journal.append(&entry(number).message().unwrap(), WAIT).expect("it is kept");
+    }
+    drop(journal.keeper.join(&entry(3).message().unwrap(), None).expect("there is room"));
+    drop(journal);
+
+    let mut journal = Journal::open(&folder).expect("nobody has it");
+    assert_eq!((journal.validator_id(), journal.torn().len()), (id, 0));
+    assert_eq!(uses(&mut loaded(&mut journal)), 4);
+}
+
+#[test]
+fn a_snapshot_replaces_journals() {
+    let room = Room::new("snapshot");
+    let mut journal = Journal::open(&room.0).expect("it is empty");
+    let mut validator = loaded(&mut journal);
+    for number in 0..20_000 {
+        validator.take(NOW, &entry(number).message().expect("it is a message")).expect("it is taken");
+    }
+    journal.append(&entry(0).message().unwrap(), WAIT).expect("it is kept");
+    journal.snapshot(|parts, out| validator.piece(parts, out)).expect("the disk is well");
+    assert!(!journal.wants_snapshot());
+    assert!(!room.0.join("journal.1").exists());
+    validator.take(NOW, &entry(20_000).message().expect("it is a message")).expect("it is taken");
+    journal.append(&entry(20_000).message().unwrap(), WAIT).expect("it is kept");
+    drop(journal);
+
+    let mut journal = Journal::open(&room.0).expect("nobody has it");
+    assert!(!journal.wants_snapshot());
+    assert_eq!(uses(&mut loaded(&mut journal)), 20_001);
+}
+
+#[test]
+fn threads_append_while_a_snapshot_is_taken() {
+    let room = Room::new("threads");
+    let journal = Journal::open(&room.0).expect("it is empty");
+    let validator = Mutex::new(empty());
+    let (begun, is_done, count) = (Barrier::new(5), AtomicBool::new(false), AtomicUsize::new(0));
+    thread::scope(|scope| {
+        for thread in 0..4u64 {
+            let (journal, validator, begun, is_done, count) = (&journal, &validator, &begun, &is_done, &count);
+            scope.spawn(move || {
+                begun.wait();
+                for number in 0.. {
+                    let used = entry(thread * 1_000_000 + number);
+                    validator.lock().unwrap().take(NOW, &used.message().expect("it is a message")).expect("it is taken");
+                    journal.append(&used.message().unwrap(), WAIT).expect("it is kept");
+                    count.fetch_add(1, Ordering::Relaxed);
+                    if is_done.load(Ordering::Acquire) {
+                        break;
+                    }
+                }
+            });
+        }
+        begun.wait();
+        let taken = (0..3).try_for_each(|_| journal.snapshot(|parts, out| validator.lock().unwrap().piece(parts, out)));
+        is_done.store(true, Ordering::Release);
+        taken.expect("the disk is well");
+    });
+    assert_eq!(uses(&mut validator.lock().unwrap()), count.into_inner());
+    drop(journal);
+    let mut journal = Journal::open(&room.0).expect("nobody has it");
+    assert_eq!(uses(&mut loaded(&mut journal)), uses(&mut validator.lock().unwrap()));
+}
+
+#[test]
+fn one_process_holds_a_folder() {
+    let room = Room::new("held");
+    let journal = Journal::open(&room.0).expect("it is empty");
+    match Journal::open(&room.0) {
+        Err(JournalError::Held { folder, holder }) => {
+            assert_eq!(folder, room.0);
+            assert!(holder.starts_with(&format!("process {} on ", std::process::id())), "{holder}");
+        }
+        other => panic!("{other:?}"),
+    }
+    drop(journal);
+    Journal::open(&room.0).expect("it is free again");
+}
+
+#[test]
+fn a_write_that_fails_is_told_and_ends_nothing() {
+    let room = Room::new("write");
+    let (journal, faults) = failing(&room);
+    faults.let_fail(&["write"]);
+    assert!(
+        matches!(journal.append(&entry(1).message().unwrap(), WAIT), Err(JournalError::Io { file, .. }) if file == room.0.join("journal.1"))
+    );
+    journal.append(&entry(2).message().unwrap(), WAIT).expect("the disk is well again");
+    drop(journal);
+    let mut journal = Journal::open(&room.0).expect("nobody has it");
+    assert_eq!(uses(&mut loaded(&mut journal)), 1);
+}
+
+#[test]
+fn a_sync_that_fails_ends_all() {
+    let room = Room::new("sync");
+    let (journal, faults) = failing(&room);
+    journal.append(&entry(1).message().unwrap(), WAIT).expect("the disk is well");
+    faults.let_fail(&["sync"]);
+    assert!(matches!(journal.append(&entry(2).message().unwrap(), WAIT), Err(JournalError::Ended)));
+    assert!(matches!(journal.append(&entry(3).message().unwrap(), WAIT), Err(JournalError::Ended)));
+    let mut validator = empty();
+    assert!(matches!(journal.snapshot(|parts, out| validator.piece(parts, out)), Err(JournalError::Ended)));
+    drop(journal);
+    let mut journal = Journal::open(&room.0).expect("nobody has it");
+    let found = uses(&mut loaded(&mut journal));
+    assert!((1..=2).contains(&found), "{found}");
+}
+
+#[test]
+fn a_snapshot_that_fails_loses_nothing() {
+    // The calls of a snapshot in their order (docs/FORMATS.md, "Order of the calls"), and whether the folder ends with each.
+    for (call, ends) in [("create", false), ("sync folder", true), ("write", false), ("sync", false), ("rename", false), ("remove", false)]
+    {
+        let room = Room::new("failing");
+        let (journal, faults) = failing(&room);
+        let mut validator = empty();
+        validator.take(NOW, &entry(1).message().expect("it is a message")).expect("it is taken");
+        journal.append(&entry(1).message().unwrap(), WAIT).expect("the disk is well");
+        // (the mark of the journal that is closed is written and synced before those of the snapshot)
+        drop(journal.keeper.join(b"", None).expect("there is room"));
+        let mut calls = 0;
+        let is_first = |it: &str| it == "write" || it == "sync";
+        if !is_first(call) {
+            faults.let_fail(&[call]);
+        }
+        let taken = journal.snapshot(|parts, out| {
+            calls += 1;
+            if is_first(call) {
+                faults.let_fail(&[call]);
+            }
+            validator.piece(parts, out)
+        });
+        assert!(taken.is_err(), "{call}");
+        assert_eq!(journal.append(&entry(2).message().unwrap(), WAIT).is_err(), ends, "{call}");
+        assert!(!journal.wants_snapshot(), "{call}: not for a minute");
+        drop(journal);
+        let mut journal = Journal::open(&room.0).expect("nobody has it");
+        assert_eq!(uses(&mut loaded(&mut journal)), if ends { 1 } else { 2 }, "{call}");
+    }
+}
+
+#[test]
+fn a_record_that_is_not_given_is_told() {
+    let room = Room::new("record");
+    let journal = Journal::open(&room.0).expect("it is empty");
+    let why = journal.snapshot(|_, _| Err(Error::NoMemory)).unwrap_err();
+    assert!(matches!(why, JournalError::Record(Error::NoMemory)));
+    assert!(journal.snapshot(|_, _| Ok(0)).is_err());
+    assert!(!room.0.join("snapshot").exists());
+    assert!(!room.0.join("snapshot.new").exists());
+}
+
+#[test]
+fn what_can_not_be_read_is_told() {
+    let with_an_id = || {
+        let room = Room::new("unfit");
+        drop(Journal::open(&room.0).expect("it is empty"));
+        room
+    };
+    let room = with_an_id();
+    fs::write(room.0.join("place"), "0123").unwrap();
+    assert!(matches!(Journal::open(&room.0), Err(JournalError::BadValidatorId { .. })));
+
+    let room = with_an_id();
+    fs::write(room.0.join("journal.9"), b"JSR\x02\x01").unwrap();
+    assert!(matches!(Journal::open(&room.0), Err(JournalError::Old { file }) if file == room.0.join("journal.9")));
+
+    let room = with_an_id();
+    fs::write(room.0.join("frames"), "3\n").unwrap();
+    assert!(matches!(Journal::open(&room.0), Err(JournalError::Old { file }) if file == room.0.join("frames")));
+
+    let room = Room::new("unfit");
+    fs::write(room.0.join("journal.1"), b"anything").unwrap();
+    assert!(matches!(Journal::open(&room.0), Err(JournalError::NoValidatorId { file }) if file == room.0.join("journal.1")));
+
+    let room = with_an_id();
+    fs::create_dir(room.0.join("snapshot")).unwrap();
+    assert!(matches!(Journal::open(&room.0), Err(JournalError::Io { file, .. }) if file == room.0.join("snapshot")));
+
+    let room = Room::new("unfit");
+    assert!(matches!(Journal::open(room.0.join("none/state")), Err(JournalError::Io { .. })));
+}
+
+#[test]
+fn messages_of_any_length() {
+    let room = Room::new("long");
+    let journal = Journal::open(&room.0).expect("it is empty");
+    assert!(matches!(journal.append(&vec![0; MOST + 1], WAIT), Err(JournalError::TooLong)));
+    journal.append(&[], WAIT).expect("nothing is kept at once");
+    journal.append(&vec![7; MOST], WAIT).expect("it is kept");
+    drop(journal);
+    let mut journal = Journal::open(&room.0).expect("nobody has it");
+    let mut found = 0;
+    let counted = journal.load(|it| {
+        found += it.len();
+        Ok::<(), ()>(())
+    });
+    assert_eq!(counted, Ok(()));
+    assert_eq!(found, MOST);
+}
+
+/// Ways in which the path of a folder comes to lead elsewhere.
+type Move = fn(&Path);
+const MOVES: [(&str, Move); 4] = [
+    ("removed", |path| fs::remove_dir_all(path).unwrap()),
+    ("moved", |path| fs::rename(path, path.with_extension("old")).unwrap()),
+    ("emptied", |path| fs::read_dir(path).unwrap().for_each(|it| fs::remove_file(it.unwrap().path()).unwrap())),
+    ("without its lock", |path| fs::remove_file(path.join("lock")).unwrap()),
+];
+
+/// The files of a folder with what is in them, but for the zeros by which a journal grows.
+fn files(path: &Path) -> Vec<(PathBuf, Vec<u8>)> {
+    let mut all: Vec<_> = fs::read_dir(path).unwrap().map(|it| it.unwrap().path()).map(|it| (it.clone(), fs::read(it).unwrap())).collect();
+    all.sort();
+    all
+}
+
+fn is_moved<T>(result: Result<T, JournalError>) -> bool {
+    matches!(result, Err(JournalError::Moved { .. }))
+}
+
+// Another process may have begun at the path, so nothing is told as kept, and its files stay as they are.
+#[test]
+fn a_folder_that_is_moved_keeps_nothing() {
+    for (how, moves) in MOVES {
+        for is_snapshot in [false, true] {
+            let room = Room::new("moved");
+            let path = room.0.join("state");
+            let mut journal = Journal::open(&path).unwrap();
+            let mut validator = loaded(&mut journal);
+            journal.append(&entry(1).message().unwrap(), WAIT).unwrap();
+            moves(&path);
+            let other = Journal::open(&path).unwrap_or_else(|why| panic!("{how}: {why}"));
+            other.append(&entry(2).message().unwrap(), WAIT).unwrap();
+            let before = files(&path);
+            let snapshot = |validator: &mut Core| journal.snapshot(|parts, room| validator.piece(parts, room));
+            if is_snapshot {
+                assert!(is_moved(snapshot(&mut validator)), "{how}");
+            }
+            for number in 3..5 {
+                assert!(is_moved(journal.append(&entry(number).message().unwrap(), WAIT)), "{how}");
+            }
+            assert!(is_moved(snapshot(&mut validator)), "{how}");
+            let (now, first) = (files(&path), path.join("journal.1"));
+            // (without its lock it is the same folder, and the first journal is still that of the first process)
+            let is_own = |file: &Path| how == "without its lock" && file == first;
+            assert!(now.len() == before.len() && now.iter().zip(&before).all(|(a, b)| a == b || is_own(&a.0)), "{how}");
+            other.append(&entry(5).message().unwrap(), WAIT).unwrap();
+        }
+    }
+}
+
+// It stays so though the folder comes back: another process may have had its path meanwhile.
+#[test]
+fn a_folder_that_comes_back_keeps_nothing() {
+    let room = Room::new("back");
+    let (path, old) = (room.0.join("state"), room.0.join("old"));
+    let journal = Journal::open(&path).unwrap();
+    fs::rename(&path, &old).unwrap();
+    assert!(is_moved(journal.append(&entry(1).message().unwrap(), WAIT)));
+    fs::rename(&old, &path).unwrap();
+    let why = journal.append(&entry(1).message().unwrap(), WAIT).unwrap_err().to_string();
+    assert!(why.contains("put it back there, and start the service again"), "{why}");
+}
+
+/// A start of which a call fails, or by which the process is killed. It says whether that call came.
+fn fails(path: &Path, faults: &Faults, call: usize, is_killed: bool) -> bool {
+    faults.ends(Some((call, is_killed)));
+    let why = opened(path, faults).map(drop);
+    assert_eq!(why.is_err(), faults.has_ended(), "call {call}: {why:?}");
+    if !is_killed && matches!(&why, Err(why) if why.to_string().contains("remove this folder")) {
+        fs::remove_dir_all(path).unwrap(); // as someone does who reads that
+    }
+    let came = faults.has_ended();
+    faults.ends(None);
+    came
+}
+
+// A new folder keeps what is appended to it, whichever call of the starts before failed: its own name lasts, and that of the validator ID.
+#[test]
+fn a_new_folder_whose_first_starts_fail() {
+    for is_killed in [false, true] {
+        let (mut first, mut comes) = (0, true);
+        while comes {
+            first += 1;
+            let (mut second, mut next_comes) = (0, true);
+            while next_comes {
+                second += 1;
+                let (room, faults) = (Room::new("first"), Faults::default());
+                let (path, lost) = (room.0.join("state"), room.0.join("lost"));
+                comes = fails(&path, &faults, first, is_killed);
+                next_comes = fails(&path, &faults, second, false);
+                let journal = opened(&path, &faults).expect("the disk is well");
+                journal.append(&entry(1).message().unwrap(), WAIT).unwrap();
+                drop(journal);
+                faults.lost(&path, &lost);
+                let found = Journal::open(&lost).map(|mut journal| uses(&mut loaded(&mut journal)));
+                assert!(matches!(found, Ok(1)), "calls {first} ({is_killed}) and {second}: {found:?}");
+            }
+        }
+        assert!(first > 10, "{first}");
+    }
+}
+
+#[test]
+fn the_folder_above_is_synced_while_nothing_is_kept() {
+    let (room, faults) = (Room::new("above"), Faults::default());
+    let (made, found) = (room.0.join("made"), room.0.join("found"));
+    faults.let_fail(&["sync above"]);
+    assert!(matches!(opened(&made, &faults), Err(JournalError::Io { file, .. }) if file == made));
+    assert!(!made.exists());
+    fs::create_dir(&found).unwrap();
+    faults.let_fail(&["sync above"]);
+    assert!(matches!(opened(&found, &faults), Err(JournalError::NameMayNotLast { folder, .. }) if folder == found));
+    assert!(!found.join("place").exists());
+    // (another user may have made it, or it is mounted where nothing can be made)
+    for code in [13, 1, 22] {
+        faults.let_fail(&["sync above"]);
+        faults.fails_by(code);
+        drop(opened(&found, &faults).unwrap());
+        fs::remove_file(found.join("journal.1")).unwrap();
+    }
+    faults.fails_by(5);
+    drop(opened(&found, &faults).unwrap());
+    faults.let_fail(&["sync above"]);
+    drop(opened(&found, &faults).expect("it has a journal now"));
+}
