@@ -24,7 +24,7 @@ FILES = {
     "python/a.py": '#!/usr/bin/env python3\n"""It begins anew."""\n\n\ndef a():\n    """It begins\n    anew."""\n    return """anew""", "# anew"  # anew\n',
     "tools/a": "#!/usr/bin/env bash\n# It begins anew.\necho '# anew'\n",
     "dist/a.h": "// anew\n",
-    "vectors/a.py": "# anew\n",
+    "tests/vectors/a.py": "# anew\n",
     "docs/a.md": "It begins anew.\n",
 }
 HITS = {
