@@ -1,5 +1,5 @@
 //! The program `svid_script`: it makes the calls that a script on standard input names, one a line, and prints the result of each
-//! call. docs/CASES.md is the language of the scripts.
+//! call. tests/cases/README.md is the language of the scripts.
 #![tactic(auto)]
 
 mod engines;
