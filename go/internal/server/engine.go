@@ -184,6 +184,7 @@ func (e *Engine) Close() {
 	e.alarm.Stop()
 	e.armed = -1 // It is never set again.
 	e.end()
+	e.verified.clear()
 	e.keyring.Close()
 	e.validator.Close()
 }

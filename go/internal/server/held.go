@@ -8,7 +8,8 @@ import (
 )
 
 // A heldToken is a known token that the library keeps open: it was read once, and so was what its key signed. That is no verdict, and says nothing
-// that the token does not say. Requests with the token share it. It is closed once it has made room for another, and no request uses it.
+// that the token does not say. Requests with the token share it. It is closed once it has made room for another, and no request uses it. (Only a token
+// of its hash is compared with it, so no time says how much of a token somebody has guessed.)
 type heldToken struct {
 	token svid.Token   // is given to calls under the engine's lock alone
 	key   *svid.Key    // that made its signature
@@ -23,8 +24,7 @@ type heldToken struct {
 const (
 	// mostHeld is how many tokens are held.
 	mostHeld = 1 << 12
-	// mostHeldLen is how many bytes such a token may have. It takes up to four times as much, and a kilobyte: so all take 8 MB for tokens of
-	// 350 bytes, and never more than 36.
+	// mostHeldLen is how many bytes such a token may have. It is there as it came, as what was read of it, and as what is compared with a key.
 	mostHeldLen = 1 << 11
 )
 

@@ -91,8 +91,9 @@ func TestHeldTokensHaveABound(t *testing.T) {
 	if before.users.Load() != 1 { // (that of recall)
 		t.Errorf("it has %d users", before.users.Load())
 	}
-	for i := 0; i < 2*mostHeld; i++ { // (a free place is taken, too)
-		accept("stays")
+	for i := 0; i < mostHeld; i++ { // (a free place is taken, too)
+		accept(fmt.Sprint("later ", i))
+		accept(fmt.Sprint("later ", i))
 	}
 	if n := len(v.held.of); n != mostHeld {
 		t.Errorf("%d are held", n)
