@@ -242,7 +242,7 @@ func (v *Validator) Found(now uint64, up time.Duration, number uint64, caller [3
 // prepare reads the token, and what the key of VerifiedBy signed, where that was not done. The error is a Refusal, TooLong to Jti, or ErrNoMemory.
 func (t *Token) prepare() error {
 	if !t.isRead {
-		if err := t.read(new(C.svid_told)); err != nil {
+		if err := t.Read(); err != nil {
 			return err
 		}
 	}

@@ -91,9 +91,9 @@ func (t *Token) Close() {
 	}
 }
 
-// Read reads the token, and what the key of VerifiedBy signed, unless that was done before. Else the first call that needs it does: so Read is for who
-// will hold a lock over that. The error is a Refusal, TooLong to Jti, or ErrNoMemory.
-func (t *Token) Read() error { return t.prepare() }
+// Read reads the token, unless that was done before. Else the first call that needs it does: so Read is for who will hold a lock over
+// that. The error is a Refusal, TooLong to Jti, or ErrNoMemory.
+func (t *Token) Read() error { return t.read(new(C.svid_told)) }
 
 // read does that, and told has what the library says of a fault.
 func (t *Token) read(told *C.svid_told) error {
@@ -122,14 +122,17 @@ func (t *Token) complete() error {
 
 // prepare reads the token, and takes what the key of VerifiedBy signed from it. One that can't be read shows the validator the time, too.
 func (v *Validator) prepare(now uint64, t *Token) error {
-	err := t.prepare()
+	err := t.Read()
 	var refusal Refusal
 	if errors.As(err, &refusal) {
 		if err := v.Tick(now); err != nil {
 			return err
 		}
 	}
-	return err
+	if err != nil {
+		return err
+	}
+	return t.complete()
 }
 
 // CheckToken is Check of a token by the key that Keyring.VerifyToken has found. It
