@@ -6,12 +6,14 @@ import (
 	"encoding/hex"
 	"errors"
 	"fmt"
+	"hash/maphash"
 	"net/http"
 	"net/netip"
 	"net/textproto"
 	"net/url"
 	"strconv"
 	"strings"
+	"sync/atomic"
 )
 
 // A CallerRule says what names the caller of a request, in modes bound and reuse:
@@ -29,6 +31,7 @@ type CallerRule struct {
 	kind      string // address, peer, header or principal
 	header    string // its canonical name
 	four, six int    // bits of a network
+	recent    recentCallers
 }
 
 // Source is what is known of a client beside its headers: "" where it is unknown.
@@ -39,7 +42,7 @@ var errCaller = errors.New("write address:HEADER or header:NAME, with a header t
 
 // ParseCaller reads a rule.
 func ParseCaller(text string) (*CallerRule, error) {
-	rule := &CallerRule{text: text, four: 32, six: 128}
+	rule := &CallerRule{text: text, four: 32, six: 128, recent: recentCallers{seed: maphash.MakeSeed()}}
 	rest, network, hasNetwork := strings.Cut(text, "/")
 	kind, header, hasHeader := strings.Cut(rest, ":")
 	rule.kind = kind
@@ -196,8 +199,39 @@ func (c *CallerRule) where() string {
 	return "the header " + c.header
 }
 
+// recentCallers has callers of before, by the texts of their addresses. There is room for so many, and a new one takes the place of another: whoever
+// sends many addresses lets the others be read and digested again, and nothing else.
+type recentCallers struct {
+	seed  maphash.Seed
+	known [1 << 8]atomic.Pointer[recentCaller]
+}
+
+type recentCaller struct {
+	text string
+	Caller
+}
+
+// place is where the caller of a text is kept.
+func (r *recentCallers) place(text string) *atomic.Pointer[recentCaller] {
+	return &r.known[maphash.String(r.seed, text)%uint64(len(r.known))]
+}
+
 // within is the caller of an address, or of its network.
 func (c *CallerRule) within(text string) Caller {
+	place := c.recent.place(text)
+	if one := place.Load(); one != nil && one.text == text {
+		return one.Caller
+	}
+	text = strings.Clone(text) // (It may be part of a longer one.)
+	from := c.networkOf(text)
+	if from.fault == nil {
+		place.Store(&recentCaller{text, from})
+	}
+	return from
+}
+
+// networkOf reads an address.
+func (c *CallerRule) networkOf(text string) Caller {
 	address, err := netip.ParseAddr(text)
 	if err != nil && len(text) > mostShown {
 		return noCaller("%s has %d bytes that are not one IP address: let the proxy set it to that of the client", c.where(), len(text))

@@ -538,6 +538,34 @@ func TestCallersAreToldApart(t *testing.T) {
 	}
 }
 
+// However many addresses come, each is its own caller, and has its own name, also when it comes again.
+func TestRecentCallersAreToldApart(t *testing.T) {
+	rule := ruleOf(t, "address:X-Real-Ip/24,128")
+	of := func(text string) Caller { return rule.Of(http.Header{"X-Real-Ip": {text}}, Source{}) }
+	digests := map[[32]byte]int{}
+	for round := 0; round < 3; round++ {
+		for i := 0; i < 4*len(rule.recent.known); i++ {
+			text := fmt.Sprintf("2001:db8::%x", i+1)
+			from := of(text)
+			if other, is := digests[from.digest]; from.name != text || from.fault != nil || is && other != i {
+				t.Fatalf("%s: %+v, as of address %d", text, from, other)
+			}
+			digests[from.digest] = i
+		}
+	}
+	if len(digests) != 4*len(rule.recent.known) {
+		t.Errorf("%d callers", len(digests))
+	}
+	for i := 0; i < 2; i++ {
+		if one, other := of("192.0.2.1"), of("192.0.2.2"); one != other || one.name != "192.0.2.0/24" {
+			t.Errorf("%+v and %+v", one, other)
+		}
+		if from := of("192.0.2.1:80"); !errors.Is(from.fault, ErrNoCaller) || from.isOne() {
+			t.Errorf("what is no address: %+v", from)
+		}
+	}
+}
+
 // Envoy says the subject of a certificate that has no URI, or a DNS name of it. Many certificates may have one of these, so they name no caller.
 func TestAPrincipalIsAURI(t *testing.T) {
 	rule := ruleOf(t, "principal")

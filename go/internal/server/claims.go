@@ -95,7 +95,8 @@ func (m *Machine) openClaim(r *Request, use svid.Use) {
 	} else {
 		r.claim.Owner = m.ownerOf(r, use.Expires)
 	}
-	if known && (one.found.Owner != r.claim.Owner || m.hears()) {
+	if isOwn := one.found.Owner == r.claim.Owner; known && (!isOwn || m.hears()) {
+		r.isKept = !one.isOld && (one.mine || !isOwn)
 		m.found(r, one.found)
 		return
 	}
@@ -159,7 +160,7 @@ func (b Claimed) happen(m *Machine) {
 
 // found tells the member what the store answered to the claim of a request.
 func (m *Machine) found(r *Request, found svid.Found) {
-	accepted, deed, err := m.validator.Found(m.now.Wall, m.now.Up, r.number, r.Caller, found, &r.read)
+	accepted, deed, err := m.validator.Found(m.now.Wall, m.now.Up, r.number, r.Caller, found, r.reading())
 	lost := err == svid.Replayed && found.Owner != r.claim.Owner
 	switch {
 	case lost && m.Mode == Bound: // (The owner is a digest, and names nobody.)
@@ -167,7 +168,7 @@ func (m *Machine) found(r *Request, found svid.Found) {
 	case lost:
 		r.Owner = found.Owner.ValidatorID()
 	}
-	if lost || m.Mode == Bound && (err == nil || err == svid.ErrClaimDeaf) {
+	if !r.isKept && (lost || m.Mode == Bound && (err == nil || err == svid.ErrClaimDeaf)) {
 		m.claims.known.add(m.now.Up, r, found)
 	}
 	m.judged(r, accepted, deed, err)
@@ -199,6 +200,7 @@ type knownClaim struct {
 	found   svid.Found
 	caller  [32]byte // who asked
 	mine    bool     // the token is that caller's
+	isOld   bool     // it goes soon, unless it is added again
 }
 
 const (
@@ -216,12 +218,13 @@ func (k *knownClaims) add(now time.Duration, r *Request, found svid.Found) {
 	if len(k.young) >= mostKnown || now-k.turned > knownFor && len(k.young) > 0 {
 		k.young, k.old, k.turned = map[svid.TokenKey]knownClaim{}, k.young, now
 	}
-	k.young[r.claim.Key] = knownClaim{r.claim.Expires, found, r.Caller, found.Owner == r.claim.Owner}
+	k.young[r.claim.Key] = knownClaim{expires: r.claim.Expires, found: found, caller: r.Caller, mine: found.Owner == r.claim.Owner}
 }
 
 func (k *knownClaims) find(claim *claims.Claim) (one knownClaim, known bool) {
 	if one, known = k.young[claim.Key]; !known {
 		one, known = k.old[claim.Key]
+		one.isOld = true
 	}
 	return one, known && one.expires == claim.Expires
 }

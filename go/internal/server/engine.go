@@ -184,6 +184,7 @@ func (e *Engine) Close() {
 	e.alarm.Stop()
 	e.armed = -1 // It is never set again.
 	e.end()
+	e.verified.clear()
 	e.keyring.Close()
 	e.validator.Close()
 }
@@ -208,6 +209,9 @@ func (e *Engine) stepFor(own *Request, event Event) {
 	e.mu.Lock()
 	now.Up = time.Since(e.start) // What is late by now is late, however long the lock was waited for.
 	e.machine.Step(now, event)
+	if own != nil && own.done == nil && !own.answered { // Else nobody has to tell its goroutine.
+		own.done = make(chan struct{})
+	}
 	effects := e.machine.Effects(room[:0])
 	e.arm()
 	e.mu.Unlock()
@@ -303,17 +307,22 @@ func (e *Engine) do(own *Request, effect Effect) {
 	}
 }
 
-// findSigner finds the key that made the signature of a request's token. In modes reuse and bound it may be known.
-func (e *Engine) findSigner(r *Request) {
-	if e.Mode.comesAgain() {
-		if r.recalled = e.verified.recall(r.Token); r.recalled.key != nil {
-			r.Key = r.recalled.key
-			_ = r.read.Read() // Here it holds no lock. The validator says what is wrong with the token.
-			return
-		}
+// recall finds what is kept of a request's token, in modes reuse and bound. Where the key is known that made the signature, nobody verifies it.
+func (e *Engine) recall(r *Request) {
+	if !e.Mode.comesAgain() {
+		return
 	}
-	r.Key, r.Fault = e.keyring.VerifyToken(&r.read)
+	r.recalled = e.verified.recall(r.Token)
+	if r.Key = r.recalled.key; r.Key == nil || r.recalled.isHeld {
+		return
+	}
+	t := r.reading()
+	t.VerifiedBy(r.Key)
+	_ = t.Read() // Here it holds no lock. The validator says what is wrong with the token.
 }
+
+// findSigner finds the key that made the signature of a request's token.
+func (e *Engine) findSigner(r *Request) { r.Key, r.Fault = e.keyring.VerifyToken(r.reading()) }
 
 // keep brings the uses of a request to the disk. Nobody waits here for the disk: the machine answers the request, at the latest when its
 // time is over.
@@ -559,23 +568,28 @@ func (e *Engine) judge(ctx context.Context, from Caller, v *verdict) *Rules {
 	r := e.judgeOnce(ctx, from, v.token)
 	for tries := 1; tries < mostTries && r.isOfOldBundles(); tries++ {
 		e.verified.forget(r.recalled)
+		r.recalled.held.letGo()
 		r = e.judgeOnce(ctx, from, v.token)
 	}
 	if e.Mode.comesAgain() && r.Err == nil {
 		e.verified.keep(r.recalled, v.token, r.Key)
 		e.noteCaller(from, r.Accepted.Use, v.token)
 	}
+	r.recalled.held.letGo()
 	v.accepted, v.owner, v.other, v.err = r.Accepted, r.Owner, r.Other, e.ofBundles(v.token, r.Err)
 	return r.rules
 }
 
 func (e *Engine) judgeOnce(ctx context.Context, from Caller, token string) *Request {
 	r := NewRequest(token)
-	r.Caller, r.patient, r.done = from.digest, isPatient(ctx), make(chan struct{})
+	r.Caller, r.patient = from.digest, isPatient(ctx)
+	e.recall(r)
 	e.stepFor(r, r)
-	if e.Mode.claims() {
+	switch {
+	case r.done == nil: // It was answered at once.
+	case e.Mode.claims():
 		e.awaitClaim(ctx, r)
-	} else {
+	default:
 		<-r.done
 	}
 	return r

@@ -4,6 +4,7 @@ package server
 
 import (
 	"context"
+	"encoding/json"
 	"fmt"
 	"testing"
 
@@ -56,7 +57,7 @@ func holdsNoMore(t *testing.T, what string, call func(turn int)) {
 	}
 }
 
-// A token that comes again in mode reuse is read again, and let go.
+// A token that comes again in mode reuse is read once or twice, and held once.
 func TestReusedTokensLeaveNothing(t *testing.T) {
 	e := ready(t, engine(t, Options{Mode: Reuse}))
 	one := token("a")
@@ -67,6 +68,38 @@ func TestReusedTokensLeaveNothing(t *testing.T) {
 			}
 		}
 	})
+}
+
+// What is held of tokens that came again is let go with the bundles, and at the end.
+func TestHeldTokensAreLetGo(t *testing.T) {
+	for what, let := range map[string]func(e *Engine) error{
+		"other bundles": func(e *Engine) error {
+			return e.SetBundles(map[string]json.RawMessage{"example.org": otherwise(t, example.JWKSet())})
+		},
+		"the end": func(e *Engine) error { e.Close(); return nil },
+	} {
+		e := ready(t, engine(t, Options{Mode: Reuse}))
+		before := scarce.Held()
+		const tokens = 200
+		for i := 0; i < tokens; i++ {
+			one := token(fmt.Sprint("held ", i))
+			for n := 0; n < 2; n++ {
+				if err := check(e, one); err != nil {
+					t.Fatal(err)
+				}
+			}
+		}
+		held := scarce.Held() - before
+		if held < tokens {
+			t.Errorf("%d tokens hold %d blocks", tokens, held)
+		}
+		if err := let(e); err != nil {
+			t.Error(err)
+		}
+		if left := scarce.Held() - before; left > held/2 {
+			t.Errorf("%s: of %d blocks %d are left", what, held, left)
+		}
+	}
 }
 
 // So is the token of a request that waited for the claim of another one.

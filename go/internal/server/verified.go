@@ -13,7 +13,8 @@ import (
 // at that moment. So a kept key counts no longer than its bundles. A token is known by a digest of all of it, so its key is of no
 // use for another token.
 //
-// A token is known from its second acceptance on. So one that comes once is not digested, and no known one makes room for it.
+// A token is known from its second acceptance on. So one that comes once is not digested, and no known one makes room for it. Those that come often
+// are held open too, and then the token that comes is compared with the one that is held.
 type verified struct {
 	seed maphash.Seed // of the hashes, which only say where to look
 
@@ -23,6 +24,7 @@ type verified struct {
 	numbers map[*svid.Key]int32
 	once    generations[struct{}]   // hashes of tokens that were accepted
 	known   generations[knownToken] // of those that were accepted again
+	held    heldTokens              // of these, those that the library keeps open
 }
 
 // A knownToken is one that was accepted more than once. (It has no pointers, so that nobody looks through all of them for garbage.)
@@ -45,6 +47,9 @@ type recalled struct {
 	epoch uint64
 	again bool      // it was accepted before, or another one of its hash
 	key   *svid.Key // that made its signature; nil if it is not known
+
+	held   *heldToken // to be used for the token, and let go behind that; nil where it came once, or is too long
+	isHeld bool       // others may use it too: it is read, and by that key
 }
 
 func newVerified() *verified { return &verified{seed: maphash.MakeSeed()} }
@@ -53,17 +58,25 @@ func newVerified() *verified { return &verified{seed: maphash.MakeSeed()} }
 func (v *verified) recall(token string) recalled {
 	had := recalled{hash: maphash.String(v.seed, token)}
 	digest := v.look(&had)
+	if had.held != nil && had.held.token.Text() == token {
+		had.key, had.isHeld = had.held.key, true
+		return had
+	}
+	had.held.letGo()
+	if had.held = nil; had.again {
+		had.held = newHeld(had.hash, token)
+	}
 	if had.key != nil && digestOf(token) != digest {
 		had.key = nil
 	}
 	return had
 }
 
-// look finds what is kept of a hash, and returns the digest of the token that had.key is of.
+// look finds what is kept of a hash, and returns the digest of the token that had.key is of. Whoever calls it lets go what is held of the hash.
 func (v *verified) look(had *recalled) tokenDigest {
 	v.mu.Lock()
 	defer v.mu.Unlock()
-	had.epoch = v.epoch
+	had.epoch, had.held = v.epoch, v.held.get(had.hash)
 	one, ok := v.known.get(had.hash)
 	if ok {
 		had.key, had.again = v.keys[one.key], true
@@ -75,21 +88,29 @@ func (v *verified) look(had *recalled) tokenDigest {
 
 // keep keeps the key that made the signature of an accepted token, unless the bundles were renewed since recall.
 func (v *verified) keep(had recalled, token string, key *svid.Key) {
-	if had.key == key { // It is known.
+	isKnown := had.key == key
+	if isKnown && (had.isHeld || had.held == nil) {
 		return
 	}
 	var digest tokenDigest
-	if had.again {
+	if had.again && !isKnown {
 		digest = digestOf(token)
 	}
 	v.mu.Lock()
 	defer v.mu.Unlock()
-	switch {
-	case had.epoch != v.epoch:
-	case had.again:
-		v.known.add(had.hash, knownToken{digest, v.number(key)})
-	default:
+	if had.epoch != v.epoch {
+		return
+	}
+	if !had.again {
 		v.once.add(had.hash, struct{}{})
+		return
+	}
+	if !isKnown {
+		v.known.add(had.hash, knownToken{digest, v.number(key)})
+	}
+	if had.held != nil && !had.isHeld {
+		had.held.key = key
+		v.held.add(had.held).letGo()
 	}
 }
 
@@ -98,14 +119,17 @@ func (v *verified) forget(had recalled) {
 	v.mu.Lock()
 	defer v.mu.Unlock()
 	v.known.drop(had.hash)
+	v.held.drop(had.hash).letGo()
 }
 
 // clear forgets all keys, since the bundles are other ones. A token that came not long ago is known again from its next acceptance on.
 func (v *verified) clear() {
 	v.mu.Lock()
-	defer v.mu.Unlock()
+	held := v.held
 	v.epoch++
-	v.keys, v.numbers, v.known = nil, nil, generations[knownToken]{}
+	v.keys, v.numbers, v.known, v.held = nil, nil, generations[knownToken]{}, heldTokens{}
+	v.mu.Unlock()
+	held.letGo()
 }
 
 // number is that of a key. The caller holds mu.

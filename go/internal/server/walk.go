@@ -41,7 +41,7 @@ type Request struct {
 	stage    stage
 	left     error // the answer, where the member says that nobody waits for one
 
-	// What the effect Verify is to find.
+	// What the effect Verify is to find, unless Key is known before.
 	Key   *svid.Key // that made the signature; nil where none did
 	Fault error     // why nobody could find that out
 
@@ -56,6 +56,7 @@ type Request struct {
 	// Of modes strict and bound.
 	Owner   svid.ValidatorID // in mode strict: whose claim the token is, where the answer is Replayed by the store; else zeros
 	claim   claims.Claim     // that was put, or waits for a call
+	isKept  bool             // what the store answered was known before, and is kept as it is
 	patient bool             // it has no end but Options.Wait, so its goroutine may put the claim itself
 	fault   error            // what the store said last, where that was no answer
 }
@@ -72,6 +73,14 @@ const (
 
 // NewRequest returns a request that asks about a token.
 func NewRequest(token string) *Request { return &Request{Token: token, read: svid.NewToken(token)} }
+
+// reading is what the library is to read of the token, or has read: it may be held for other requests too.
+func (r *Request) reading() *svid.Token {
+	if r.recalled.held != nil {
+		return &r.recalled.held.token
+	}
+	return &r.read
+}
 
 // Verified: the effect Verify is done.
 type Verified struct{ *Request }
@@ -94,8 +103,12 @@ func (r *Request) happen(m *Machine) {
 	}
 	r.number = deed.Number
 	m.requests[r.number] = r
-	m.comes()
-	m.do(Verify{r})
+	if r.Key == nil {
+		m.comes()
+		m.do(Verify{r})
+	} else if m.verified(r); !r.answered {
+		m.comes()
+	}
 }
 
 // Its signature was verified. A token that the keyring refuses is judged without a key, for the validator to say which refusal comes first.
@@ -105,17 +118,23 @@ func (v Verified) happen(m *Machine) {
 		r.read.Close()
 		return
 	}
-	r.read.VerifiedBy(r.Key)
 	if _, refused := refusalOf(r.Fault); r.Fault != nil && !refused {
 		m.leave(r, r.Fault)
 		return
 	}
+	m.verified(r)
+}
+
+// verified lets the token of a request be judged by the key that made its signature.
+func (m *Machine) verified(r *Request) {
+	r.stage = waiting
+	r.reading().VerifiedBy(r.Key)
 	m.judge(r)
 }
 
 // judge lets the token of a request be judged. Where nothing came of that, as of a token that can't be read, the request ends.
 func (m *Machine) judge(r *Request) {
-	accepted, deed, err := m.validator.JudgeRequest(m.now.Wall, m.now.Up, r.number, &r.read)
+	accepted, deed, err := m.validator.JudgeRequest(m.now.Wall, m.now.Up, r.number, r.reading())
 	m.judged(r, accepted, deed, err)
 }
 

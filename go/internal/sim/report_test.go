@@ -106,6 +106,10 @@ func (m *member) ask(one *token, by int, gives time.Duration) *ask {
 	if gone, done := m.w.store.gone[one.key]; done && gone.by != l.ownerOf(one, a.caller) && !(l.has(one, by) && m.w.now <= gone.at+unheard) {
 		a.withdrawn = true
 	}
+	if m.knows(one) { // (as an engine does, which verifies no such token)
+		a.set, a.rules, a.wall = l.set, l.rules, m.wall()
+		a.request.Key, _ = m.w.pool.verify(l.set, one)
+	}
 	l.asks[&a.request.Call] = a
 	m.w.tell("%v: is asked about %s by caller %d", m, one, by)
 	l.step(a.request)
@@ -123,6 +127,19 @@ func (m *member) ask(one *token, by int, gives time.Duration) *ask {
 		}
 	})
 	return a
+}
+
+// knows says whether the key is known that made the signature of a token, since the member has accepted it, and may accept it again.
+func (m *member) knows(one *token) bool {
+	if m.w.plan.mode != server.Bound && m.w.plan.mode != server.Reuse {
+		return false
+	}
+	for _, other := range m.w.report.accepted[one.key] {
+		if other.by == m {
+			return true
+		}
+	}
+	return false
 }
 
 // claims says whether a token is claimed in the store before it is accepted.
