@@ -173,6 +173,15 @@ def test_one_process_holds_a_folder(tmp_path):
     assert subprocess.run(words, check=True).returncode == 0
 
 
+def test_who_waits_for_a_folder_takes_one_descriptor_no_more(tmp_path):
+    with validator(state=tmp_path):
+        before = os.listdir("/proc/self/fd")
+        for _ in range(3):
+            with pytest.raises(svid.Held):
+                svid.Journal(tmp_path)
+        assert len(os.listdir("/proc/self/fd")) == len(before)
+
+
 def test_a_journal_that_is_dropped_lets_go(tmp_path):
     journal = svid.Journal(tmp_path)
     append(journal, 1)

@@ -848,6 +848,21 @@ def test_a_withdrawal_that_has_expired_is_passed_over(monkeypatch):
         assert [it.key for it in checks.report().uses] == [b"l" * 32]
 
 
+def test_a_store_that_tells_nothing_is_asked_after_a_pause(monkeypatch):
+    """A store that is away would else be asked thousands of times a second, by each member."""
+    monkeypatch.setattr(_claims, "_HEARS", 0.02)
+    store, asked = Pages(), []
+
+    def fails():
+        asked.append(time.monotonic())
+        raise ConnectionError("the store is away")
+
+    store.before = fails
+    with validator(mode="reuse", store=store, wait=0.01):
+        until(lambda: len(asked) > 20)
+    assert min(after - before for before, after in zip(asked, asked[1:])) >= 0.019
+
+
 def test_in_mode_strict_no_withdrawals_are_read():
     store = Pages()
     with strict(store) as checks:
