@@ -388,6 +388,17 @@ def test_a_mark_stands_behind_a_burst(tmp_path, monkeypatch):
         assert end in (whole, whole[: len(end)])
 
 
+def test_a_quiet_journal_writes_nothing_more(tmp_path, monkeypatch):
+    """Its thread waits for the next append, for however long that takes."""
+    monkeypatch.setattr(_journal, "_QUIET", 0.01)
+    with contextlib.closing(svid.Journal(tmp_path)) as journal:
+        gate, waits = journal._keeper._gate, []
+        real = gate.wait
+        monkeypatch.setattr(gate, "wait", lambda most=None: (waits.append(most), real(most))[1])
+        append(journal, 1)
+        until(lambda: 0.01 in waits and waits[-1] is None)
+
+
 # -- Snapshots
 
 

@@ -434,6 +434,18 @@ def test_a_store_that_has_lost_entries():
         assert checks.unready(int(time.time()) + 60) is None
 
 
+def test_what_the_store_has_lost_is_not_forgotten():
+    """An answer that was under way before the loss says nothing of it."""
+    store = svid.testing.MemoryStore(lasts=3620)
+    with strict(store, longest=3600) as checks:
+        store.lose()
+        with pytest.raises(svid.Unavailable, match="before the store lost entries"):
+            checks.check(fresh(jti="1"))
+        store._deaf = 0
+        assert Soon(checks.check, fresh(jti="2")).answer == SUBJECT
+        assert checks.unready().startswith("The store has lost entries")
+
+
 def test_a_token_that_lives_longer_than_the_store_keeps_it():
     now = int(time.time())
     with strict(svid.testing.MemoryStore(now=lambda: now - 3600), longest=3600) as checks:

@@ -166,6 +166,26 @@ def test_https_web(authority, tmp_path, quick):
             soon(checks, ACCEPTED)
 
 
+def test_pauses_grow_up_to_a_bound(monkeypatch):
+    """Who was away for a night is asked again soon, and nobody is asked without a pause."""
+    waits = []
+
+    class Ended(threading.Event):
+        def wait(self, timeout=None):
+            waits.append(timeout)
+            return len(waits) == 10
+
+    def fails(*_):
+        raise OSError("it is away")
+
+    monkeypatch.setattr(_follow, "fetch", fails)
+    followed = _follow.Followed({"example.org": svid.Endpoint("https://127.0.0.1/bundle")})
+    followed._ended = Ended()
+    followed.begin(lambda: None, None)
+    followed.close()
+    assert waits == [0, 1, 2, 4, 8, 16, 30, 30, 30, 30]
+
+
 def test_an_answer_without_an_end_is_not_read(authority, tmp_path, quick, caplog):
     """It would take all memory of the service."""
     with Served(authority.server(tmp_path)) as served:
