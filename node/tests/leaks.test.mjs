@@ -10,7 +10,9 @@ import { runInNewContext } from "node:vm";
 import { PATIENCE, imported, issuer, said, token, until } from "./making.mjs";
 
 const { Bundles, Validator } = await imported(), { MemoryStore } = await imported("testing.js");
-const WARMING = 10, LIVES = 40, SHM = "/dev/shm"; // (a disk would be forced ten times in each life)
+// (each life starts the module nine times: SVID_TEST_LIVES says how many are to be lived)
+const LIVES = Number(process.env.SVID_TEST_LIVES ?? 12), WARMING = Math.ceil(LIVES / 4);
+const SHM = "/dev/shm"; // (a disk would be forced ten times in each life)
 const MOST = 65_536; // the most bytes that a life may add, of what its collector keeps for itself: a module of WebAssembly alone has more
 const away = async () => {
   throw new Error("the store is away");

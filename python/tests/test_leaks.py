@@ -10,7 +10,7 @@ import pytest
 
 from making import PATIENCE
 
-LIVES = 200
+LIVES = int(os.environ.get("SVID_TEST_LIVES") or 100)
 FOLDER = "/dev/shm"  # (a disk would be forced ten times in each life)
 
 
@@ -30,8 +30,11 @@ def test_no_life_leaves_one_behind(held, kind):
     assert after == before
 
 
-@pytest.mark.parametrize(("kind", "most"), [("objects", 1), ("bytes", 1024)])
+@pytest.mark.parametrize(("kind", "most"), [("objects", 1), ("bytes", 4096)])
 def test_lives_do_not_add_up(held, kind, most):
-    """A life that left an object of Python's, or a key of OpenSSL's, would take more each time."""
+    """A life that left an object of Python's, or a room of the library's, would take more each time.
+
+    (What malloc keeps for a thread counts as held: some 70,000 bytes, in few lives or in many.)
+    """
     before, after = (it[kind] for it in held)
     assert after - before < most * LIVES
