@@ -114,6 +114,8 @@ static void answer_all(void) {
             svid_validator_close(&v);
             answered = svid_validator_verify(&v, NOW, token, token_len, says, &it, rows, sizeof rows, out, sizeof out, &used, &told);
             holds(answered == SVID_CLOSED, "a closed validator");
+            answered = svid_validator_verify(&v, NOW, token, 2, says, &it, rows, sizeof rows, out, sizeof out, &used, &told);
+            holds(answered == SVID_CLOSED, "a closed validator, which refuses no token");
         }
     }
 }

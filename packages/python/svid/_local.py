@@ -15,7 +15,7 @@ from . import _library as lib
 from . import _statements as said
 from ._bundles import Path
 from ._journal import Journal
-from .records import Use, batches, entries
+from .records import Use, batches, entries_of
 from .stores import WITHDRAWN, Claim, Found
 
 _HALF = len(WITHDRAWN) // 2
@@ -103,7 +103,7 @@ class LocalStore:
 
     def _take(self, messages: bytes) -> None:
         """Takes messages of the folder."""
-        for withdrawn, until, at, key, half in entries(messages):
+        for withdrawn, until, at, key, half in entries_of(messages):
             self._latest = max(self._latest, at)
             if key == _DEAF:
                 self._deaf = max(self._deaf, until)

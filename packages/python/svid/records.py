@@ -66,10 +66,21 @@ def batches(uses: Iterable[Use]) -> bytes:
 
 def entries(messages: bytes) -> list[tuple[Any, ...]]:
     """The entries of messages, as `svid_entry` has them; none where these are no messages."""
+    try:
+        return entries_of(messages)
+    except BadMessages:
+        return []
+
+
+def entries_of(messages: bytes) -> list[tuple[Any, ...]]:
+    """The same. Raises BadMessages where these are no messages."""
     told, room = lib.Told(), bytearray(_ENTRY.size * (len(messages) // _LEAST + 1))
     lent = (messages, len(messages), lib.address(room), len(room) // _ENTRY.size)
-    if lib.library.svid_entries_read(*lent, lib.address(told)) != lib.OK:
-        return []
+    status = lib.library.svid_entries_read(*lent, lib.address(told))
+    if status == lib.NO_MEMORY:
+        raise no_memory()
+    if status != lib.OK:
+        raise BadMessages(reason(status), told.message, told.offset)
     return [*_ENTRY.iter_unpack(room[: told.len * _ENTRY.size])]
 
 

@@ -173,6 +173,15 @@ def test_one_process_holds_a_folder(tmp_path):
     assert subprocess.run(words, check=True).returncode == 0
 
 
+def test_who_waits_for_a_folder_takes_one_descriptor_no_more(tmp_path):
+    with validator(state=tmp_path):
+        before = os.listdir("/proc/self/fd")
+        for _ in range(3):
+            with pytest.raises(svid.Held):
+                svid.Journal(tmp_path)
+        assert len(os.listdir("/proc/self/fd")) == len(before)
+
+
 def test_a_journal_that_is_dropped_lets_go(tmp_path):
     journal = svid.Journal(tmp_path)
     append(journal, 1)
@@ -377,6 +386,17 @@ def test_a_mark_stands_behind_a_burst(tmp_path, monkeypatch):
         whole = frames(b"svidjnl", 1, journal.validator_id, use(1).message, b"").rstrip(b"\0")
         until(lambda: (tmp_path / "journal.1").read_bytes().rstrip(b"\0") == whole)
         assert end in (whole, whole[: len(end)])
+
+
+def test_a_quiet_journal_writes_nothing_more(tmp_path, monkeypatch):
+    """Its thread waits for the next append, for however long that takes."""
+    monkeypatch.setattr(_journal, "_QUIET", 0.01)
+    with contextlib.closing(svid.Journal(tmp_path)) as journal:
+        gate, waits = journal._keeper._gate, []
+        real = gate.wait
+        monkeypatch.setattr(gate, "wait", lambda most=None: (waits.append(most), real(most))[1])
+        append(journal, 1)
+        until(lambda: 0.01 in waits and waits[-1] is None)
 
 
 # -- Snapshots

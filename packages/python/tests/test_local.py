@@ -6,6 +6,7 @@ import pytest
 
 import svid
 from making import NOW, fresh, until, validator
+from svid import _library as lib
 from svid._local import LocalStore
 from svid.stores import WITHDRAWN, Claim
 
@@ -104,6 +105,17 @@ def test_an_entry_is_on_the_disk_before_it_is_answered(opened, tmp_path):
     for _ in range(2):
         with pytest.raises(svid.Unavailable):
             put(store, b"k", b"1")
+
+
+@pytest.mark.parametrize(("status", "error"), [(2, MemoryError), (18, svid.BadMessages)])
+def test_claims_that_can_not_be_read_are_not_forgotten(opened, monkeypatch, status, error):
+    """A start that has no memory for them ends: without them, a thief would bind each token."""
+    put(opened(), b"k", b"1")
+    with monkeypatch.context() as patched:
+        patched.setattr(lib.library, "svid_entries_read", lambda *_: status)
+        with pytest.raises(error):
+            opened()
+    assert put(opened(), b"k", b"2") == (b"1", 0)
 
 
 def test_the_folder_stays_small(opened, clock, tmp_path, monkeypatch):

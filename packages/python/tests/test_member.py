@@ -434,6 +434,18 @@ def test_a_store_that_has_lost_entries():
         assert checks.unready(int(time.time()) + 60) is None
 
 
+def test_what_the_store_has_lost_is_not_forgotten():
+    """An answer that was under way before the loss says nothing of it."""
+    store = svid.testing.MemoryStore(lasts=3620)
+    with strict(store, longest=3600) as checks:
+        store.lose()
+        with pytest.raises(svid.Unavailable, match="before the store lost entries"):
+            checks.check(fresh(jti="1"))
+        store._deaf = 0
+        assert Soon(checks.check, fresh(jti="2")).answer == SUBJECT
+        assert checks.unready().startswith("The store has lost entries")
+
+
 def test_a_token_that_lives_longer_than_the_store_keeps_it():
     now = int(time.time())
     with strict(svid.testing.MemoryStore(now=lambda: now - 3600), longest=3600) as checks:
@@ -846,6 +858,21 @@ def test_a_withdrawal_that_has_expired_is_passed_over(monkeypatch):
     store.withdraw(b"l" * 32, int(time.time()) + 1000)
     with validator(mode="reuse", store=store) as checks:
         assert [it.key for it in checks.report().uses] == [b"l" * 32]
+
+
+def test_a_store_that_tells_nothing_is_asked_after_a_pause(monkeypatch):
+    """A store that is away would else be asked thousands of times a second, by each member."""
+    monkeypatch.setattr(_claims, "_HEARS", 0.02)
+    store, asked = Pages(), []
+
+    def fails():
+        asked.append(time.monotonic())
+        raise ConnectionError("the store is away")
+
+    store.before = fails
+    with validator(mode="reuse", store=store, wait=0.01):
+        until(lambda: len(asked) > 20)
+    assert min(after - before for before, after in zip(asked, asked[1:])) >= 0.019
 
 
 def test_in_mode_strict_no_withdrawals_are_read():

@@ -7,6 +7,7 @@ import time
 import pytest
 import svid
 from making import NOW, token, validator, verdict
+from svid import _library as lib
 
 ACCEPTED = f"accepted spiffe://example.org/billing/api {NOW + 300}"
 
@@ -363,6 +364,21 @@ def test_messages_from_too_far_ahead():
             a.answer(b.summary(), NOW)
         a.take(use.message, NOW + 1)
         assert a.report().uses == (use,)
+
+
+def test_want_of_memory_hides_no_second_use(monkeypatch):
+    """Nothing is taken then: the same messages, taken again, tell of the token."""
+    said, made = [], token()
+    with validator(on_twice=said.append) as one, validator() as two:
+        key = one.check(made, NOW).use.key
+        message = two.check(made, NOW).use.message
+        with monkeypatch.context() as patched:
+            patched.setattr(lib.library, "svid_entries_read", lambda *_: lib.NO_MEMORY)
+            with pytest.raises(MemoryError):
+                one.take(message, NOW)
+        assert len(one.report().uses) == 1
+        one.take(message, NOW)
+    assert said == [key]
 
 
 def test_a_record_that_is_kept(tmp_path):

@@ -31,6 +31,7 @@ from making import (
     validator,
     verdict,
 )
+from svid import _library as lib
 
 ACCEPTED = f"accepted spiffe://example.org/billing/api {NOW + 300}"
 BAD_SIGNATURE = "refused BadSignature"
@@ -152,6 +153,16 @@ def test_many_keys_are_more_than_the_room():
     with validator(bundle(*entries)) as checks:
         assert verdict(checks, jwt.encode(claims(jti="1"), keys[1], "ES256")) == ACCEPTED
         assert verdict(checks, jwt.encode(claims(jti="2"), keys[2], "ES256")) == BAD_SIGNATURE
+
+
+def test_want_of_memory_for_a_key_is_a_passing_fault(monkeypatch):
+    """It is no bad signature, and the next check reads the key."""
+    with validator() as checks:
+        with monkeypatch.context() as patched:
+            patched.setattr(lib.quick, "svid_key_spki", lambda *_: lib.NO_MEMORY)
+            with pytest.raises(MemoryError):
+                checks.check(token(), NOW)
+        assert verdict(checks, token()).startswith("accepted")
 
 
 def test_a_secret_is_no_key():

@@ -88,7 +88,7 @@ class Served:
     """An HTTPS server, whose answers a test sets."""
 
     def __init__(self, certificate):
-        self.asked, self.answered = 0, 0
+        self.asked, self.answered, self.whole = 0, 0, 0
         self.text, self.status, self.headers = GOOD, 200, {}
         self.hangs = threading.Event()  # set: it goes on
         self.hangs.set()
@@ -105,6 +105,7 @@ class Served:
                         self.send_header(name, value)
                     self.end_headers()
                     self.wfile.write(outer.text)
+                    outer.whole += 1  # (the client has taken all of it)
 
             def log_message(self, *_):
                 """Is silent."""
@@ -163,6 +164,37 @@ def test_https_web(authority, tmp_path, quick):
             soon(checks, ACCEPTED, token(key=private_key("ES256", 1)))
             served.text = GOOD
             soon(checks, ACCEPTED)
+
+
+def test_pauses_grow_up_to_a_bound(monkeypatch):
+    """Who was away for a night is asked again soon, and nobody is asked without a pause."""
+    waits = []
+
+    class Ended(threading.Event):
+        def wait(self, timeout=None):
+            waits.append(timeout)
+            return len(waits) == 10
+
+    def fails(*_):
+        raise OSError("it is away")
+
+    monkeypatch.setattr(_follow, "fetch", fails)
+    followed = _follow.Followed({"example.org": svid.Endpoint("https://127.0.0.1/bundle")})
+    followed._ended = Ended()
+    followed.begin(lambda: None, None)
+    followed.close()
+    assert waits == [0, 1, 2, 4, 8, 16, 30, 30, 30, 30]
+
+
+def test_an_answer_without_an_end_is_not_read(authority, tmp_path, quick, caplog):
+    """It would take all memory of the service."""
+    with Served(authority.server(tmp_path)) as served:
+        served.text = b" " * (64 << 20)
+        endpoint = svid.Endpoint(served.url, authorities=authority.pem(tmp_path))
+        with following(endpoint):
+            until(lambda: [it for it in told(caplog) if "more than 1,048,576 bytes" in it])
+            until(lambda: served.answered > 1)
+        assert served.whole == 0
 
 
 def test_a_bundle_that_did_not_come_is_no_unknown_domain(authority, tmp_path):

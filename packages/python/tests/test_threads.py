@@ -145,6 +145,65 @@ def test_all_calls_at_once(tmp_path):
         assert len(withdrawn) == THREADS * 20
 
 
+@pytest.fixture
+def hasty():
+    """Threads take turns after each step or two, so that one is cut off at any place."""
+    usual = sys.getswitchinterval()
+    sys.setswitchinterval(1e-6)
+    yield
+    sys.setswitchinterval(usual)
+
+
+def test_renewals_against_checks(hasty):
+    """Both bundles have the key of the tokens: no renewal makes a good one refused, or good twice.
+
+    The library knows a key by the text of its entry, which is another one in each.
+    """
+    key, other = private_key("ES256"), private_key("ES256", 1)
+    first = bundle(entry(key, "k1", note="first"))
+    second = bundle(entry(other, "k2"), entry(key, "k1", note="second"))
+    tokens = [token(key=key, jti=str(it)) for it in range(100)]
+    said, is_over = [], threading.Event()
+    with validator(first) as checks:
+
+        def renews():
+            while not is_over.is_set():
+                checks.renew(second)
+                checks.renew(first)
+
+        thread = threading.Thread(target=renews)
+        thread.start()
+        try:
+            in_threads(lambda _: said.extend((it, verdict(checks, it)) for it in tokens))
+        finally:
+            is_over.set()
+            thread.join()
+        assert len(checks.report().uses) == len(tokens)
+    for it in tokens:
+        answers = sorted(answer for which, answer in said if which == it)
+        assert answers == [f"accepted {SUBJECT} {NOW + 300}"] + ["refused Replayed"] * (THREADS - 1)
+
+
+def test_a_key_that_was_taken_away_accepts_nothing(hasty):
+    """A check that began by the old bundles ends by the new ones."""
+    key = private_key("ES256")
+    first, second = bundle(entry(key, "k1")), bundle(entry(private_key("ES256", 1), "k1"))
+    with validator(first) as checks:
+        is_taken, accepted_late = threading.Event(), []
+
+        def work(number):
+            if number == 0:
+                checks.renew(second)
+                return is_taken.set()
+            for which in range(100):
+                is_late = is_taken.is_set()
+                said = verdict(checks, token(key=key, jti=f"{number} {which}"))
+                accepted_late.append(is_late and said.startswith("accepted"))
+
+        in_threads(work)
+        assert not any(accepted_late)
+
+
 def test_closing_while_others_check():
     tokens = [token(jti=str(it)) for it in range(200)]
     checks = validator()
