@@ -26,7 +26,7 @@ class Refused(Exception):
 
 
 def checked_name(name: bytes, at: int) -> str:
-    """The trust domain name that these bytes are, the first of which stands there in the text."""
+    """The trust domain name that these bytes are: the first one stands there in the text."""
     if not name:
         raise Refused("DomainEmpty")
     for index, byte in enumerate(name):

@@ -27,7 +27,7 @@ BUILDS = {
 }
 VALGRIND = ["valgrind", "-q", "--error-exitcode=3", "--leak-check=full", "--show-leak-kinds=definite"]
 RUNS = {
-    # each function of svid.h that keeps nothing, with rooms of many lengths
+    # each stateless function of svid.h, with rooms of many lengths
     "refusing": {"wrapped": "all", "sanitized": "all", "valgrind": "all"},
     # a validator that is kept
     "live": {

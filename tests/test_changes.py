@@ -47,7 +47,7 @@ ID = b"spiffe://aa/bb/cc"
 
 
 def answered(read: Callable[[], list[str]]) -> list[str]:
-    """What is due of what a reader reads, or of its refusal."""
+    """The lines that are due: those that a reader reads, or one of its refusal."""
     try:
         return read()
     except Refused as fault:
@@ -114,7 +114,7 @@ BEARER = re.compile(rb"[ \t]*[Bb][Ee][Aa][Rr][Ee][Rr] +([A-Za-z0-9._~+/-]+=*)[ \
 
 
 def bearer_lines(fields: int, value: bytes) -> list[str]:
-    """The bearer token of so many fields, the first of which has this value."""
+    """The bearer token of so many fields, where the first has this value."""
     if fields != 1:
         raise Refused("Several" if fields else "Absent")
     scheme = re.match(rb"[ \t]*([^ \t]*)", value)

@@ -383,7 +383,7 @@ SHARE = (
     " { head -c 81 here; printf '\\1'; } >withdrawn; svid merge here there >shared; svid merge withdrawn shared >all"
 )
 MERGES = [
-    # the record that all batches come to, in any order, more than once, and over any inputs
+    # the record that all batches make, in any order, more than once, and over any inputs
     ("svid merge two-uses.batch", prints(BATCH)),
     ("svid merge two-uses.batch two-uses.batch", prints(BATCH)),
     ("svid merge first second", prints(BATCH)),
@@ -815,7 +815,7 @@ def test_a_pipe_that_no_one_reads(folder, line):
     ],
 )
 def test_a_long_input_in_little_memory(folder, line):
-    """Want of memory is told, with nothing written."""
+    """The program says that it is out of memory, and writes nothing."""
     (folder / "long").write_bytes(b"\n" * 60_000_000)
     expect(folder, f"ulimit -Sv 60000; {line} <long", stops("out of memory"))
     assert not (folder / "kept").exists()

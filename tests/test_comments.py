@@ -7,7 +7,7 @@ import subprocess
 import pytest
 from conftest import TOP
 
-# Each file, and the lines of its hits. Every text that could be one of them has the phrase "anew".
+# Each file, and the lines of its hits. Every text that could be one of them has the phrase of the hits.
 FILES = {
     "crates/a/src/lib.rt": (
         "//! It begins\n//! anew.\n//!\n//! ```\n//! begin_anew()\n//! ```\n"

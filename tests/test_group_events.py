@@ -2,14 +2,14 @@
 
 Each group has five validators over different stores and with different horizons. The events are those of svid_check/specs/World.antt: a check, a
 withdrawal, a tick, a send in either version, a summary, an answer to one, a message taken, other trust bundles, a save, a piece of one, and a restart
-from either. Beside these there are the calls that are such events by a law: judgments, a take of a whole record, which several messages came to, and a
+from either. Beside these there are the calls that are such events by a law: judgments, a take of a whole record, which several messages make, and a
 run of several calls. What is posted may be taken late, more than once, in any order, or never.
 
-The model keeps of each validator its moment and the list of its uses, and works each answer out anew from the rules of docs/FORMATS.md and README.md.
-Beside that it keeps what the laws of svid_check speak of: all uses that a validator was told, with those that expired, and its log. On these it looks
-whether the laws hold: a record is what was told and is live, what was told was accepted or withdrawn by someone, who took a send, or the answer to a
-summary of its own, was told all that its maker had been, no use that was told is accepted again, and a restart from pieces is one from when they began
-that takes each.
+The model keeps of each validator its moment and the list of its uses, and works each answer out again from the rules of docs/FORMATS.md and README.md.
+Beside that it keeps what the laws of svid_check speak of: all uses that a validator has heard of, with those that expired, and its log. On these it
+looks whether the laws hold: a record has the live ones of the uses that it has heard of, each of these was accepted or withdrawn by someone, who took a
+send, or the answer to a summary of its own, has heard of all that its maker had, no use that it has heard of is accepted again, and a restart from
+pieces is one from when they began that takes each.
 
 `--events N` says how many events there are, and `--seed N` chooses them."""
 
@@ -50,7 +50,7 @@ class Token:
 
 @dataclass
 class Member:
-    """A validator: what it is told, as lists."""
+    """A validator: what it knows, as lists."""
 
     name: str
     kind: str
@@ -60,7 +60,7 @@ class Member:
     moment: int = 0
     bundles: str = "known"
     uses: list[Use] = field(default_factory=list)
-    # All uses that it was told, and what it noted: the number of a posting that it took, or made as a summary.
+    # All uses that it has heard of, and what it noted: the number of a posting that it took, or made as a summary.
     told: set[Use] = field(default_factory=set)
     log: list[tuple[str, int]] = field(default_factory=list)
 
@@ -110,7 +110,7 @@ class Summary:
 
 @dataclass
 class Saved:
-    """A save of a validator: what it was told by then, and its log. Where it was made in pieces, these too, behind whichever
+    """A save of a validator: what it had heard of by then, and its log. Where it was made in pieces, these too, behind whichever
     use comes next, and whether they are all."""
 
     owner: str
@@ -128,7 +128,7 @@ def message(version: int, moment: int, uses: list[Use]) -> bytes:
 
 
 class Group:
-    """Five validators, the script of what happens to them, and the answers that are due."""
+    """Five validators, the script of their events, and the answers that are due."""
 
     def __init__(self, seed: int, is_refused: bool) -> None:
         self.chance = random.Random(seed)
@@ -199,7 +199,7 @@ class Group:
             self.broken.append(f"behind {sum(self.done.values())} events, {law} does not hold")
 
     def arrived(self, it: Member, batch: Batch) -> None:
-        """A validator noted a batch: if that tells all that its maker had been told, it was told that."""
+        """A validator noted a batch: if that tells all that its maker had heard of, it has heard of all that."""
         if batch.whole or ("made", batch.asked) in it.log:
             self.holds("answers_tell_all" if batch.asked else "sends_tell_all", batch.told <= it.told)
 
@@ -349,7 +349,7 @@ class Group:
         return word
 
     def take_record(self, it: Member) -> str:
-        """A few batches come to one record, which is taken up to the horizon, or nothing of it."""
+        """A few batches make one record, which is taken up to the horizon, or nothing of it."""
         if not self.batches:
             return "no record to take"
         batches, now = self.chance.choices(self.batches, k=self.chance.randrange(1, 4)), self.goes_on(it)

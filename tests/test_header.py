@@ -227,7 +227,7 @@ def test_the_page_has_words_for_each(path, name, least, most):
     ],
 )
 def test_the_numbers_of_another_list(named, path, form):
-    """Those that a member is told by, and those that it tells: each in the order of the sources, the last keeper being any other number."""
+    """Those that a member takes, and those that it gives: each in the order of the sources, the last keeper being any other number."""
     body = re.search(rf"enum {named} \{{(.*?)\}}", HEADER, re.S)[1]
     found = re.findall(r"SVID_(?:DEED_|AT_)?(\w+) = (\d+)", body)
     rows = [(it[0], it[1]) if it[1].isdigit() else (it[1], it[0]) for it in re.findall(form, text_of(f"crates/svid_c/src/{path}"))]

@@ -63,7 +63,7 @@ REASONS = variants("crates/svid_wire/src/reason.rt", "Reason", "OutOfMemory", "F
 
 
 def lines_of_sources():
-    """The lines on standard error, each with `{}` for what is told in it."""
+    """The lines on standard error, each with `{}` for its values."""
     text = text_of("crates/svid_share/src/tool_fault.rt") + text_of("crates/svid_cli/src/failure.rt")
     lines = set()
     for line in re.findall(r'b?"(svid: [^"]*)"', text):

@@ -5,7 +5,7 @@ bundles, and no two of them answer otherwise.
 `--seed N` chooses them: a failure prints the token, and the seed is in the last line. (Nonces and salts of signatures are new in each run.)
 
 Two of the six have the clock of the system alone. What is at the edge of a time is asked of them in one second of it, and of the others at that
-second. `svid check` is told by this file which signatures are good: that is by the rules of docs/FORMATS.md and the package `cryptography`."""
+second. This file tells `svid check` which signatures are good: that is by the rules of docs/FORMATS.md and the package `cryptography`."""
 
 import http.client
 import json
@@ -112,7 +112,7 @@ class Group:
         self.joined = "{" + ",".join(f"{json.dumps(name)}:{text}" for name, text in bundles.items()) + "}"
         (folder / "bundles.json").write_text(self.joined)
         (folder / "audiences").write_text("\n".join(AUDIENCES))
-        # (the page reads its bundles anew for each token)
+        # (the page reads its bundles again for each token)
         named = {it.bundle: "{%s:%s}" % (json.dumps(it.bundle), bundles[it.bundle]) for it in cases if it.bundle}
         (folder / "page.json").write_text(json.dumps({"": self.joined, **named}))
 

@@ -91,7 +91,7 @@ def test_each_allocation_refused(run, inputs, command, stdin):
     whole, _ = run(words, stdin, 0)
     allowed = [whole, Outcome(2, b"", b"svid: out of memory\n", files_in(inputs))]
     if "--out" in command:
-        # (there is no memory for the name of the new file beside it, which is told as a write that failed)
+        # (there is no memory for the name of the new file beside it, and the program says that the write failed)
         allowed.append(Outcome(2, b"", b"svid: cannot write\n", files_in(inputs)))
     with ThreadPoolExecutor(AT_ONCE) as pool:
         for first in range(1, MOST, AT_ONCE):

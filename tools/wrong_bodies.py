@@ -1,4 +1,4 @@
-"""Wrong bodies of what nobody proves: for each, the test that it names must fail.
+"""Wrong bodies of code that nobody proves: for each, the test that it names must fail.
 
 go/wrong/run, packages/page/wrong/run and packages/python/wrong/run say what their language needs, and this does the rest. The file
 wrong/PATH.edits of a language's folder lists those of its file PATH. tools/edits.py has the form; here each has a line
@@ -66,7 +66,7 @@ def copy_of(folder, to, without=()):
 
 
 def environment_of(changed, **more):
-    """The environment of tests: with a wrong body, most of what they wait for never comes."""
+    """The environment of tests: with a wrong body, most events that they wait for never come."""
     return {**os.environ, **({"SVID_TEST_PATIENCE": str(PATIENCE)} if changed else {}), **more}
 
 

@@ -7,7 +7,7 @@
 #include <openssl/x509.h>
 #include <string.h>
 
-#define SIGNATURE_MOST 2048   /* bytes of the longest signature: OpenSSL takes no longer ones */
+#define SIGNATURE_MOST 2048   /* bytes of the longest signature that OpenSSL takes */
 
 /* An algorithm of RFC 7518, section 3.1. */
 typedef struct {

@@ -122,7 +122,7 @@ func (o *observer) await(t *testing.T, what string, so func() bool) {
 	}
 }
 
-// watch begins a watcher that looks at files only when it is told to.
+// watch begins a watcher that looks at files only when a test lets it.
 func watch(t *testing.T, change func(*Options), specs ...Spec) (*Watcher, *observer) {
 	t.Helper()
 	ctx, cancel := context.WithCancel(context.Background())

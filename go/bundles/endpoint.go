@@ -248,8 +248,8 @@ func (s Spec) checkEndpoint() error {
 	return nil
 }
 
-// ParseEndpoints adds to specs what stands after --bundle-id and --bundle-ca: DOMAIN=ID, and DOMAIN=FILE. Each DOMAIN is one of
-// which an address is given.
+// ParseEndpoints adds to specs what stands after --bundle-id and --bundle-ca: DOMAIN=ID, and DOMAIN=FILE. The specs
+// must give an address for each DOMAIN.
 func ParseEndpoints(specs []Spec, ids, authorities []string) ([]Spec, error) {
 	specs = append([]Spec(nil), specs...)
 	set := func(texts []string, what string, field func(s *Spec) *string) error {

@@ -19,7 +19,7 @@ import (
 	"svid.example/go/v3/internal/patience"
 )
 
-// A lone says whether what it is told of happens one after the other.
+// A lone says whether its calls of do come one after the other.
 type lone struct{ inside, both atomic.Int32 }
 
 func (l *lone) do() {

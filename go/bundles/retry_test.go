@@ -104,8 +104,8 @@ func TestPausesOfAnAddress(t *testing.T) {
 	}
 }
 
-// An agent that is away is asked again behind a second, and then behind twice the pause each time, up to half a minute. The pauses
-// begin anew once it has given bundles. The log has one line.
+// An agent that is away is asked again after a second, and then after twice the pause each time, up to half a minute. The pauses
+// begin again once it has given bundles. The log has one line.
 func TestPausesOfAWorkloadAPI(t *testing.T) {
 	agent, c := agenttest.Start(t), newClock()
 	agent.Refuse(t, "UNAVAILABLE", "soon")
@@ -144,7 +144,7 @@ func TestPausesOfAWorkloadAPI(t *testing.T) {
 	}
 }
 
-// Bundles that were not taken, for want of memory, are given again at each look at the files, until they are. The log says it once.
+// Bundles that were not taken, because memory ran out, are given again at each look at the files, until they are. The log says it once.
 func TestBundlesThatWereNotTaken(t *testing.T) {
 	name := t.TempDir() + "/bundle.json"
 	write(t, name, spire)
@@ -184,7 +184,7 @@ func TestBundlesThatWereNotTaken(t *testing.T) {
 	fail(errors.New("another fault"))
 	write(t, name, `{"keys":[]}`)
 	w.readFiles()
-	o.wantLines(t, 3, "bundles not taken") // it is anew
+	o.wantLines(t, 3, "bundles not taken") // a new fault
 }
 
 // The end of a watcher is no fault of its sources: the log has no line of it.
@@ -243,7 +243,7 @@ func TestWhatIsLoggedAnew(t *testing.T) {
 	reload(`{"keys":[2,1]}`)
 	o.wantLines(t, 5, "key passed over")
 	o.wantLines(t, 5, "bundle read")
-	// What was wrong with a file that is gone is wrong anew.
+	// What was wrong with a file that is gone counts as a new fault.
 	for range make([]struct{}, 2) {
 		reload("half")
 		remove(t, name)

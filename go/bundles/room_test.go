@@ -11,7 +11,7 @@ import (
 	"svid.example/go/v3/internal/agenttest"
 )
 
-// bracketed is a bundle with so many brackets, each of which takes the validator a kilobyte of memory.
+// bracketed is a bundle with so many brackets. Each takes the validator a kilobyte of memory.
 func bracketed(brackets int) string {
 	return `{"keys":[` + strings.TrimSuffix(strings.Repeat(`{"":0},`, brackets-2), ",") + `]}`
 }
@@ -44,7 +44,7 @@ func TestTheMostBracketsOfABundle(t *testing.T) {
 func TestTheMostOfAllBundles(t *testing.T) {
 	folder := t.TempDir()
 	name := func(domain string) string { return filepath.Join(folder, domain+".json") }
-	// A bundle of that weight, half of which is that of its brackets.
+	// A bundle of that weight. Half of it is the weight of its brackets.
 	weighing := func(weight int) string {
 		const beside = len(`{"keys":[]}`) + 2*32
 		one := len(`{"":0},`) + 32

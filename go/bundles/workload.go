@@ -51,8 +51,8 @@ func (s Spec) of(domain string) string { return domain + " of " + s.Source }
 
 var errNoBundles = errors.New("it gives no bundle")
 
-// adopt puts what a Workload API gave in the place of what it gave before. A bundle that can't be read leaves the last good
-// one in its place; one that is not among them any more goes.
+// adopt replaces the bundles that a Workload API gave before. A bundle that can't be read leaves the last good one in its place; one that
+// the API does not give any more is removed.
 func (w *Watcher) adopt(s Spec, bundles map[string][]byte) {
 	if len(bundles) == 0 {
 		w.fault(s.Source, errNoBundles) // It always has the bundle of its own trust domain.

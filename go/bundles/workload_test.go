@@ -138,7 +138,7 @@ func TestBundlesOfAnAgentGrowOld(t *testing.T) {
 	wantOld(true, true)
 }
 
-// An agent that says nothing is told of, and asked again.
+// The log has a line about an agent that says nothing, and the watcher asks it again.
 func TestASilentAgent(t *testing.T) {
 	agent := agenttest.Start(t)
 	_, o := watch(t, func(options *Options) { options.Limit = 2 * time.Second }, ofAgent(t, agent.Address))

@@ -112,7 +112,7 @@ func (f *following) back() {
 	f.number--
 }
 
-// renew runs at each change of the bundles. The watcher logs an error, and calls it again. One that no longer counts changes nothing.
+// renew runs at each change of the bundles. The watcher logs an error, and calls it again. One that was replaced changes nothing.
 func (g *Guard) renew(number int, domains map[string]json.RawMessage) error {
 	g.follows.mu.Lock()
 	defer g.follows.mu.Unlock()

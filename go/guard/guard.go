@@ -295,7 +295,7 @@ func (g *Guard) Load() error {
 	return g.engine.Load(nil)
 }
 
-// Run keeps the record and shares it with the group, until ctx ends. It returns once what waited for the group is told or given up,
+// Run keeps the record and shares it with the group, until ctx ends. It returns once everything that waited for the group was sent or given up,
 // and the last snapshot is taken.
 func (g *Guard) Run(ctx context.Context) {
 	var joining sync.WaitGroup
@@ -375,7 +375,7 @@ func (g *Guard) Close() {
 	})
 }
 
-// fail tells of what the guard can't go on without.
+// fail reports an error that the guard can't go on after.
 func (g *Guard) fail(err error) {
 	if g.options.Failed != nil {
 		go g.options.Failed(err) // Who calls this holds what Close waits for.

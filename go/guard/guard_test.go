@@ -328,7 +328,7 @@ func (*unfitStore) Open(context.Context) (claims.State, error) {
 	return claims.State{}, claims.Unfitf("appendonly is off: turn it on")
 }
 
-// A store that is of no use is told, and nothing is accepted.
+// The guard reports a store that is of no use, and accepts nothing.
 func TestAStoreThatIsOfNoUse(t *testing.T) {
 	o, failed := usual(t), make(chan error, 1)
 	o.Store, o.Failed = new(unfitStore), func(err error) { failed <- err }
@@ -420,7 +420,7 @@ func TestLinesThatAreNone(t *testing.T) {
 	server.NewLog(&bytes.Buffer{}, All).Close(time.Minute)
 }
 
-// Who is told that the guard can't go on may close it then.
+// Options.Failed may close the guard.
 func TestFailedMayClose(t *testing.T) {
 	o, guards, closed := usual(t), make(chan *Guard, 1), make(chan bool)
 	o.Store = new(unfitStore)

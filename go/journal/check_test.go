@@ -350,7 +350,7 @@ func TestCheckWhileAProcessWrites(t *testing.T) {
 	<-ended
 }
 
-// A file that grows while it is read looks damaged once. Damage that stays is told.
+// A file that grows while it is read looks damaged once. Damage that stays is reported.
 func TestCheckReadsTwiceWhatLooksDamaged(t *testing.T) {
 	d, _ := thousand(t)
 	file := d.journal(3).file

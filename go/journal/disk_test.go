@@ -113,7 +113,7 @@ func TestTheModelOfADisk(t *testing.T) {
 		{"remove_journal 1", func(d *disk) error { return d.remove("journal.1") }, nil, 0,
 			strings.Replace(from, "true of [true]", "false of [true false]", 1)},
 		{"remove_journal that fails", func(d *disk) error { return d.remove("journal.1") }, fault, 0, from},
-		// (the first piece makes the file anew)
+		// (the first piece makes the file again)
 		{"write_piece 0 0 x", func(d *disk) error {
 			f, err := d.create("snapshot.new")
 			if err == nil {

@@ -34,7 +34,7 @@ const mostFile = math.MaxInt64 - 1
 // ErrHeld is what the error of Open wraps where another process has the folder.
 var ErrHeld = errors.New("the state folder is in use")
 
-// ErrMoved is what the error of an append wraps once the path of the folder no longer leads to it: somebody removed or moved the
+// ErrMoved is what the error of an append wraps once the path of the folder leads elsewhere: somebody removed or moved the
 // folder, or mounted another one over it. Another process may have opened what is there now, so this is for good.
 var ErrMoved = errors.New("the state folder is no longer at its path")
 
@@ -87,7 +87,7 @@ func openFolder(dir string) (*folder, error) {
 }
 
 // makeFolder makes the folder where it is not there, so that its name lasts. Where the sync of the folder above fails, no later sync
-// vouches for the name. So the folder is removed, and the next start makes it anew.
+// vouches for the name. So the folder is removed, and the next start makes it again.
 func makeFolder(sys system) error {
 	err := sys.mkdir()
 	if errors.Is(err, os.ErrExist) {
@@ -370,7 +370,7 @@ func makeID(sys system, dir string) (id svid.ValidatorID, err error) {
 }
 
 // keepID keeps the validator ID, before anything is kept that can't be read without it. A start that failed or was killed may have left
-// a file that has it, and the folder itself: no later sync vouches for a name whose sync failed. So the file is made anew.
+// a file that has it, and the folder itself: no later sync vouches for a name whose sync failed. So the file is made again.
 func keepID(sys system, id svid.ValidatorID) error {
 	// (Who may not read the folder above has not made this one. Where that folder is only read, it may have no sync.)
 	if err := sys.syncAbove(); err != nil && !errors.Is(err, os.ErrPermission) && !errors.Is(err, syscall.EINVAL) {

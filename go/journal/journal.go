@@ -57,8 +57,8 @@ const (
 	growth = 256 << 10
 	// quiet is how long nobody appends until a mark is worth its write.
 	quiet = time.Second
-	// markAge is how old the last mark in the journal is when the next payload has it anew, where nobody asks for that. With
-	// each payload it would take a fifth of what a lone use takes.
+	// markAge is how old the last mark in the journal is when the next payload repeats it, where nobody asks for that. With
+	// each payload it would take a fifth as much as a lone use takes.
 	markAge = time.Second
 	// manyJournals is how many journals a start may find until the next snapshot is due at once.
 	manyJournals = 8
@@ -314,7 +314,7 @@ func (j *Journal) Size() int64 { return j.size.Load() }
 //
 // Callers that come while another write is under way share the next one, and its one fdatasync. Where a write fails (the disk
 // is full), a later Append may succeed. Where the disk does not say what it holds (fdatasync failed), this and every later
-// Append fails until the folder is opened anew.
+// Append fails until the folder is opened again.
 //
 // AppendUses waits until ctx ends, and wraps its error then. What becomes of the uses is open in that case: the disk has them
 // now, or later, or never.

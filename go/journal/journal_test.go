@@ -328,7 +328,7 @@ func TestFailedSnapshotLosesNothing(t *testing.T) {
 	if err := j.Snapshot(writes(make([]byte, svid.MaxPayload+1))); !errors.Is(err, svid.ErrPayload) {
 		t.Fatal(err)
 	}
-	// A write that was told of a fault, and does not tell it.
+	// A function that gets an error of a write, and does not return it.
 	if err := j.Snapshot(func(w io.Writer) error { w.Write(make([]byte, svid.MaxPayload+1)); return nil }); !errors.Is(err, svid.ErrPayload) {
 		t.Fatal(err)
 	}
@@ -459,7 +459,7 @@ func TestASnapshotThatCannotBeMadeLosesNothing(t *testing.T) {
 	}
 }
 
-// What a crash leaves of a write that nobody was answered for is not read, and is told. The file stays as it is, and the next
+// What a crash leaves of a write that got no answer is not read, and is reported. The file stays as it is, and the next
 // journal grows.
 func TestATornTailIsNotRead(t *testing.T) {
 	dir := t.TempDir()
@@ -1532,7 +1532,7 @@ func TestAllMethodsAtOnce(t *testing.T) {
 	j := mustOpen(t, dir)
 	var all sync.WaitGroup
 	const each = 30
-	var record sync.Mutex // of what was appended, as a validator has it
+	var record sync.Mutex // for held: what was appended, as a validator has it
 	held := batch(0)
 	ids := make(chan [16]byte, 2*each)
 	for g := uint64(0); g < 2; g++ {

@@ -18,7 +18,7 @@ import (
 // long lets the tests of this package try as much as is asked of a release: go/build long.
 var long = flag.Bool("long", false, "try every bit, 200 kills and 50,000 losses of power")
 
-// A history is what happens to one folder on a model of a disk: lives of a process, each of which ends by a loss of power, or
+// A history is what happens to one folder on a model of a disk: lives of a process. Each ends by a loss of power, or
 // by the end of the process.
 type history struct {
 	t            *testing.T
@@ -181,7 +181,7 @@ func (h *history) fail(format string, args ...any) {
 	h.t.Fatalf(format, args...)
 }
 
-// losses runs histories until the power was lost so many times. Each begins with what disk returns, of which old is in use.
+// losses runs histories until the power was lost so many times. Each begins with what disk returns, which has the uses old.
 func losses(t *testing.T, most int, disk func() *disk, old ...uint64) {
 	lost, kept := 0, 0
 	for seed := int64(0); lost < most; seed++ {
@@ -212,7 +212,7 @@ func losses(t *testing.T, most int, disk func() *disk, old ...uint64) {
 	t.Logf("%d losses of power, and all of %d acknowledged batches were found", lost, kept)
 }
 
-// share is how much is tried of what is asked of a release. go/build lets few be tried under the race detector, which takes ten times as long
+// share is how many of the tries of a release this run makes. go/build lets few be tried under the race detector, which takes ten times as long
 // and sees nothing in one goroutine: without it the same tests try more.
 func share(all int) int {
 	switch {

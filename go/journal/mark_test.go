@@ -125,7 +125,7 @@ func TestThePayloadHasTheMark(t *testing.T) {
 	if got := readFile(t, dir, snapshotName); !bytes.Equal(got, snapshot) {
 		t.Errorf("the snapshot is %x, want %x", got, snapshot)
 	}
-	// The next journal begins with the mark anew, since the one that had it is gone.
+	// The next journal begins with the mark again, since the one that had it is gone.
 	if err := j.AppendUses(ctx, useOf(1)); err != nil {
 		t.Fatal(err)
 	}

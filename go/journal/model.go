@@ -15,7 +15,7 @@ import (
 	"svid.example/go/v3/svid"
 )
 
-// A Model is a disk of which a simulation says when a call fails, and when the power is lost. svidd has none: it is for tests.
+// A Model is a disk for which a simulation says when a call fails, and when the power is lost. svidd has none: it is for tests.
 type Model struct{ disk *disk }
 
 // What a call of a Model returns because of a loss of power. What it was to do is not done.
@@ -62,7 +62,7 @@ func (m *Model) Open() (*Journal, error) {
 // A disk is a model of one with one folder: what each call does, and what a crash may leave. Names, lengths and blocks come to
 // it by themselves, each on its own, in any order; only a sync says what is there. It is the model of the proofs
 // (crates/svid_journal/specs/Disk.antt), and TestTheModelOfADisk holds it to that. The proofs do not speak of the folder's own name,
-// which is as the others. Nor do they speak of the lock and of what an older version left: a disk keeps all of these files.
+// which is as the others. Nor do they speak of the lock and of the files that an older version left: a disk keeps all of these files.
 type disk struct {
 	mu       sync.Mutex
 	here     nameOf[bool] // the folder itself
@@ -318,7 +318,7 @@ func (d *disk) remove(name string) error {
 		return nil
 	}
 	if _, there := d.others[name]; !there {
-		return absent("remove", name) // (a file beside has no name in the model: it is made anew)
+		return absent("remove", name) // (a file beside has no name in the model: it is made again)
 	}
 	delete(d.others, name)
 	return nil
@@ -384,7 +384,7 @@ func (f *openFile) force(call string) error {
 
 func (f *openFile) Close() error { return nil }
 
-// crash is the disk after a loss of power: each name is one of what it may be, and each file what it may be.
+// crash is the disk after a loss of power: each name and each file is in one of the states that it may have.
 func (d *disk) crash(r *rand.Rand) *disk {
 	d.mu.Lock()
 	defer d.mu.Unlock()

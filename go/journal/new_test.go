@@ -83,7 +83,7 @@ func TestANewFolderWhoseFirstStartsFail(t *testing.T) {
 	}
 }
 
-// The folder above is synced by the starts of a folder that keeps nothing yet, whoever made it, and not by later ones. One that may not
+// The folder above is synced by the starts of a folder that has kept nothing yet, whoever made it, and not by later ones. One that may not
 // be read, or has no sync, is another one's.
 func TestTheFolderAboveIsSyncedWhileNothingIsKept(t *testing.T) {
 	above := t.TempDir()
@@ -132,7 +132,7 @@ func TestTheFolderAboveIsSyncedWhileNothingIsKept(t *testing.T) {
 	}
 }
 
-// A new folder whose name can't be forced to the disk is removed: the next start makes it anew.
+// A new folder whose name can't be forced to the disk is removed: the next start makes it again.
 func TestANewFolderWhoseNameMayNotLastIsRemoved(t *testing.T) {
 	dir := filepath.Join(t.TempDir(), "state")
 	real := syncFile

@@ -28,7 +28,7 @@ type File struct {
 	content []byte // of a file without a frame, until it is known whether it is old
 }
 
-// Torn says whether a write was cut off at the end of the file: it has bytes of which nobody was told that they are on the disk.
+// Torn says whether a write was cut off at the end of the file: nobody had an answer that these bytes are on the disk.
 func (f *File) Torn() bool { return f.Fault == svid.ErrTorn }
 
 // A damage is why a file can't be read to its end.
@@ -214,7 +214,7 @@ func (c *contents) mayBeOld(f *File) bool {
 	return !f.hasFrames() && (c.fromFrames == 0 || f.number < c.fromFrames)
 }
 
-// readOld reads a file of an older version, of which so many bytes are whole messages.
+// readOld reads a file of an older version, where so many bytes are whole messages.
 func (f *File) readOld(whole int, isLast bool) {
 	f.Old, f.Messages, f.At, f.Fault = true, f.content[:whole:whole], int64(whole), nil
 	rest := f.content[whole:]

@@ -44,7 +44,7 @@ func TestRoomIsMadeBehindTheJournal(t *testing.T) {
 	}
 }
 
-// A disk that is full is said before anything is appended, and no longer once it has room.
+// A full disk is reported before anything is appended, until it has room again.
 func TestRoomOfAFullDisk(t *testing.T) {
 	full := false
 	j := mustWatch(t, t.TempDir(), func(call, _ string) error {
@@ -90,7 +90,7 @@ func TestRoomOfAFolderThatHasEnded(t *testing.T) {
 	}
 }
 
-// Who asks a disk that hangs waits no longer than it wants, and those that append get their own answer.
+// A caller that asks a disk that hangs waits only as long as it wants, and those that append get their own answer.
 func TestRoomOfADiskThatHangs(t *testing.T) {
 	j, begun, let := hang(t, t.TempDir())
 	first := make(chan error)

@@ -31,8 +31,8 @@ const (
 // Error says what the request has, or lacks, and what to send.
 func (n NoBearer) Error() string { return "svid: " + wordsOf(C.uint32_t(n)).whole() }
 
-// BearerToken returns the one bearer token of a request (RFC 9110, section 11.4; RFC 6750, section 2.1), of which these are the
-// values of all header fields Authorization. It does not read the token.
+// BearerToken returns the one bearer token of a request (RFC 9110, section 11.4; RFC 6750, section 2.1). authorization has the
+// values of all its header fields Authorization. BearerToken does not read the token.
 //
 // The error is a NoBearer, or the Refusal TooLong for a token of more than MaxToken bytes.
 func BearerToken(authorization []string) (string, error) {

@@ -8,7 +8,7 @@ import (
 	"svid.example/go/v3/svid"
 )
 
-// rowsOfValues are values one after the other, of which some are bad, empty, large, or of many uses.
+// rowsOfValues are values one after the other: some are bad, empty, large, or of many uses.
 func rowsOfValues() map[string][][]byte {
 	n := 0
 	value := func(uses int) []byte {

@@ -22,7 +22,7 @@ const (
 var (
 	// ErrFolderEnded: a sync failed before.
 	ErrFolderEnded = ofFolder(C.SVID_FOLDER_ENDED)
-	// ErrFolderFull: a number of the folder has come to its end.
+	// ErrFolderFull: a number of the folder has reached its end.
 	ErrFolderFull = ofFolder(C.SVID_FOLDER_FULL)
 	// ErrFolderOrder: the call is not one that may come now.
 	ErrFolderOrder = errors.New("svid: this call of the state folder may not come now")
@@ -32,7 +32,7 @@ var (
 
 // What FileReader.Next returns where no frame stands, beside io.EOF and a *FormatError.
 var (
-	// ErrTorn: a write was cut off. Nobody was told that it is on the disk.
+	// ErrTorn: a write was cut off. Nobody had an answer that it is on the disk.
 	ErrTorn = ofFolder(C.SVID_FILE_TEAR)
 	// ErrDamaged: what was synced has changed.
 	ErrDamaged = ofFolder(C.SVID_FILE_DAMAGE)
@@ -111,7 +111,7 @@ func (f *Folder) Due() (call Call, journal uint64, err error) {
 }
 
 // Answer tells whether the call that was due succeeded. A sync of the folder that fails ends the folder. So does any call of a
-// start. Another call that fails ends the switch alone, and a later Begin begins it anew. Errors: ErrFolderEnded, and
+// start. Another call that fails ends the switch alone, and a later Begin begins it again. Errors: ErrFolderEnded, and
 // ErrFolderOrder where no call is due, where the next journal would grow while a frame is not synced, or where a snapshot has
 // no empty piece at its end.
 func (f *Folder) Answer(ok bool) error {

@@ -33,7 +33,7 @@ type junk struct {
 	key             func(kid string) map[string]string
 	oneKid          bool // all keys have the token's kid, and else the token names none
 	fresh           bool // each token names other keys, which nobody tried before: as many with one kid as are tried
-	few             bool // there are no more keys than are tried, in place of a mebibyte
+	few             bool // there are no more keys than are tried, instead of a mebibyte
 	pad             int
 }
 

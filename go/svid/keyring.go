@@ -162,7 +162,7 @@ func (k *Keyring) SetBundles(bundles []byte) error {
 	return nil
 }
 
-// replace puts other handles in the place of the old ones, none of which is in use then. The caller holds the lock.
+// replace puts other handles in the place of the old ones, which are not in use then. The caller holds the lock.
 func (k *Keyring) replace(askers chan *asker) (old chan *asker) {
 	old, k.askers, k.keys = k.askers, askers, newKeyCache(k.rsaBits)
 	return old

@@ -8,7 +8,7 @@ import (
 	"testing"
 )
 
-// The header of this folder says the sum of the one that it includes. Go compiles this package anew only if a file of this folder has changed.
+// The header of this folder says the sum of the one that it includes. Go compiles this package again only if a file of this folder has changed.
 func TestTheHeaderSaysTheSumOfTheOneThatItIncludes(t *testing.T) {
 	included, err := os.ReadFile("../../packages/c/include/svid.h")
 	if err != nil {

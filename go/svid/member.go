@@ -128,7 +128,7 @@ type Rest byte
 const (
 	RestNothing  Rest = iota // the next value is to be read
 	RestNoRoom               // uses for which the room was too small: read the same value again
-	RestNoMemory             // uses, the first of which memory was refused for: read the same value again
+	RestNoMemory             // uses, and memory was refused for the first of them: read the same value again
 )
 
 // OpenLog lets the validator read a log. Where it reads one already, it reads the other one from now on; the record stays.

@@ -7,7 +7,7 @@ import (
 	"testing"
 )
 
-// Without cgo the build of the package, or of what uses it, ends with one line that says what is missing.
+// Without cgo the build of the package, or of one that uses it, ends with one line that says what is missing.
 func TestABuildWithoutCgo(t *testing.T) {
 	for _, what := range []string{"./svid", "./cmd/svidd", "./..."} {
 		build := exec.Command("go", "build", "-o", os.DevNull, what)

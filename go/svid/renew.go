@@ -31,7 +31,7 @@ func (v *Validator) SetBundles(bundles []byte) error {
 	return v.renew(&b, bundles)
 }
 
-// CheckBundles returns nil if these trust bundles can be read, and else the error of NewKeyring. It keeps nothing.
+// CheckBundles returns nil if these trust bundles can be read, and else the error of NewKeyring. It makes no keyring.
 func CheckBundles(bundles []byte) error {
 	var b C.svid_bundles
 	var told C.svid_told

@@ -5,7 +5,7 @@ import "C"
 
 import "math/rand"
 
-// buckets is how many parts a record has, each of which has a digest in a summary.
+// buckets is how many parts a record has. Each has a digest in a summary.
 const buckets = 256
 
 // answerPiece is how many bytes of an answer WalkAnswer has room for at first.

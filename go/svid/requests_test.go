@@ -285,7 +285,7 @@ func TestWhatIsDue(t *testing.T) {
 	want(2*time.Hour + time.Second)
 }
 
-// What a member knows decides if it judges tokens, and if some are to be sent to it: the first reason is told.
+// What a member knows decides if it judges tokens, and if some are to be sent to it: the first reason counts.
 func TestWhatAMemberKnows(t *testing.T) {
 	for mode, rows := range map[svid.MemberMode][]struct {
 		change func(k *svid.Known)
@@ -312,7 +312,7 @@ func TestWhatAMemberKnows(t *testing.T) {
 		},
 	} {
 		d, known := openDesk(t, mode, true), all
-		for i, row := range rows { // (each reason is told before those of the rows above it)
+		for i, row := range rows { // (each reason counts before those of the rows above it)
 			row.change(&known)
 			if err := d.Know(known); err != nil {
 				t.Fatal(err)

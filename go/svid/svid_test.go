@@ -504,7 +504,7 @@ func TestPieces(t *testing.T) {
 			t.Errorf("at most %d bytes: the records differ", most)
 		}
 	}
-	// The moment of a record without uses is told too.
+	// The pieces of a record without uses have its moment, too.
 	empty := open(t, 3)
 	if err := empty.Tick(moment); err != nil {
 		t.Fatal(err)
@@ -724,7 +724,7 @@ func TestUsesReadsARecord(t *testing.T) {
 	}
 }
 
-// A use that had expired when it was made is told by no message.
+// No message has a use that had expired when it was made.
 func TestAUseThatNoMessageTells(t *testing.T) {
 	good := svid.Use{Expires: 2, At: 1}
 	for _, bad := range []svid.Use{{Expires: 1, At: 1}, {Expires: 0, At: 1}, {}} {

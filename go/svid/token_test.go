@@ -77,7 +77,7 @@ func TestAReadTokenAtAClosedValidator(t *testing.T) {
 	}
 }
 
-// A token is accepted by the key that VerifiedBy names, while the validator has that key. VerifyToken finds the key anew.
+// A token is accepted by the key that VerifiedBy names, while the validator has that key. VerifyToken finds the key again.
 func TestATokenIsCheckedByItsKey(t *testing.T) {
 	text := example.Token("ES256", claims("named"))
 	k, v := keyring(t, example.Bundles()), open(t, 1)

@@ -69,7 +69,7 @@ func TestEachAllocationOfOpenSSLRefused(t *testing.T) {
 	}
 }
 
-// A keyring that OpenSSL's want of memory keeps from a verdict says so, and keeps no key for one that can't be used.
+// A keyring that has no verdict because OpenSSL is out of memory says so, and keeps no key for one that can't be used.
 func TestAKeyringIsRefusedMemory(t *testing.T) {
 	one, err := issuer.New("example.org")
 	if err != nil {

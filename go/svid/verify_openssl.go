@@ -53,7 +53,7 @@ static void begin(void) {
     ERR_clear_error();
 }
 
-// The key, which is known to be a good one: so NULL is for want of memory. (d2i_PUBKEY of OpenSSL 3.0 takes ten times as long.)
+// The key, which is known to be a good one: so NULL means out of memory. (d2i_PUBKEY of OpenSSL 3.0 takes ten times as long.)
 static EVP_PKEY *make_key(const char *type, OSSL_PARAM *params) {
     EVP_PKEY *key = NULL;
     EVP_PKEY_CTX *making = EVP_PKEY_CTX_new_from_name(NULL, type, NULL);
@@ -95,7 +95,7 @@ static int open_seat(seat *s, EVP_PKEY *key, const char *hash, int padding) {
     return good;
 }
 
-// A signature of ECDSA as OpenSSL reads it, from r and s. NULL for want of memory.
+// A signature of ECDSA as OpenSSL reads it, from r and s. NULL if out of memory.
 static unsigned char *der_of(const unsigned char *signature, int half, int *len) {
     unsigned char *der = NULL;
     ECDSA_SIG *both = ECDSA_SIG_new();
@@ -108,7 +108,7 @@ static unsigned char *der_of(const unsigned char *signature, int half, int *len)
     return der;
 }
 
-// Whether this thread has a queue of errors, in which alone want of memory differs from a signature that is bad.
+// Whether this thread has a queue of errors, by which alone lack of memory differs from a bad signature.
 static int has_queue(void) {
     static _Thread_local int has = 0;
     if (!has) {
@@ -119,7 +119,7 @@ static int has_queue(void) {
     return has;
 }
 
-// Whether want of memory is what an error of the queue means. The errors of a bad signature, if there are any, begin with a code
+// Whether an error of the queue means that OpenSSL is out of memory. The errors of a bad signature, if there are any, begin with a code
 // of RSA's or EC's own part of OpenSSL. One that all parts have, in front, says no more than that something below failed.
 static int is_memory(unsigned long error, int in_front) {
     int lib = ERR_GET_LIB(error), reason = ERR_GET_REASON(error);
@@ -194,7 +194,7 @@ type digest = C.digest
 // A handle is a key as OpenSSL holds it, until it is garbage.
 type handle struct {
 	key *C.EVP_PKEY
-	// The seats by slot and algorithm, of which who has the slot uses one. A seat is kept once the key made a signature: so a
+	// The seats by slot and algorithm, and whoever has the slot uses one. A seat is kept once the key made a signature: so a
 	// stranger's tokens, which may name each key of a bundle, take no memory for it.
 	seats [][]C.seat
 }

@@ -76,7 +76,7 @@ type Denial struct {
 	Result string // "refused" or "unavailable"
 	Reason string // NoToken, NotBearer, NotAllowed, the name of a svid.Refusal, or why there is no answer
 
-	code string // the error code of RFC 6750, section 3.1; "" where the client tried no bearer token, of which section 3 wants none
+	code string // the error code of RFC 6750, section 3.1; "" where the client tried no bearer token: section 3 wants none then
 }
 
 // DenialOf returns the answer for an error of svid.BearerToken or of Checker.Check.

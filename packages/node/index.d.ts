@@ -121,7 +121,7 @@ export interface Found {
   readonly deaf?: Seconds;
 }
 
-/** What a store is told beside a call. */
+/** What a store gets beside the arguments of a call. */
 export interface Asked {
   /** Is aborted once the validator is closed, so that nobody waits for the answer any more. */
   readonly signal: AbortSignal;
@@ -133,8 +133,8 @@ export interface Asked {
  * - Two puts of one key never overlap, whoever makes them.
  * - An entry stays until its token has expired by the store's own clock, and for a margin after that: at least the validators' `ahead`, and what
  *   the clock of the store may step back.
- * - Before it answers again after it may have lost entries, it raises `Found.deaf`: to its time at the loss plus the validators' `longest` plus twice
- *   their `ahead`.
+ * - Before it answers again after it may have lost entries, it increases `Found.deaf`: to its time at the loss plus the validators' `longest` plus
+ *   twice their `ahead`.
  *
  * Several calls may be under way at once. A call that fails throws anything: then nobody knows what the store has, and the validator puts the same
  * claims again. A call ends within some seconds, even if the server does not answer.
@@ -207,7 +207,7 @@ export interface ValidatorTerms extends Terms {
    * "bound" without a store it keeps who used each token, in its folder `claims`. What `take` got is kept from the next snapshot on. One process
    * holds a folder at a time, by the command `flock` (Debian: util-linux). `svidd` writes the same files.
    *
-   * What an operator is to know, as of a snapshot that could not be written, is told by `process.emitWarning`, with the code "SVID_STATE". For Node
+   * `process.emitWarning` tells what an operator is to know, as of a snapshot that could not be written, with the code "SVID_STATE". For Node
    * alone.
    */
   state?: string;
@@ -228,8 +228,8 @@ export interface ValidatorTerms extends Terms {
    */
   step?: Seconds;
   /**
-   * Is told the key (`Use.key`) of a token that this validator accepted in mode "once", and another one too: once, when `take` shows it. Of messages
-   * of more than 4 MiB it is told nothing. By default `process.emitWarning`, with the code "SVID_TWICE".
+   * Gets the key (`Use.key`) of a token that this validator accepted in mode "once", and another one too: once, when `take` shows it. Of messages
+   * of more than 4 MiB it gets nothing. By default `process.emitWarning`, with the code "SVID_TWICE".
    */
   onTwice?: (key: Uint8Array) => void;
   /**
@@ -283,7 +283,7 @@ export interface Accepted {
   readonly audience: string;
   /** The name of the key that signed the token, `kid`; "" where it has none. Throws as `audience` does. */
   readonly keyId: string;
-  /** All claims of the token, as `JSON.parse` reads its payload: an object anew each time. Throws `Closed` once the validator is closed. */
+  /** All claims of the token, as `JSON.parse` reads its payload: a new object each time. Throws `Closed` once the validator is closed. */
   readonly claims: { readonly [name: string]: unknown };
   /** The same in numbers and texts, for `JSON.stringify`: bytes as hexadecimal digits. Throws as `audience` does. */
   toJSON(): object;
@@ -348,7 +348,7 @@ export class Validator {
   protected constructor(ready: never);
   /**
    * Opens a validator whose record is empty, or is that of its state folder. With a store, or sources of bundles, it waits until these answer, but
-   * no longer than `wait`: `unready` says whether they have. Throws `BadBundles`, `OutOfMemory`, and TypeError and RangeError for options that can't
+   * at most for `wait`: `unready` says whether they have. Throws `BadBundles`, `OutOfMemory`, and TypeError and RangeError for options that can't
    * be. Of a state folder it throws `Held`, `BadFolder`, what the system says, and `TooFar` where the clock is behind the record that was kept.
    */
   static open(options: ValidatorOptions): Promise<Validator>;
@@ -369,7 +369,7 @@ export class Validator {
   /** Answers what `check` would, but the record gains no use: `check` may still accept it. */
   judge(token: Token, now?: Seconds): Promise<Accepted>;
   /**
-   * Withdraws a token until it expires: from now on it is refused as `Withdrawn`. Send the `message` of what it returns to the other validators.
+   * Withdraws a token until it expires: from now on it is refused as `Withdrawn`. Send the `message` of its result to the other validators.
    *
    * It verifies no signature: the token is withdrawn that has this trust domain and `jti`, or this text where it has no `jti`. Throws `Gone` for
    * an expired token, and `Refusal` for what is no JWT-SVID. Throws `Unavailable` if the disk or the store may lack it: then the token is

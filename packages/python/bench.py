@@ -5,7 +5,7 @@
 LIBSVID names libsvid.so (tools/dist shared FILE makes it). Both sides get the same tokens, in
 turns, and each has a round's least time of the processor. PyJWT is handed the right key at once,
 so it looks for none. Without signatures, `check` is given a verifier that says yes, and PyJWT is
-told not to verify.
+made not to verify.
 """
 
 import base64

@@ -136,7 +136,7 @@ static void *run_job(void *given) {
     return NULL;
 }
 
-/* Each call, and OPEN of what is as deep as a reader of JSON lets it be. */
+/* Each call, and OPEN of inputs that are as deep as a reader of JSON lets them be. */
 static void stack_with(void (*deepen)(int depth)) {
     static answer a;
     static const int depths[] = { 100, 123, 124, 10000 };

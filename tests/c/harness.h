@@ -88,7 +88,7 @@ static inline size_t of_hex(const char *hex, size_t digits, uint8_t *to) {
 
 static inline size_t number_at(const uint8_t *from) { return (size_t)from[0] << 24 | (size_t)from[1] << 16 | (size_t)from[2] << 8 | from[3]; }
 
-/* The signature of `token`, and over how many of its bytes it is made; none of what can't be read. */
+/* The signature of `token`, and over how many of its bytes it is made; none if it can't be read. */
 static inline void find_signature(void) {
     svid_signed over;
     svid_told told;

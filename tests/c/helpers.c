@@ -34,7 +34,7 @@ static void names(void) {
     printf("%d names", named);
 }
 
-/* Bundles of one trust domain with so many keys, the first of which is padded to be as long as is due. */
+/* Bundles of one trust domain with so many keys, and the first one is padded to be as long as is due. */
 static char text[200000];
 static size_t bundles_of(int keys, size_t first_len) {
     size_t len = (size_t)sprintf(text, "{\"example.org\":{\"keys\":[");

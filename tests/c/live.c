@@ -208,7 +208,7 @@ static void verified(void) {
     holds(answered == SVID_CLOSED, "a closed validator");
 }
 
-/* Of the keys that may have signed a token the first ones are listed, and it is told whether there are more. */
+/* The call lists the first keys that may have signed a token, and tells whether there are more. */
 static void offered(void) {
 #define KEY "{\"kty\":\"EC\",\"use\":\"jwt-svid\",\"kid\":\"%d\"}"
     enum { KEYS = 6 };
@@ -316,7 +316,7 @@ static void take_wave(svid_validator *v, uint64_t now, int stay) {
     holds(answered == SVID_OK, "the uses are not taken");
 }
 
-/* The memory of uses that have expired is given back by the 64 calls behind that, each time anew, also where other uses of a store are left. (No
+/* The 64 calls after uses have expired give back their memory, each time again, also where other uses of a store are left. (No
  * contract says so.) The 256 stores keep a block each: the list of their runs. */
 static void given_back(void) {
     enum { IN_MEMORY = 72 };
@@ -453,7 +453,7 @@ static uint32_t checked_with(const char *own, size_t own_len, const size_t *lens
     return status;
 }
 
-/* Whether bytes are too much for an input of this number, of which so many more are given as it may have. */
+/* Whether the input of this number, with so many bytes more than it may have, is too long. */
 static void is_too_much(uint32_t status, const svid_told *told, size_t more, size_t number) {
     answered = status;
     if (more) holds(status == SVID_TOO_MUCH && told->input == number && told->len == 0 && told->message == 0 && told->offset == 0, "one byte too many");

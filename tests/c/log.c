@@ -159,7 +159,7 @@ static void marked(void) {
     svid_validator_close(&v);
 }
 
-/* A value that is no row of messages is told as svid_validator_take tells it, and read to its end by everybody alike. */
+/* A value that is no row of messages has the status that svid_validator_take gives, and everybody reads it to its end alike. */
 static void no_messages(void) {
     static const struct { const char *bytes; size_t len; uint32_t status; } rows[] = {
         { "XSR\2\1", 5, SVID_MAGIC }, { "JSR\2\3", 5, SVID_KIND }, { "JSR\2\1\0\0\0\0\0\0\0\1\0\1\0\1", 17, SVID_COUNT }, { "JSR\2\1\0\0\0", 8, SVID_TRUNCATED },

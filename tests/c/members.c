@@ -653,7 +653,7 @@ static void print_times(const char *what) {
     }
 }
 
-/* Requests with tokens of their own, of which 1,000 are open at each time. In the end the clock advances, and those that are left are late. */
+/* Requests with tokens of their own: 1,000 are open at each time. In the end the clock advances, and those that are left are late. */
 static void time_flow(svid_validator *v, uint64_t mode, uint64_t now, uint64_t *up, int base) {
     static card own;
     static svid_token open_ones[OPEN_REQUESTS];

@@ -82,7 +82,7 @@ static void unchanged(text t, const void *was, const char *why) {
     give_back(t);
 }
 
-/* Takes back a structure, with what was told in it. */
+/* Takes back a structure, with what the call wrote in it. */
 static void taken(text t, void *to) {
     memcpy(to, t.bytes, t.len);
     give_back(t);
@@ -135,7 +135,7 @@ static void try_row(const row *r) {
         else holds(is_answer(r, &a, len) && !memcmp(out.bytes, whole.bytes, len), "another answer in another room");
         give_back(out);
     }
-    /* each allocation alone, and each with all that follow it: want of memory is told; or, by a report, what is due, where
+    /* each allocation alone, and each with all that follow it: the call is out of memory; or a report gives what is due, where
      * one alone was refused and a smaller one did (it collects uses, and a larger room is only asked for first) */
     for (long nth = 1; nth <= takes; nth++) {
         for (int all = 0; all < 2; all++) {

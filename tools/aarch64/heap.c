@@ -1,5 +1,5 @@
 /* The heap of the C library on aarch64, over malloc, realloc and free. The Rattle kit has compiled its own for x86-64
- * alone, so this is written from the contracts of its library libc. No proof covers it: it is part of what is trusted. */
+ * alone, so this is written from the contracts of its library libc. No proof covers it: it is part of the trusted code. */
 
 typedef __SIZE_TYPE__ size;
 

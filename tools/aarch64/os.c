@@ -1,6 +1,6 @@
 /* What the program needs on aarch64 beside glibc and heap.c: its first instructions, its arguments, its environment, and errno. The Rattle
  * kit has compiled its own for x86-64 alone, so this is written from the contracts of its library os, and from how Linux
- * enters a program. No proof covers it: it is part of what is trusted. */
+ * enters a program. No proof covers it: it is part of the trusted code. */
 
 typedef __SIZE_TYPE__ size;
 typedef __PTRDIFF_TYPE__ difference;

@@ -1,4 +1,4 @@
-"""What a release says of each known fault of what svidd has built in (faults.toml), as OpenVEX 0.2.0 in JSON: whether the programs reach it, and why."""
+"""What a release says of each known fault of code built into svidd (faults.toml), as OpenVEX 0.2.0 in JSON: whether the programs reach it, and why."""
 
 import hashlib
 import re

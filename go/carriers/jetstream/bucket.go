@@ -27,7 +27,7 @@ const settled = 10
 // mostValue is the length that each value of a member has room in: 512 uses are 33 kB, or 42 kB as batches of one use.
 const mostValue = 64 << 10
 
-// removing is how long a bucket that was there must be gone before it is made anew: a server of NATS says that there is none before it has
+// removing is how long a bucket that was there must be gone before it is made again: a server of NATS says that there is none before it has
 // removed the files, and would then remove those of the new one.
 const removing = time.Second
 

@@ -202,7 +202,7 @@ func TestAnOldBucketIsMended(t *testing.T) {
 	}
 }
 
-// A bucket that is changed while members read it is told to the operator. They go on, and see what is gone.
+// Members tell the operator when the bucket that they read is changed. They go on, and see what is gone.
 func TestABucketThatIsChanged(t *testing.T) {
 	t.Parallel()
 	s := natstest.Start(t)

@@ -37,7 +37,7 @@ var (
 // A feed is the bucket's values from a position on, as the broker sends them.
 //
 // The client has a subscription of this kind (an "ordered consumer"), which a member that lies can stop: a value may have
-// the header by which the broker marks its heartbeats, and the client then passes over the value, misses it, begins anew
+// the header by which the broker marks its heartbeats, and the client then skips the value, misses it, begins again
 // at its position, and so on for ever. So a feed takes for a value what the broker sends as one, whatever its header is.
 //
 // The client's goroutine gathers what comes, so that it is read while more comes, and takes little room until then.

@@ -131,7 +131,7 @@ type Group struct {
 	aside  atomic.Uint64
 	quiet  carriers.Quiet // of values that were put aside
 	asked  carriers.Quiet // of summaries that could not be answered
-	faults carriers.Quiet // of what the client says of the broker
+	faults carriers.Quiet // that the client reports of the broker
 	fault  string
 
 	ready chan struct{}
@@ -306,7 +306,7 @@ func (g *Group) isStored(position uint64) {
 // Close ends what Join and Summaries began, and lets go of the broker. It returns when no Take is under way.
 func (g *Group) Close() error {
 	g.end()
-	g.conn.Close() // Whoever waits for a message is told.
+	g.conn.Close() // It ends each wait for a message.
 	g.tasks.Wait()
 	return nil
 }

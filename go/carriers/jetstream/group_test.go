@@ -221,7 +221,7 @@ func wantValues(t *testing.T, m *member, want ...Value) {
 	}
 }
 
-// wantBegins wants what a member was told of the buckets that it has read.
+// wantBegins wants the buckets that a member has heard of as begun.
 func wantBegins(t *testing.T, m *member, want ...Log) {
 	t.Helper()
 	if got := m.begins(); fmt.Sprint(got) != fmt.Sprint(want) {
@@ -447,7 +447,7 @@ func TestAValueThatIsTooLarge(t *testing.T) {
 
 // A value that a member has put, and that the broker has stored, comes soon, though what should bring it does not.
 func TestReadingBeginsAnewForAnOwnValue(t *testing.T) {
-	silence = time.Hour // so that nothing else lets reading begin anew
+	silence = time.Hour // so that nothing else lets reading begin again
 	t.Cleanup(func() { silence = silenceWait })
 	s := natstest.Start(t)
 	a := join(t, options(1, s.URL))
@@ -462,7 +462,7 @@ func TestReadingBeginsAnewForAnOwnValue(t *testing.T) {
 	awaitHeld(t, a, tell(t, a, 3))
 }
 
-// A broker that says nothing any more is asked anew, though nobody waits for a value.
+// A broker that says nothing any more is asked again, though nobody waits for a value.
 func TestReadingBeginsAnewBehindASilence(t *testing.T) {
 	silence = heartbeat / 20
 	t.Cleanup(func() { silence = silenceWait })
@@ -613,7 +613,7 @@ func TestAGapOfAllValuesIsTold(t *testing.T) {
 	wantBegins(t, b, Log{})
 }
 
-// What is gone when a member joins is told to the operator and to the sink: as a fault, unless it may have expired.
+// A member that joins reports values that are gone by then to the operator and to the sink: as a fault, unless they may have expired.
 func TestWhatIsGoneBeforeAMemberJoins(t *testing.T) {
 	t.Parallel()
 	s := natstest.Start(t)
@@ -642,7 +642,7 @@ func TestWhatIsGoneBeforeAMemberJoins(t *testing.T) {
 }
 
 // Values that a member had no time to read are missed only if they may still live: where each of them must have expired, it
-// begins anew behind them.
+// begins again after them.
 func TestWhatExpiresBeforeItIsRead(t *testing.T) {
 	t.Parallel()
 	now := time.Now()
@@ -737,7 +737,7 @@ func TestValuesAtPositionsThatWereReadBefore(t *testing.T) {
 	}
 }
 
-// Nothing is missing, and nobody begins anew, while each of three brokers is killed in turn, or restarted, and the members put
+// Nothing is missing, and nobody begins again, while each of three brokers is killed in turn, or restarted, and the members put
 // values at the same instant.
 func TestValuesWhileServersAreRestarted(t *testing.T) {
 	for name, end := range map[string]func(*broker.Server){"killed": (*broker.Server).Kill, "stopped": (*broker.Server).Stop} {
@@ -896,7 +896,7 @@ func TestBucketThatWasRemovedIsMadeAnew(t *testing.T) {
 	awaitHeld(t, b, tell(t, a, 99))
 }
 
-// Someone has removed the bucket's last values by hand. A member that comes anew does not wait for these.
+// Someone has removed the bucket's last values by hand. A new member does not wait for these.
 func TestReadyThoughTheLastValuesAreGone(t *testing.T) {
 	t.Parallel()
 	s := natstest.Start(t)
@@ -1061,7 +1061,7 @@ func delivered(n int, position, number uint64) *nats.Msg {
 		Reply: fmt.Sprintf("$JS.ACK.KV_test.c.1.%d.%d.1700000000000000000.0", position, number)}
 }
 
-// Values that came before one that is missing on its way are given to the sink, and reading begins anew behind them.
+// Values that came before one that is missing on its way are given to the sink, and reading begins again after them.
 func TestValuesBeforeALossAreTaken(t *testing.T) {
 	t.Parallel()
 	s := &sink{}

@@ -94,7 +94,7 @@ func TestPublishingRemovesNothing(t *testing.T) {
 					t.Fatalf("%s: %v, before %v", what, got, keys)
 				}
 			}
-			for i, s := range servers { // They keep it so when they begin anew.
+			for i, s := range servers { // They keep it so over a restart.
 				s.Kill()
 				restart(t, s)
 				natstest.Await(t, "JetStream", s.Answers)
@@ -147,7 +147,7 @@ func TestNoHeaderHidesAValue(t *testing.T) {
 			if !c.has(last) || !c.has(batch(key(7), a.id)) {
 				t.Error("a member that comes anew does not read all")
 			}
-			// It is the last value that was read, and reading begins anew behind it.
+			// It is the last value that was read, and reading begins again after it.
 			if err := l.put("u.liar.3", nil, header); err != nil {
 				t.Fatal(err)
 			}
@@ -164,7 +164,7 @@ func TestNoHeaderHidesAValue(t *testing.T) {
 	}
 }
 
-// A header that can't be read does not stop anything either, where it is that of the last value before reading begins anew.
+// A header that can't be read does not stop anything either, where it is that of the last value before reading begins again.
 func TestABadHeaderStopsNothing(t *testing.T) {
 	t.Parallel()
 	s := natstest.Start(t)

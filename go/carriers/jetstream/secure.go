@@ -19,7 +19,7 @@ const (
 	mostFile = 1 << 20         // bytes of one of Files
 )
 
-// Files are what a member shows to the broker, and by what it knows the broker. Each is read anew for each connection, so
+// Files are what a member shows to the broker, and by what it knows the broker. Each is read again for each connection, so
 // that certificates and authorities may be renewed while the member runs. A pipe, or what else is no regular file, is an
 // error, and nobody waits for it. "" for none.
 type Files struct {

@@ -359,7 +359,7 @@ func TestFilesThatCannotBeUsed(t *testing.T) {
 	}
 }
 
-// kinds are names of what is no regular file.
+// kinds are names of things that are no regular files.
 func kinds(t *testing.T, dir string) map[string]string {
 	t.Helper()
 	in := func(name string) string { return filepath.Join(dir, name) }
@@ -489,7 +489,7 @@ func signed(t *testing.T, by, of nkeys.KeyPair, says map[string]any) string {
 	return text + "." + base64.RawURLEncoding.EncodeToString(signature)
 }
 
-// A server that knows users by credentials lets a member in that has them, reads them anew for each connection, and lets nobody in
+// A server that knows users by credentials lets a member in that has them, reads them again for each connection, and lets nobody in
 // by those of another user's key.
 func TestCredentials(t *testing.T) {
 	t.Parallel()

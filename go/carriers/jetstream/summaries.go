@@ -20,7 +20,7 @@ const (
 
 // Summaries lets this member repair its record and those of others, until Close: once it is ready and then about every
 // so often, it sends what summary returns to another member, and gives the answer to the sink; and it answers the
-// summaries of others by what answer returns: messages of what the other does not have, none longer than the broker
+// summaries of others by what answer returns: messages with what the other does not have, none longer than the broker
 // carries. What gets lost comes the next time.
 func (g *Group) Summaries(every time.Duration, summary func() ([]byte, error), answer func(summary []byte, most int) ([][]byte, error)) {
 	subject := "svid." + g.options.Name + ".summary"

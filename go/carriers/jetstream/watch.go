@@ -17,7 +17,7 @@ const (
 	idleWait        = 5 * time.Second  // the same once it has caught up
 	ownWait         = time.Second / 10 // without a value though an own one is stored, before the reader asks for it: a claim waits for it
 	mostLack        = 10               // of these, before another feed is begun
-	stallWait       = 10 * time.Second // without a value that is there, before reading begins anew; longer after each time in vain
+	stallWait       = 10 * time.Second // without a value that is there, before reading begins again; longer after each time in vain
 	mostAnewWait    = time.Second / 4  // between two beginnings
 	lossWait        = 3 * time.Second  // for which the broker must say that values are lost, before they are
 	lossPause       = time.Second / 4  // between two questions about that
@@ -53,7 +53,7 @@ type reader struct {
 	room []Value       // for values to take at once
 	wait time.Duration // for the broker's answer where reading begins
 
-	// How often reading began anew since a value came: a broker that is slow to begin must get the time for it.
+	// How often reading began again since a value came: a broker that is slow to begin must get the time for it.
 	vain int
 }
 
@@ -260,8 +260,8 @@ func (r *reader) wasRead(position uint64, stamp time.Time) bool {
 	return !r.stamp.IsZero() && (position < r.seen || position == r.seen && stamp.Equal(r.stamp))
 }
 
-// missing passes over values after the last one, up to this position, that were gone before they were read. The sink sees that by
-// the position of the next value, unless they may have expired: then it begins anew after them.
+// missing skips values after the last one, up to this position, that were gone before they were read. The sink sees that by
+// the position of the next value, unless they may have expired: then it begins again after them.
 func (r *reader) missing(to uint64) {
 	if to <= r.seen {
 		return
@@ -312,7 +312,7 @@ func (r *reader) isOther(info streamInfo) bool {
 	return !info.Created.Equal(r.bucket.created) || info.State.Last < r.seen
 }
 
-// isLost says whether the bucket is another one, or has lost its last values: then reading begins anew, and the error says so. A
+// isLost says whether the bucket is another one, or has lost its last values: then reading begins again, and the error says so. A
 // server that was just elected may not have read yet all that it has, so the broker must say the same for a while.
 func (r *reader) isLost(info *streamInfo, ask func() (streamInfo, error)) (lost bool, err error) {
 	for from := time.Now(); r.isOther(*info); {
@@ -366,7 +366,7 @@ func (r *reader) isReady() bool {
 	}
 }
 
-// idle looks at the bucket where no value has come for a while. An error says that reading must begin anew.
+// idle looks at the bucket where no value has come for a while. An error says that reading must begin again.
 func (r *reader) idle(f *feed) error {
 	if r.group.conn.IsConnected() && time.Since(f.heard) > silence {
 		return errSilent
@@ -427,7 +427,7 @@ func (r *reader) isLast() bool {
 	return errors.Is(err, nats.ErrMsgNotFound)
 }
 
-// reopen makes the bucket anew where someone removed it.
+// reopen makes the bucket again where someone removed it.
 func (r *reader) reopen() error {
 	b, err := r.group.openBucket(r.group.life, removing)
 	if err != nil {

@@ -837,7 +837,7 @@ func (s *suite) emptied(t *testing.T) {
 	}
 }
 
-// A store that lost all, and is made anew by a member that knows nothing of it, is deaf all the same, while another member runs.
+// A store that lost all, and is made again by a member that knows nothing of it, is deaf all the same, while another member runs.
 func (s *suite) emptiedAndOpened(t *testing.T) {
 	o := Options{Name: s.name()}
 	a := s.store(t, o)

@@ -97,7 +97,7 @@ func (s *Store) Put(ctx context.Context, these []claims.Claim, found []claims.Fo
 	}
 }
 
-// put is the owner of what is there then.
+// put stores a claim, unless its key has an owner already, and returns the key's owner.
 func (s *Store) put(c claims.Claim, now uint64) claims.Owner {
 	if is, there := s.entries[c.Key]; there && is.expires+s.Terms.Margin > now {
 		return is.owner

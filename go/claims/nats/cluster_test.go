@@ -281,7 +281,7 @@ func TestAClusterIsPutBack(t *testing.T) {
 	clusterIsPutBack(t, true)
 }
 
-// Where the member that misses its claim is away meanwhile, another one may claim the token anew, and at the same position: nobody waits for who is
+// Where the member that misses its claim is away meanwhile, another one may claim the token again, and at the same position: nobody waits for one that is
 // away. The member sees the loss all the same, once it is back.
 func TestAClusterIsPutBackUnseen(t *testing.T) {
 	t.Parallel()

@@ -369,7 +369,7 @@ func TestUnfitStreams(t *testing.T) {
 	}
 }
 
-// A stream that is removed and made anew, also at once and by hand, ends the epoch.
+// A stream that is removed and made again, also at once and by hand, ends the epoch.
 func TestAStreamIsMadeAnew(t *testing.T) {
 	t.Parallel()
 	m := newMachine(t)
@@ -402,7 +402,7 @@ func TestAStreamIsMadeAnew(t *testing.T) {
 				t.Errorf("%d: %+v", k, f)
 			}
 			if k == ofClock && isByHand {
-				continue // (the clock keeps nothing)
+				continue // (the clock has no entries)
 			}
 			haveEnded(t, m, o, before, a, b)
 		}
@@ -557,7 +557,7 @@ func TestEntriesStay(t *testing.T) {
 	}
 }
 
-// A stream that was made anew while no member ran ends the epoch too, as long as its record is there.
+// A stream that was made again while no member ran ends the epoch too, as long as its record is there.
 func TestAStreamIsMadeAnewWhileNobodyRuns(t *testing.T) {
 	t.Parallel()
 	m := newMachine(t)

@@ -108,7 +108,7 @@ func TestFailoverToAStandbyThatHasAll(t *testing.T) {
 	}
 }
 
-// A standby for which nobody waited, and which is promoted though others were to be, lacks claims: members that were told of these see it.
+// A standby for which nobody waited, and which is promoted though others were to be, lacks claims: members that know of these see it.
 func TestFailoverToTheWrongStandby(t *testing.T) {
 	t.Parallel()
 	primary := start(t)

@@ -15,7 +15,7 @@ const (
 )
 
 // quarantine is how long nobody is answered, at a new store and at a new run of the server. Members look each second, so each one has
-// time to see that the store lacks what it was told.
+// time to see that the store lacks what the member knows.
 var quarantine = 3 * time.Second
 
 // Schema is what makes the store of a group, and gives its members their rights, as SQL. role may be "".

@@ -20,7 +20,7 @@ type server struct {
 	number int // from 1
 	url    string
 
-	// Of servers, of which there are several, the last look:
+	// Where there are several servers, the last look at this one:
 	role  role
 	fault error
 	at    time.Time // zero before the first one

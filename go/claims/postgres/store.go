@@ -26,7 +26,7 @@ const (
 
 // Options say which store a group has.
 type Options struct {
-	URLs     []string // of all servers, of which one is the primary, or of the only one
+	URLs     []string // of all servers, one of them the primary, or of the only one
 	Name     string   // the group's: that of the schema
 	Terms    claims.Terms
 	Replicas int // more than 1 wants a server that waits for standbys: so many servers have each claim before it counts

@@ -504,7 +504,7 @@ func full(t *testing.T, s *machine, fill, free func()) {
 	stays(t, before, a, b, opened(t, o))
 }
 
-// SET of what is over answers OK, and nothing is kept: the store's time tells.
+// SET of an expired entry answers OK, and nothing is kept: the store's time decides.
 func TestWhatIsOverIsNotKept(t *testing.T) {
 	t.Parallel()
 	s := start(t)
@@ -1028,7 +1028,7 @@ func TestARecordThatChangedMeanwhile(t *testing.T) {
 	}
 }
 
-// A member that knows nothing makes an emptied store anew, and waits. Who ran before sees in that time that it is another history.
+// A member that knows nothing makes an emptied store again, and waits. A member that ran before sees in that time that it is another history.
 func TestAStoreThatWasMadeAnew(t *testing.T) {
 	t.Parallel()
 	s := start(t)

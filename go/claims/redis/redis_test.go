@@ -16,7 +16,7 @@ import (
 // compares is how long members of a test compare. They look at the state each 20 ms.
 const compares = 300 * time.Millisecond
 
-// comparing is a store that is open, and whose member lets others compare for as long as can be: a busy machine may be slow. It waits no longer
+// comparing is a store that is open, and whose member lets others compare for as long as can be: a busy machine may be slow. It stops waiting
 // once another one has ended the epoch.
 func comparing(t testing.TB, o Options) claims.Store {
 	t.Helper()

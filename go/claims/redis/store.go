@@ -41,7 +41,7 @@ const (
 
 // Options say which store a group has.
 type Options struct {
-	URLs     []string // of servers, of which one is the primary; of Sentinels; or of some servers of a Cluster
+	URLs     []string // of servers, one of them the primary; of Sentinels; or of some servers of a Cluster
 	Name     string   // the group's
 	Terms    claims.Terms
 	Replicas int // how many servers must have an entry before it counts; 0 is 1, the primary
@@ -217,7 +217,7 @@ func (s *Store) drop(c *conn) {
 	}
 }
 
-// leave ends the use of a connection, of which err came.
+// leave ends the use of a connection, which gave err.
 func (s *Store) leave(c *conn, err error) {
 	if c.Err() == nil && !errors.Is(err, errReplica) && !isGone(err) {
 		s.give(c)

@@ -124,7 +124,7 @@ func (s *server) at(address string) *server {
 	return &other
 }
 
-// secret is the password; "" where there is none. A file is read anew for each connection.
+// secret is the password; "" where there is none. A file is read again for each connection.
 func (s *server) secret() (string, error) {
 	if s.service != "" {
 		if s.sentinelPassword == "" {
@@ -150,7 +150,7 @@ func firstLine(name string) (string, error) {
 	return strings.TrimSuffix(first, "\r"), nil
 }
 
-// tls returns the configuration of a connection; nil for one without TLS. The files are read anew for each connection, so that
+// tls returns the configuration of a connection; nil for one without TLS. The files are read again for each connection, so that
 // certificates and authorities may be renewed meanwhile.
 func (s *server) tls() (*tls.Config, error) {
 	if !s.secure {

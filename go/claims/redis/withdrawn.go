@@ -12,7 +12,7 @@ import (
 	"svid.example/go/v3/claims"
 )
 
-// A list is a string of withdrawals, one after the other, each of which has withdrawalLength bytes: the letters svw1, the token's key,
+// A list is a string of withdrawals, one after the other. Each has withdrawalLength bytes: the letters svw1, the token's key,
 // when it expires, with the most significant byte first, and the CRC-32C of all these. A reader passes over bytes that are none. So
 // it can read a page of a list that anybody may have written to.
 const (

@@ -28,7 +28,7 @@ const (
 )
 
 // scale runs a group on this machine, sends tokens to all members but one, which only hears of them, or in mode strict of nothing, and
-// prints a row of what one token costs.
+// prints a row with the costs of one token.
 func scale(f *flag.FlagSet, args []string) error {
 	svidd := f.String("svidd", "", "the program")
 	members := f.Int("members", 3, "how many sidecars")

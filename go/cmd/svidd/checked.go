@@ -21,7 +21,7 @@ import (
 )
 
 // bundleProblems reads the trust bundles that are files, and says what is wrong with them. faults say which can't be used,
-// and warnings of which no token can be accepted. (What answers over a socket may be away, and come later.)
+// and warnings which can accept no token. (What answers over a socket may be away, and come later.)
 func (o *options) bundleProblems() (faults, warnings problems) {
 	specs, err := o.specs()
 	if err != nil {
@@ -137,7 +137,7 @@ func (o *options) serverProblems() (faults, warnings problems) {
 	return faults, warnings
 }
 
-// ask makes a check of what stands at some addresses.
+// ask checks the servers at some addresses.
 func (o *options) ask(option string, addresses []string, check func(context.Context) error, faults, warnings *problems) {
 	away, isAny := reachable(addresses)
 	if *warnings = append(*warnings, away...); !isAny {

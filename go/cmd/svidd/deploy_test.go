@@ -425,7 +425,7 @@ func TestEnvoyListener(t *testing.T) {
 	if answer, _ := send("GET", "/", token(t, "deaf", lasting)); answer.StatusCode != 503 {
 		t.Errorf("a sidecar that does not answer: %d", answer.StatusCode)
 	}
-	// What the other setting would do, and that whoever sets it was told.
+	// What the other setting would do, and that the documents say so.
 	e.filter.FailureModeAllow = true
 	if answer, body := send("GET", "/", ""); answer.StatusCode != 200 || !strings.Contains(body, "of [spiffe://example.org/admin spiffe://example.org/root] for") {
 		t.Errorf("failure_mode_allow: %d %q", answer.StatusCode, body)

@@ -142,7 +142,7 @@ func devServe(args []string, std stdio) int {
 // A bench is a running svidd dev.
 type bench struct {
 	devOptions
-	room    string // the folder of the socket, and of what others read
+	room    string // the folder of the socket, and of the files that others read
 	std     stdio
 	desk    *dev.Desk
 	servers []served

@@ -449,7 +449,7 @@ func killed(t *testing.T, rounds int, p *process, others []*process, brokers []*
 	t.Logf("killed %d times; %d tokens were answered 200 before, and none of them behind it", rounds, total)
 }
 
-// afterSome does something once a random number of tokens is on the way: 20 at the least, of which 8 may have no answer yet.
+// afterSome does something once a random number of tokens is on the way: 20 at the least, and up to 8 of these have no answer yet.
 func afterSome(group *sync.WaitGroup, begun *int64, do func()) {
 	group.Add(1)
 	go func() {

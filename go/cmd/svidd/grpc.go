@@ -23,7 +23,7 @@ const (
 	// mostUnread is how many bytes of messages a connection may send that no call has read yet. With their headers, that is less
 	// than a bounded connection may send.
 	mostUnread = 2 * svidhttp.MaxHeader
-	// tellAgain is how often connections are told to end, while they do not.
+	// tellAgain is how often the server tells connections to end, while they do not.
 	tellAgain = 100 * time.Millisecond
 )
 

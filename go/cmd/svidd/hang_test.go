@@ -26,7 +26,7 @@ func hanging(t *testing.T, call string) []string {
 	return append(words, os.Args[0])
 }
 
-// without skips a test for want of something. Where CI=true that is a failure: go test says nothing of what it skips.
+// without skips a test for want of something. Where CI=true that is a failure: go test does not name what it skips.
 func without(t *testing.T, why string, values ...any) {
 	t.Helper()
 	if os.Getenv("CI") == "true" {

@@ -10,7 +10,7 @@ import (
 	"time"
 )
 
-// moves are how the path of a state folder comes to lead elsewhere while svidd runs.
+// moves are ways to make the path of a state folder lead elsewhere while svidd runs.
 var moves = map[string]func(t *testing.T, state string){
 	"removed": func(t *testing.T, state string) { must(t, os.RemoveAll(state)) },
 	"moved":   func(t *testing.T, state string) { must(t, os.Rename(state, state+".old")) },

@@ -133,7 +133,7 @@ func (p *prometheus) api(path string, into any) error {
 	return json.Unmarshal(text.Data, into)
 }
 
-// query is the samples of an expression now: none where there is no answer.
+// query returns the samples of an expression now, or nil without an answer.
 func (p *prometheus) query(expr string) []any {
 	var data struct{ Result []any }
 	if err := p.api("query?query="+url.QueryEscape(expr), &data); err != nil {

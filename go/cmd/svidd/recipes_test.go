@@ -447,7 +447,7 @@ func TestCaddyRecipe(t *testing.T) {
 	r.holds()
 }
 
-// Without TLS Caddy speaks HTTP/2 only where it is told to.
+// Without TLS Caddy speaks HTTP/2 only where its configuration says so.
 func TestCaddyRecipeOverHTTP2(t *testing.T) {
 	t.Parallel()
 	r := newRecipe(t)

@@ -75,7 +75,7 @@ func (w *waits) take() []chan outcome {
 	return all
 }
 
-// reloaded lets the options and the bundles be read again, and waits for that, since a file may hang no longer than who asks waits.
+// reloaded lets the options and the bundles be read again, and waits for that until ctx ends, since a file may hang.
 func (s *sidecar) reloaded(ctx context.Context) (guard.Reloaded, error) {
 	one := s.waits.add()
 	s.reload()
@@ -101,7 +101,7 @@ func (s *sidecar) reloadNow() (guard.Reloaded, error) {
 
 // reread reads the options again, as the start read them, and takes over what can change. It logs what has changed, and what counts
 // only after a restart. Where something is wrong, that is logged, and nothing changes. It tells whether bundles come from elsewhere
-// now, and so were read anew.
+// now, and so were read again.
 func (s *sidecar) reread() (done guard.Reloaded, followed bool, err error) {
 	var now options
 	f := now.flags()

@@ -33,8 +33,8 @@ const (
 	// spareHeap is how many bytes of garbage gather, beside as many as are in use, before they are collected. Only a few
 	// megabytes are in use, since the record is in the library's memory: without it they are collected twenty times a second.
 	spareHeap = 32 << 20
-	// startGarbage is how much garbage may gather before the sidecar is ready, in hundredths of what is in use and of the spare heap (as GOGC,
-	// which counts in its place).
+	// startGarbage is how much garbage may gather before the sidecar is ready, in percent of the memory in use and of the spare heap (as GOGC,
+	// which counts instead of it).
 	startGarbage = 15
 	// readyPause is between two looks whether it is.
 	readyPause = 100 * time.Millisecond

@@ -20,7 +20,7 @@ var schemes = map[string]string{"nats": "NATS", "tls": "NATS", "ws": "NATS", "ws
 	"redis": "Redis", "rediss": "Redis", "redis+sentinel": "Redis", "rediss+sentinel": "Redis", "unix": "Redis", "postgres": "PostgreSQL", "postgresql": "PostgreSQL"}
 
 // kindOf says what addresses stand for: "NATS", "Redis" or "PostgreSQL"; "" where there is none, or where one is of another kind than
-// the first: its number is told then.
+// the first: wrong is its number then.
 func kindOf(addresses []string) (kind string, wrong int) {
 	for i, address := range addresses {
 		scheme, _, _ := strings.Cut(address, "://")

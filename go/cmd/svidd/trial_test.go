@@ -97,7 +97,7 @@ func TestCheckConfigAsksTheServers(t *testing.T) {
 			t.Errorf("%s: %d %q %q, and %q is due", what, status, out, said, row.want)
 		}
 	}
-	// Redis waits for the rest of what it takes for a command.
+	// Redis takes this for the beginning of a command, and waits for the rest.
 	status, _, said := here("", append(good[:len(good):len(good)], strict(strings.Replace(redis, "redis://", "rediss://", 1))...)...)
 	if status != 0 || !strings.HasPrefix(said, "svidd: warning: --store: no good answer within 2s") || !strings.Contains(said, "speaks no TLS") {
 		t.Errorf("Redis speaks no TLS: %d %q", status, said)

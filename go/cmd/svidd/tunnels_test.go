@@ -31,7 +31,7 @@ func (r *recipe) hearsNobodyElse(what string) {
 }
 
 // opensNoTunnel wants a CONNECT to be refused, and its token to stay good. Where a service answers 200, as one of Go does, a proxy that hands it on
-// makes a tunnel: it looks at nothing of what comes behind it.
+// makes a tunnel: it does not look at the bytes that follow.
 func (r *recipe) opensNoTunnel() {
 	t := r.t
 	t.Helper()

@@ -180,8 +180,8 @@ func meant(f *flag.FlagSet, name string) string {
 	return ""
 }
 
-// nearest is the name that is spelled nearly so: of which this is the beginning, or from which a third of the letters differ at the
-// most. It is "" where there is none.
+// nearest returns the name that is spelled most like this one: it begins with this one, or at most a third of the letters differ. It is ""
+// where there is none.
 func nearest(name string, names []string) (near string) {
 	name = strings.ToLower(strings.ReplaceAll(strings.Trim(name, "-"), "_", "-"))
 	least := len(name)/3 + 1

@@ -3,7 +3,7 @@
 //	vendored GO SOURCES DOCUMENTS
 //
 // GO is the folder of the module, SOURCES where Debian keeps the sources of Go libraries, and DOCUMENTS where it keeps their licenses. GO has
-// the file vendor.txt, which says of each module from which Debian package it comes. The program writes anew:
+// the file vendor.txt, which says of each module from which Debian package it comes. The program rewrites:
 //
 //   - vendor/, with what `go mod vendor` keeps: the packages that this module imports, by tests too, and those that they import. It leaves
 //     out files that no Go builds from the version of go.mod on. LICENSE is Debian's copyright file of the module; where that only
@@ -103,7 +103,7 @@ var (
 	release  = regexp.MustCompile(`^(?:\d+:)?(\d+\.\d+\.\d+)(?:[+~][a-z]+[\w.]*)?(?:-[\w.+~]+)?$`)
 )
 
-// versionOf is the version of a module of which Debian has an edition.
+// versionOf is the version of a module that Debian has in this edition.
 func versionOf(edition string) (string, error) {
 	if parts := release.FindStringSubmatch(edition); parts != nil {
 		return "v" + parts[1], nil
@@ -382,7 +382,7 @@ type folder struct {
 	packages map[string][]string
 }
 
-// read reads what vendor/ is to have. A module that go.mod requires and of which nothing is imported is a fault.
+// read reads what vendor/ is to have. A module that go.mod requires, but that nothing imports, is a fault.
 func read(folderOfGo string, m mod, rows map[string]module, from debian) (folder, error) {
 	found := folder{map[string]map[string][]byte{}, map[string][]string{}}
 	all, err := packages(folderOfGo, from.sources, m)

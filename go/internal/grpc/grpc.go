@@ -39,7 +39,7 @@ type TooLarge uint32
 
 func (n TooLarge) Error() string { return fmt.Sprintf("the message has %d bytes", uint32(n)) }
 
-// frameHead is the length of what stands before each message: whether it is compressed, and its length.
+// frameHead is the length of the head of each message: whether it is compressed, and its length.
 const frameHead = 5
 
 // Frame returns a message as gRPC sends it.

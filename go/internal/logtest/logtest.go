@@ -542,7 +542,7 @@ func (s *suite) paused(t *testing.T) {
 	s.trouble(t, 2, func(away func()) { s.server.Pause(t); away(); s.server.Resume(t) })
 }
 
-// A server that is put back from an older copy has lost values: who has read these begins anew, and says so.
+// A server that is put back from an older copy has lost values: a member that has read these begins again, and says so.
 func (s *suite) putBack(t *testing.T) {
 	o := Options{Name: s.name()}
 	m := s.join(t, o)
@@ -602,7 +602,7 @@ func (s *suite) putBackAndAhead(t *testing.T) {
 	}
 }
 
-// A log that was removed is made anew, and who has read it says so. Who had nothing to read goes on in the new one.
+// A log that was removed is made again, and a member that has read it says so. One that had nothing to read goes on in the new one.
 func (s *suite) destroyed(t *testing.T) {
 	o := Options{Name: s.name()}
 	empty := s.join(t, o)
@@ -779,7 +779,7 @@ func Copied(t testing.TB, dir string, stop, kill func(), start func(testing.TB))
 	}
 }
 
-// CopyAll puts what a folder has into another one, instead of what that has.
+// CopyAll removes what the folder to has, and copies into it everything that from has.
 func CopyAll(t testing.TB, from, to string) {
 	t.Helper()
 	for _, words := range [][]string{{"mkdir", "-p", to}, {"find", to, "-mindepth", "1", "-delete"}, {"cp", "-a", from + "/.", to}} {

@@ -19,7 +19,7 @@ type Proxy struct {
 	conns   map[net.Conn]bool
 }
 
-// NewProxy listens, and connects whoever comes to an address.
+// NewProxy listens, and connects each client to an address.
 func NewProxy(t testing.TB, to string) *Proxy {
 	t.Helper()
 	l, err := net.Listen("tcp", "127.0.0.1:0")

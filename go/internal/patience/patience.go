@@ -8,7 +8,7 @@ import (
 	"time"
 )
 
-// variable, in the environment, says it in seconds. go/wrong/run sets it, since there most of what a test waits for never comes.
+// variable, in the environment, says it in seconds. go/wrong/run sets it, since there most events that a test waits for never come.
 const variable = "SVID_TEST_PATIENCE"
 
 // Long is three minutes where nobody says anything else: a busy machine may be slow.

@@ -1,4 +1,4 @@
-// Package secured connects by TLS to servers of which nothing is known yet.
+// Package secured connects by TLS to servers that have not yet shown who they are.
 package secured
 
 import (
@@ -9,7 +9,7 @@ import (
 	"time"
 )
 
-// Dial connects, and waits for no longer than most for the server to show who it is. What that shows is read before anything is known of it, and
+// Dial connects, and waits at most as long as most for the server to show who it is. What that shows is read before anything is known of it, and
 // by a key of an unknown algorithm or of DSA it lets package crypto/x509 panic (CVE-2024-24783, CVE-2025-58188): that is an error here, and ends no
 // process.
 func Dial(ctx context.Context, network, address string, config *tls.Config, most time.Duration) (conn net.Conn, err error) {

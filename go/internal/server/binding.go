@@ -188,7 +188,7 @@ func isURI(text string) bool {
 	return err == nil && u.Scheme != "" && strings.HasPrefix(text[len(u.Scheme):], "://")
 }
 
-// mostShown is how many bytes of what is no address stand in the log. No token is so short.
+// mostShown is how many bytes of a value that is no address stand in the log. No token is so short.
 const mostShown = 64
 
 // where says what has the address of a client.

@@ -357,7 +357,7 @@ func TestWithdrawalsThatHaveExpiredAreDropped(t *testing.T) {
 	}
 }
 
-// A cutShop is a store of which a part is away, as a Redis Cluster without one of its servers. It can't say what it is. The rest goes on.
+// A cutShop is a store with a part that is away, as a Redis Cluster without one of its servers. It can't say what it is. The rest goes on.
 type cutShop struct{ *shop }
 
 var errCut = errors.New("shard 7: connection refused")
@@ -391,8 +391,8 @@ func TestBoundHearsOfWithdrawalsOfAStoreThatIsPartlyAway(t *testing.T) {
 	}
 }
 
-// A sidecar that has not read the store's withdrawals judges nothing. The member is told of a store that is away, or has lost entries: what that
-// means for /readyz it says itself.
+// A sidecar that has not read the store's withdrawals judges nothing. The engine tells the member of a store that is away, or has lost entries, and
+// the member decides what that means for /readyz.
 func TestReadyInBound(t *testing.T) {
 	s := newShop()
 	e := ready(t, engine(t, inBound(t, "header:X-Caller", Options{Wait: time.Millisecond})))
@@ -525,7 +525,7 @@ func TestCallersAreToldApart(t *testing.T) {
 			t.Errorf("%+v: the other one: %d %s", row, w.Code, w.Body)
 		}
 	}
-	// Kinds of names are told apart, and a name can't be one of another kind.
+	// Kinds of names differ: a name can't be one of another kind.
 	digests := map[[32]byte]string{}
 	for _, kind := range []string{"address", "header", "principal", "name"} {
 		for _, name := range []string{"192.0.2.1", "header\x00192.0.2.1", "\x00192.0.2.1"} {

@@ -173,7 +173,7 @@ func TestNobodyWaitsForASnapshot(t *testing.T) {
 	}
 }
 
-// A full disk in mode once is told by /readyz. A withdrawal that is not kept is no reason in the other modes, which keep
+// /readyz tells of a full disk in mode once. A withdrawal that is not kept is no reason in the other modes, which keep
 // acceptances elsewhere.
 func TestReadyzTellsOfADiskThatKeepsNothing(t *testing.T) {
 	for mode, want := range map[Mode]bool{Once: false, Reuse: true} {

@@ -81,7 +81,7 @@ type Options struct {
 	Step        uint64      // seconds that the clock may go ahead between two ticks; 0 for any
 	Jumped      func()      // is called once the clock has been further ahead than Step for a minute; may be nil
 	ValidatorID svid.ValidatorID
-	Journal     Journal       // nil keeps nothing on the disk
+	Journal     Journal       // nil writes nothing to the disk
 	Grouped     bool          // the engine is not ready before it joined a group
 	Stored      bool          // the engine is not ready before it reached the group's store (UseStore)
 	Terms       claims.Terms  // of that store
@@ -379,7 +379,7 @@ func (e *Engine) kept(w *Write, err error) {
 	e.step(Kept{w})
 }
 
-// appendInTime brings uses to the disk, and waits for that no longer than anybody else does: a disk that hangs gathers no goroutines.
+// appendInTime brings uses to the disk, and waits for that as long as anybody else at the most: a disk that hangs gathers no goroutines.
 func (e *Engine) appendInTime(w *Write) {
 	ctx, cancel := context.WithTimeout(e.life, w.Within)
 	defer cancel()
@@ -737,7 +737,7 @@ func (e *Engine) Answers(summary []byte, most int) ([][]byte, error) {
 func (e *Engine) Save(w io.Writer) error { return e.machine.Save(w) }
 
 // Run keeps the record until ctx ends: it follows the clock, tells the group, and
-// takes snapshots. It returns once what waited for the group is told or given up,
+// takes snapshots. It returns once everything that waited for the group was sent or given up,
 // and the last snapshot is taken.
 func (e *Engine) Run(ctx context.Context) {
 	e.step(Run{})

@@ -15,7 +15,7 @@ import (
 // MaxEnvoy is how many bytes a CheckRequest of Envoy may have: the headers of a request, and what Envoy says beside them.
 const MaxEnvoy = 2 * svidhttp.MaxHeader
 
-// A call that can't be read ends with such a status of gRPC. (Envoy then lets nothing through, unless it is told to.)
+// A call that can't be read ends with such a status of gRPC. (Envoy then lets nothing through, unless it has failure_mode_allow.)
 var (
 	errNoCheck  = &grpc.Fault{Code: grpc.Unimplemented, Why: "only envoy.service.auth.v3.Authorization/Check is answered"}
 	errTooLarge = &grpc.Fault{Code: grpc.ResourceExhausted, Why: "the message has more than " + strconv.Itoa(MaxEnvoy) + " bytes: let Envoy send no body (with_request_body)"}

@@ -30,7 +30,7 @@ var example = func() *issuer.Issuer {
 	return i
 }()
 
-// A disk is a Journal that keeps what is appended, and fails when it is told to.
+// A disk is a Journal that keeps what is appended, and fails when a test wants that.
 type disk struct {
 	mu     sync.Mutex
 	kept   []byte

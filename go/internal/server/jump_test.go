@@ -11,7 +11,7 @@ import (
 )
 
 // A clock that jumps ahead expires nothing. While it is there no token is judged, and when it has come back all is as before. If
-// it stays there for a minute, the sidecar begins anew.
+// it stays there for a minute, the sidecar restarts.
 func TestAClockThatJumpsAhead(t *testing.T) {
 	var log bytes.Buffer
 	b := benchOf(t, Options{Mode: Once, Log: NewLog(&log, Errors)})

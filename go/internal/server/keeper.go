@@ -196,7 +196,7 @@ func (m *Machine) keptSoon(err error) {
 	m.keeper.busy, m.keeper.due = nil, m.now.Up+keepPause
 }
 
-// seldom logs an error of what is tried again and again.
+// seldom logs an error of something that is tried again and again.
 func (m *Machine) seldom(event string, err error) {
 	m.keeper.faults.log(m.now.Up, m.Log, event, err)
 }

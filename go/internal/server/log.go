@@ -62,7 +62,7 @@ func (l *Log) Dropped() uint64 {
 	return outlet.Dropped()
 }
 
-// Close lets the log's Outlet take no more lines, and waits until those that came are written, for no longer than most. It does nothing
+// Close lets the log's Outlet take no more lines, and waits until those that came are written, but at most as long as most. It does nothing
 // where the log has no Outlet.
 func (l *Log) Close(most time.Duration) {
 	if l == nil {

@@ -26,7 +26,7 @@ type Machine struct {
 	effects []Effect
 	due     time.Duration // when the member has something that is over; never where it has nothing
 
-	known   svid.Known // that the member was told
+	known   svid.Known // as the machine last told it to the member
 	useless string     // why its trust bundles are as good as none; "" where they are not, or there are none
 	began   uint64     // when the machine was made
 
@@ -50,7 +50,7 @@ type Machine struct {
 	runs   bool
 	second time.Duration // when the machine looks after itself next
 	ending bool
-	giveUp time.Duration // when the end waits no longer for the group
+	giveUp time.Duration // when the end stops waiting for the group
 	last   bool          // the last snapshot is taken, or being taken
 }
 
@@ -82,7 +82,7 @@ type (
 	Answer struct{ *Call }
 	// Snapshot: replace what is on the disk by Save, and then Snapshotted.
 	Snapshot struct{}
-	// JumpedAhead: the clock has been too far ahead for a minute: begin anew.
+	// JumpedAhead: the clock has been too far ahead for a minute: restart.
 	JumpedAhead struct{}
 	// Ended: sent after End, once everything that could be published and persisted was.
 	Ended struct{}
@@ -281,7 +281,7 @@ func (End) happen(m *Machine) {
 	m.tellNext()
 }
 
-// end ends the machine once nothing is under way: what waits for the group is told or given up, and what waits for the disk
+// end ends the machine once nothing is under way: what waits for the group is sent or given up, and what waits for the disk
 // is there or could not be kept. Then comes the last snapshot.
 func (m *Machine) end() {
 	if !m.ending || m.known.Ended {

@@ -392,7 +392,7 @@ func TestEachRequestIsAnsweredAtItsTime(t *testing.T) {
 	}
 }
 
-// A request that is answered while its signature is verified is answered once, and nothing is kept of it.
+// A request may get its answer while its signature is verified. It gets one answer, and nothing is kept of it.
 func TestAVerificationThatTakesTooLong(t *testing.T) {
 	for mode, o := range map[Mode]Options{Once: {Mode: Once, Journal: &disk{}}, Reuse: {Mode: Reuse}, Strict: inStrict(Options{})} {
 		b := benchOf(t, o)

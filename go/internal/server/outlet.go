@@ -82,7 +82,7 @@ func (o *Outlet) Dropped() uint64 {
 	return o.dropped
 }
 
-// Close lets no more lines come, and waits until those that came are written, for no longer than most.
+// Close lets no more lines come, and waits until those that came are written, but at most as long as most.
 func (o *Outlet) Close(most time.Duration) {
 	o.mu.Lock()
 	o.closed = true

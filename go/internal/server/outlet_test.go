@@ -12,7 +12,7 @@ import (
 	"svid.example/go/v3/internal/patience"
 )
 
-// A sink is a writer that hangs, and fails, as it is told.
+// A sink is a writer that hangs, and fails, as a test wants it.
 type sink struct {
 	mu    sync.Mutex // is held while it hangs
 	begun chan int   // the length of each write, before it is made; nobody need read it

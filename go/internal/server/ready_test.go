@@ -55,7 +55,7 @@ func TestReadyzTellsOfAStoreThatIsAway(t *testing.T) {
 			return nil
 		}
 		e := s.use(t, ready(t, engine(t, o)))
-		await(t, "the store to be there", func() bool { e.lookAhead(); return e.Ready() == nil }) // (a look may take no longer than a request)
+		await(t, "the store to be there", func() bool { e.lookAhead(); return e.Ready() == nil }) // (a look may take as long as a request at the most)
 		away.Store(true)
 		e.lookAhead()
 		if mode == Strict {

@@ -120,7 +120,7 @@ var errMixed = errors.New("another sidecar of the group accepts tokens in anothe
 
 // noteMode logs that another sidecar of the group runs in another mode, as a value of that mode tells, and counts such values.
 func (m *Machine) noteMode(message []byte) {
-	uses, _ := svid.Uses(message) // (none of what is no message)
+	uses, _ := svid.Uses(message) // (none of bytes that are no message)
 	for i := range uses {
 		if m.saysMode(&uses[i]) {
 			m.sayMixed(&uses[i])
@@ -210,7 +210,7 @@ func (m *Machine) lookAfterAll() {
 // tick lets the record follow the clock. A clock that goes ahead by more than Options.Step at once would expire all that
 // the record knows, and the record can't go back. So the record stays where it is, and tokens are answered 503 (svid.ErrJump),
 // until the clock is right again, or has stayed there for so long that it seems to be right: Options.Jumped then lets the
-// sidecar begin anew, with the record of the disk and of the group.
+// sidecar restart, with the record of the disk and of the group.
 func (m *Machine) tick() {
 	now := m.now.Wall
 	err := m.validator.Tick(now)
@@ -253,8 +253,8 @@ func (m *Machine) save() {
 
 // A Snapshotted: the effect Snapshot is done.
 type Snapshotted struct {
-	Length int64 // of what Save wrote
-	Size   int64 // of what the disk has beside it
+	Length int64 // of the bytes that Save wrote
+	Size   int64 // of the bytes that the disk has beside it
 	Err    error
 }
 

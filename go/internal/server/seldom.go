@@ -9,7 +9,7 @@ const (
 	mostCauses = 16
 )
 
-// A seldom logs errors of what is tried again and again. For each cause, which is the error's text, it lets one line a minute
+// A seldom logs errors of things that are tried again and again. For each cause, which is the error's text, it lets one line a minute
 // through, and counts the others: the next line says how many there were (unlogged).
 type seldom struct {
 	said     map[string]time.Duration // when the last line about a cause went out, of the last minute alone

@@ -68,7 +68,7 @@ func TestTheKeeperDoesNotFillTheLog(t *testing.T) {
 		t.Errorf("another cause: the log has %s", &out)
 	}
 
-	// So it is of what there is no room for.
+	// The same holds for uses that there is no room for.
 	full := func(times int) {
 		e.step(doing(func(m *Machine) { m.keeper.uses, m.keeper.busy = make([]svid.Use, mostUnkept), new(Write) }))
 		for i := 0; i < times; i++ {

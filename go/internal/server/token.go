@@ -76,7 +76,7 @@ func (u *unverified) append(line []byte) []byte {
 	if len(line) == from {
 		line = append(line, ',')
 	}
-	line[from] = '{' // in place of the comma
+	line[from] = '{' // instead of the comma
 	return append(line, '}')
 }
 

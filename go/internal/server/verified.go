@@ -10,7 +10,7 @@ import (
 
 // verified keeps which key made the signature of a token, for modes reuse and bound, where a token comes again and again: it need not be
 // verified each time. What is kept is no verdict. The validator judges the token each time, and counts a key only if it has it
-// at that moment. So a kept key counts no longer than its bundles. A token is known by a digest of all of it, so its key is of no
+// at that moment. So a kept key counts only while its bundles do. A token is known by a digest of all of it, so its key is of no
 // use for another token.
 //
 // A token is known from its second acceptance on. So one that comes once is not digested, and no known one makes room for it. Those that come often

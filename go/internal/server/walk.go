@@ -230,7 +230,7 @@ func (r *Request) ended(why error) error {
 
 // finish answers a request. What was read of its token is let go here, or by who verifies it still.
 //
-// In mode once the group is told now, without waiting: what does not reach it is repaired by summaries. In mode strict the use goes to the disk, where
+// In mode once the machine tells the group now, without waiting: summaries repair what does not reach it. In mode strict the use goes to the disk, where
 // there is one, and the answer does not wait for that: it is the store that makes the token unusable. In modes bound and reuse there is no use: the token
 // may come again.
 func (m *Machine) finish(r *Request, err error) {

@@ -59,7 +59,7 @@ func (l Landed) happen(m *Machine) {
 
 // A tale is what the group is to be told.
 type tale struct {
-	values uint64        // numbers of what was put into the group's bucket, except for claims
+	values uint64        // numbers of the values put into the group's bucket, except for claims
 	untold []svid.Use    // these wait
 	told   *Put          // these are on their way
 	due    time.Duration // when the next ones are to go out
@@ -138,7 +138,7 @@ func (m *Machine) dropTale() {
 //
 // Other sidecars take it only if its time is at most Options.Ahead past their clocks. Where this clock (or a record that an
 // earlier one has brought ahead) is further ahead of the broker's, they don't take it before then: that is an error, which
-// says from when on they do, and they are told again at that time.
+// says from when on they do, and the machine tells them again at that time.
 func (m *Machine) isHeard(use svid.Use, broker uint64) error {
 	if use.At <= broker+m.Ahead {
 		return nil

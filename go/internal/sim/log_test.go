@@ -13,7 +13,7 @@ import (
 const keeps = (longest + 2*ahead) * time.Second
 
 // A logServer is the group's log, as a Group promises it: values have one order, and stay until they are too old, unless
-// someone removes them. Members see by the positions that values are missing, or they are told.
+// someone removes them. Members see by the positions that values are missing, or the server tells them.
 type logServer struct {
 	w      *world
 	values []stored      // in the order of their positions
@@ -82,7 +82,7 @@ func (s *logServer) remove(number int) {
 	s.values = append(append([]stored(nil), s.values[:i]...), s.values[i+1:]...)
 }
 
-// putBack puts an older copy back, which lacks the last values: members lose their connections, and are told.
+// putBack puts an older copy back, which lacks the last values: members lose their connections, and hear of it.
 func (s *logServer) putBack(number int) {
 	if number > len(s.values) {
 		number = len(s.values)
@@ -95,7 +95,7 @@ func (s *logServer) putBack(number int) {
 	s.w.tell("log: an older copy, up to value %d", s.last)
 	for _, m := range s.w.members {
 		if m.life != nil {
-			m.life.pumpSoon(m.delay(kindRead)) // The connection is lost, and made anew.
+			m.life.pumpSoon(m.delay(kindRead)) // The connection is lost, and made again.
 		}
 	}
 }

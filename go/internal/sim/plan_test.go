@@ -34,7 +34,7 @@ type deed struct {
 	at     time.Duration
 	kind   string
 	member int
-	number int // of what the kind says
+	number int // the kind says what it counts
 	length time.Duration
 }
 
@@ -329,8 +329,8 @@ func (w *world) heal() {
 	}
 }
 
-// repair lets each member of mode once send a summary to the one before it, and then to the one behind it, and take the answers. So a use
-// comes to another member by one answer alone, and what is wrong with that answer is seen.
+// repair lets each member of mode once send a summary to the previous one, and then to the next one, and take the answers. So a use
+// reaches another member by one answer alone, and what is wrong with that answer is seen.
 func (w *world) repair() {
 	if w.plan.mode != server.Once {
 		return

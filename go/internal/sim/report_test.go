@@ -81,7 +81,7 @@ func caller(number int) (digest [32]byte) {
 	return digest
 }
 
-// unheard is for how long after a withdrawal a member may accept a token of which the store said before whose it is: it reads the withdrawals each
+// unheard is for how long after a withdrawal a member may accept a token whose owner the store named before: it reads the withdrawals each
 // second, and asks the store again where it could not read them for as long as a request waits.
 const unheard = time.Second + wait
 

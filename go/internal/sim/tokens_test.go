@@ -14,7 +14,7 @@ const (
 	base    = 1_767_225_600 // when a run begins
 	longest = 60
 	ahead   = 5
-	step    = 90 // more than a minute: so long a clock may be wrong until a sidecar begins anew
+	step    = 90 // more than a minute: so long a clock may be wrong until a sidecar restarts
 	wildest = 30 // so far ahead may a clock be that is further off than the options say
 )
 

@@ -1,6 +1,6 @@
 // Package sim simulates whole groups of sidecars in one goroutine: their machines (server.Machine), clocks that are wrong, disks
 // that fail, a store and a log that lose answers and what they have, kills, and clients that send one token everywhere. A seed gives a plan, and a
-// plan gives one run, each time the same. What a run may not do is looked for from outside, in the list of what happened.
+// plan gives one run, each time the same. What a run may not do is looked for from outside, in the list of events.
 package sim
 
 import (

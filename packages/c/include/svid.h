@@ -1,7 +1,7 @@
 /* svid.h: check JWT-SVIDs and share the record of used tokens, from C. Link with libsvid.a (or -lsvid) and the C library.
  *
  * To check tokens, a service keeps a `svid_validator`: open it once, check tokens, renew its bundles, exchange messages with other
- * validators, and close it. See "A validator that you keep" below. The stateless calls on records, as svid_join, read all inputs anew each
+ * validators, and close it. See "A validator that you keep" below. The stateless calls on records, as svid_join, read all inputs again each
  * time, so use them for records of up to a few thousand uses.
  *
  * To keep a record over restarts and crashes, see "A state folder".
@@ -9,7 +9,7 @@
  * Words: a *record* is what a validator remembers: the time that it has seen (its *moment*) and the *uses* of tokens that have not yet
  * expired. A *message* tells a record or a part of it to other validators (docs/FORMATS.md). All times are whole seconds since 1970.
  *
- * Results: a call returns a status: SVID_OK, or the number of what went wrong. `svid_strstatus` names it, and `svid_strsentence` says it in
+ * Results: a call returns a status: SVID_OK, or the number of the fault. `svid_strstatus` names it, and `svid_strsentence` says it in
  * words. `told` says more: how long the text is, or which input is at fault and where.
  *
  * Inputs are a pointer and a length in bytes. Where the length is 0, the pointer may be NULL. The library reads inputs only during the
@@ -65,7 +65,7 @@ enum svid_status {
     SVID_NO_MEMORY = 2,
     SVID_TOO_MUCH = 3,    /* bundles, a table or messages have more than 67,108,864 bytes; of messages, no field among the first
                              67,108,864 bytes is bad; told: input */
-    SVID_NOT_SUMMARY = 4, /* the first input is messages, but not one summary; nothing is told beside it */
+    SVID_NOT_SUMMARY = 4, /* the first input is messages, but not one summary; told: nothing */
 
     /* what a call on a validator or on bundles that you keep answers beside these */
     SVID_CLOSED = 5,   /* the validator, the bundles or the token is closed; nothing happened */
@@ -108,7 +108,7 @@ enum svid_status {
     /* of bundles too: _UNNAMED wherever they are read, and the others by svid_bundles_join; there told: input, the number of the document, counted from 1; offset */
     SVID_BUNDLES_UNNAMED = 37, /* the bundle of one trust domain, without its name */
     SVID_BUNDLES_TWICE = 38,   /* an earlier document has a bundle of this trust domain */
-    SVID_BUNDLES_LENGTHS = 39, /* the lengths of the documents do not add up to the length of `bytes`; nothing is told beside it */
+    SVID_BUNDLES_LENGTHS = 39, /* the lengths of the documents do not add up to the length of `bytes`; told: nothing */
 
     /* why a state folder takes no call; nothing happened */
     SVID_FOLDER_UNFIT = 41,       /* the numbers are not those of a folder, or of the file that is read */
@@ -244,7 +244,7 @@ typedef struct {
 
 /* What a token says, beside its texts. */
 typedef struct {
-    uint8_t key[32];    /* by which the uses of the token are told: `key` of svid_use */
+    uint8_t key[32];    /* identifies the token: `key` of svid_use */
     uint64_t exp;       /* when it expires, in seconds */
     size_t texts;       /* how many texts it has: four, and one for each audience */
 } svid_said;
@@ -270,11 +270,12 @@ typedef struct {
                         1 of any other call. SVID_TOO_MUCH also: 1 for bundles */
     size_t message;  /* which of its messages, counted from 1 */
     size_t offset;
-    size_t more;     /* of svid_validator_ask_token and svid_bundles_ask: 1 if more keys may have signed the token than it lists; of svid_validator_mark: 1 if the validator accepts claims; of svid_validator_differs: 1 if the
-                        bucket differs; of svid_status_sentence: the length of the text before any advice */
+    size_t more;     /* of svid_validator_ask_token and svid_bundles_ask: 1 if more keys may have signed the token than it lists; of
+                        svid_validator_mark: 1 if the validator accepts claims; of svid_validator_differs: 1 if the bucket differs; of
+                        svid_status_sentence: the length of the text before any advice */
 } svid_told;
 
-/* What svid_bundles_judge is told, beside its inputs. */
+/* The parameters of svid_bundles_judge, beside its inputs. */
 typedef struct {
     uint64_t moment;    /* at which the token is judged, in seconds */
     uint64_t longest;   /* how many seconds past it a token may expire; UINT64_MAX for any */
@@ -285,7 +286,7 @@ typedef struct {
 typedef struct {
     uint64_t exp;       /* when the token expires, in seconds */
     uint64_t at;        /* the record's moment when the token was accepted, in seconds */
-    uint8_t key[32];    /* by which the uses of the token are told */
+    uint8_t key[32];    /* identifies the token */
     uint8_t validator_id[16];  /* of the validator */
 } svid_use;
 
@@ -294,7 +295,7 @@ typedef struct {
     uint64_t withdrawn; /* 0 if the token was accepted, and 1 if it was withdrawn */
     uint64_t exp;       /* when the token expires, in seconds */
     uint64_t at;        /* the record's moment when it was accepted or withdrawn, in seconds */
-    uint8_t key[32];    /* by which the uses of the token are told */
+    uint8_t key[32];    /* identifies the token */
     uint8_t validator_id[16];  /* of the validator that accepted or withdrew it */
 } svid_entry;
 
@@ -327,7 +328,7 @@ typedef struct {
     uint8_t validator_id[16];  /* 16 bytes that name this validator among all that share its record; take random ones for each process */
 } svid_terms;
 
-/* The key by which the uses of a token are told: `key` of svid_use. */
+/* The key that identifies a token: `key` of svid_use. */
 typedef struct {
     uint8_t bytes[32];
 } svid_key;
@@ -355,7 +356,7 @@ uint32_t svid_validator_bundles(svid_validator *v, const uint8_t *bundles, size_
 
 /* A token that is read once, by svid_token_open, for the calls that look for its keys, judge and check it. None of these hashes it. It shares
  * nothing with a validator, and any validator may be asked about it. The rules of a validator hold for it too: it begins as SVID_TOKEN_CLOSED, only
- * the calls write it, give it to one call at a time, and do not copy it while it is open. Close it once you need it no longer. */
+ * the calls write it, give it to one call at a time, and do not copy it while it is open. Close it when you are done with it. */
 typedef struct { uint64_t word; void *held; } svid_token;
 #define SVID_TOKEN_CLOSED { 0, NULL }
 
@@ -413,7 +414,7 @@ uint32_t svid_validator_judge_token(svid_validator *v, uint64_t now, const uint8
                                     svid_token *t, uint8_t *out, size_t out_len, svid_use *used, svid_told *told);
 
 /* Withdraws the token with this key, which expires at `exp`: it is refused as SVID_WITHDRAWN from now on until `exp`, also by the validators that
- * are told of it. If the token expires later than that, it may be accepted then. `used` is what the record gained. SVID_GONE if the token has
+ * hear of it. If the token expires later than that, it may be accepted then. `used` is what the record gained. SVID_GONE if the token has
  * expired; SVID_JUMP; SVID_NO_MEMORY, but never for a withdrawal that the record has already. */
 uint32_t svid_validator_withdraw(svid_validator *v, uint64_t now, const svid_key *key, uint64_t exp,
                                  svid_use *used, svid_told *told);
@@ -555,7 +556,7 @@ typedef struct {
  * last value in the log at the start: the validator accepts nothing up to there. `lasts` is how many seconds a use may live once it is in
  * the log: the longest life of a token, and twice what two clocks may differ. `beside` is what svid_validator_beside wrote at that mark, or no
  * bytes. The record stays as it is: take one that was saved at that mark or later by svid_validator_take. A validator that reads a log already
- * begins anew.
+ * begins again.
  *
  * SVID_MAGIC to SVID_TRUNCATED, with `offset` told and not `message`; SVID_NO_MEMORY. Then nothing happened. */
 uint32_t svid_validator_log(svid_validator *v, const svid_mark *mark, uint64_t ready, uint64_t lasts,
@@ -699,10 +700,10 @@ typedef struct {
     uint64_t wait;     /* within how long each request and each withdrawal is answered, by the clock of `up` */
     uint64_t ahead;    /* how many seconds the store's time may be ahead of the own clock */
     uint64_t lasts;    /* how many seconds past the store's time a token may expire */
-    uint8_t life[16];  /* 16 random bytes, which each start takes anew */
+    uint8_t life[16];  /* 16 random bytes, new at each start */
 } svid_member_terms;
 
-/* What a member is told that it knows: 1 for yes, 0 for no. */
+/* What a member knows, as you tell it: 1 for yes, 0 for no. */
 typedef struct {
     uint64_t bundled;    /* it has a trust bundle */
     uint64_t loaded;     /* its state folder is read, or it has none */
@@ -948,7 +949,7 @@ uint32_t svid_validator_renew_by(svid_validator *v, svid_bundles *b, svid_told *
  * At a start:
  *   1. Read the snapshot, and then each journal by rising number, with svid_journal_read.
  *   2. Call svid_journal_open with the smallest and the greatest number of the journals that are there, or with 1 and 0.
- *   3. Make the calls of the system that are due: svid_journal_due says which, and svid_journal_answer is told how it went, until
+ *   3. Make the calls of the system that are due: svid_journal_due says which, and you give its result to svid_journal_answer, until
  *      SVID_CALL_NOTHING is due. Then the journal `newest` grows, and is empty. A start writes to no journal that it found.
  *
  * To append:
@@ -956,7 +957,7 @@ uint32_t svid_validator_renew_by(svid_validator *v, svid_bundles *b, svid_told *
  *   2. Write it at byte `end` of the journal `newest`, and sync the file (fdatasync).
  *   3. svid_journal_synced if both succeeded: only now may you acknowledge what the payload says. svid_journal_unwritten if the write failed:
  *      the next frame goes to the same offset. svid_journal_failed if the sync failed: this ends the folder until the next start.
- * Append a mark (an empty payload) behind a burst and before you close the folder; nobody waits for it.
+ * Append a mark (an empty payload) after a burst and before you close the folder; nobody waits for it.
  *
  * To replace the snapshot: svid_journal_begin, and then the calls that are due, as at a start. While SVID_CALL_WRITE_SNAPSHOT is due, write
  * the pieces of svid_journal_piece one behind the other, an empty one last, and then answer. The snapshot must have each use that the record
@@ -1024,7 +1025,7 @@ uint32_t svid_journal_due(const svid_folder *f, svid_due *due);
 /* Tells that the call that was due succeeded (`ok` is not 0) or failed (`ok` is 0).
  *
  * A sync of the folder that fails ends the folder until the next start, and so does a start that gets no further. Any other call that fails
- * ends the switch alone, and svid_journal_begin begins it anew. SVID_FOLDER_ENDED; SVID_FOLDER_NOTHING_DUE; SVID_FOLDER_FLYING if the next
+ * ends the switch alone, and svid_journal_begin begins it again. SVID_FOLDER_ENDED; SVID_FOLDER_NOTHING_DUE; SVID_FOLDER_FLYING if the next
  * journal would grow while a frame is not synced: answer again once it is; SVID_FOLDER_NO_MARK if a snapshot would end without a mark. */
 uint32_t svid_journal_answer(svid_folder *f, uint32_t ok);
 
@@ -1046,7 +1047,7 @@ uint32_t svid_journal_unwritten(svid_folder *f);
 uint32_t svid_journal_failed(svid_folder *f);
 
 /* Writes the frame of the next piece of a snapshot into `out`; `told->len` is its length. Write it behind the pieces before it. An empty payload
- * is the mark that ends the snapshot: behind it answer SVID_CALL_WRITE_SNAPSHOT. SVID_FOLDER_ENDED, SVID_FOLDER_NOT_WRITING,
+ * is the mark that ends the snapshot: then answer SVID_CALL_WRITE_SNAPSHOT. SVID_FOLDER_ENDED, SVID_FOLDER_NOT_WRITING,
  * SVID_FOLDER_TOO_LONG, SVID_FOLDER_FULL; SVID_TOO_SHORT as of svid_journal_put. */
 uint32_t svid_journal_piece(svid_folder *f, const svid_folder_id *folder_id, const uint8_t *payload, size_t payload_len,
                             uint8_t *out, size_t out_len, svid_told *told);
@@ -1146,7 +1147,7 @@ uint32_t svid_token_signature(const uint8_t *token, size_t token_len, svid_signe
                               uint8_t *out, size_t out_len, svid_told *told);
 
 /* Writes the payload of a token (RFC 7515, section 5.2): the claims as JSON, byte for byte as they were signed. Nobody has vouched for them: the
- * call judges nothing, and reads no other part. So call it behind a check that accepted the token.
+ * call judges nothing, and reads no other part. So call it after a check that accepted the token.
  *
  * SVID_TOO_SHORT if the payload is longer than `out`, which it never is if that has SVID_SIGNATURE_ROOM bytes. SVID_TOO_LONG;
  * SVID_NOT_THREE_PARTS; SVID_PAYLOAD_SPELLING; SVID_NO_MEMORY. Unless the status is SVID_OK, `out` stays. */
@@ -1187,8 +1188,8 @@ uint32_t svid_entries_read(const uint8_t *messages, size_t messages_len, svid_en
  * counted from 0. SVID_TOO_SHORT and `told->len` as for any text. */
 uint32_t svid_entries_write(const svid_entry *entries, size_t entries_len, uint8_t *out, size_t out_len, svid_told *told);
 
-/* Messages: one after the other, none where there are no bytes. `now` is a moment in whole seconds, to which
- * what they tell is raised: what expires by then goes. 0 raises nothing. */
+/* An input of messages is zero or more messages, one after the other. The call advances their record to `now`, in whole
+ * seconds, and drops the uses that have expired by then. Pass 0 to leave the clock alone. */
 
 /* What both inputs tell, as messages: the one text of that record, whatever order and number of messages it
  * came from. */
@@ -1199,7 +1200,7 @@ uint32_t svid_join(const uint8_t *a, size_t a_len, const uint8_t *b, size_t b_le
 uint32_t svid_report(const uint8_t *messages, size_t messages_len, uint64_t now,
                      uint8_t *out, size_t out_len, svid_told *told);
 
-/* The summary of what the messages tell: 8,205 bytes. */
+/* The summary of the messages' record: 8,205 bytes. */
 uint32_t svid_summary(const uint8_t *messages, size_t messages_len, uint64_t now,
                       uint8_t *out, size_t out_len, svid_told *told);
 
@@ -1350,7 +1351,7 @@ static inline const char *svid_strstatus(uint32_t status) {
     }
 }
 
-/* What a status says in words, as "The token was withdrawn.", and behind it what to do, where there is something to do; "No status has this
+/* What a status says in words, as "The token was withdrawn.", and then what to do, where there is something to do; "No status has this
  * number." for a number that is none. The text is for people, and may change from version to version. svid_status_sentence writes the same. */
 static inline const char *svid_strsentence(uint32_t status) {
     switch (status) {

@@ -35,7 +35,7 @@ export class Claims {
     this.#member = member;
   }
 
-  /** Begins to put claims, and waits until the store answers, but no longer than so many seconds. */
+  /** Begins to put claims, and waits until the store answers, but at most so many seconds. */
   async begin(wait) {
     this.#go();
     let timer;

@@ -71,7 +71,7 @@ export class Folder {
     }
   }
 
-  /** Opens a new file, in place of one that has the name. */
+  /** Opens a new file, instead of one that has the name. */
   async create(name) {
     await this.remove(name);
     return open(this.at(name), O_WRONLY | O_CREAT | O_EXCL, 0o600);
@@ -111,7 +111,7 @@ export class Folder {
 
   /**
    * Keeps the ID, before anything is kept that can't be read without it. A start that failed or was killed may have left a file that has it, and the
-   * folder itself: no later sync vouches for a name whose sync failed. So the file is made anew.
+   * folder itself: no later sync vouches for a name whose sync failed. So the file is made again.
    */
   async keepId(id) {
     // (Who may not read the folder above has not made this one. Where that folder is only read, it may have no sync.)
@@ -128,7 +128,7 @@ export class Folder {
   }
 
   // Makes the folder where it is not there, so that its name lasts. Where the sync of the folder above fails, no later sync vouches for the name. So
-  // the folder is removed, and the next start makes it anew.
+  // the folder is removed, and the next start makes it again.
   async #make() {
     const isThere = await mkdir(this.path, 0o700).catch((why) => orNull(why, "EEXIST"));
     if (isThere === null) return;

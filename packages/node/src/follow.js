@@ -65,7 +65,7 @@ export class Sources {
 
   /**
    * Begins to look. `take` is given all bundles whenever they have changed, each a trust domain and a text, and may throw. Waits until each source
-   * was looked at, but no longer than so many seconds.
+   * was looked at, but at most so many seconds.
    */
   async begin(take, wait) {
     this.#take = take;

@@ -33,7 +33,7 @@ export function tell(hook, ...given) {
   try {
     Promise.resolve(hook(...given)).catch(() => {});
   } catch {
-    // (who is told in vain has no say)
+    // (a listener that throws changes nothing)
   }
 }
 

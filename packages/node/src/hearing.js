@@ -25,7 +25,7 @@ export class Hearing {
     this.#member = member;
   }
 
-  /** Begins to read, and waits until all were read once, but no longer than so many seconds. */
+  /** Begins to read, and waits until all were read once, but at most so many seconds. */
   async begin(wait) {
     this.#read();
     let timer;

@@ -209,7 +209,7 @@ export class Journal {
     throw this.#broken;
   }
 
-  // Throws, from now on, if the folder is no longer at its path: what is there now may be the folder of another process.
+  // Throws, from now on, unless the path still leads to the folder: what is there now may be the folder of another process.
   async #stay() {
     await this.#folder.stand().catch((why) => this.#end(why, "the state folder is no longer at its path", "put it back there"));
   }

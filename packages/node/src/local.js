@@ -146,7 +146,7 @@ export class LocalStore {
       yield this.#messages(uses);
       uses = [];
     }
-    // (it is told for as long as an entry may live that was dropped by then)
+    // (this use lasts for as long as an entry may live that was dropped by then)
     uses.push(this.#useOf(TIME_KEY, this.#latest, this.#library.claimUntil(this.#library.claimUntil(this.#latest, this.#lasts), bounded(this.#margin + 1n))));
     if (this.#deaf > this.#latest) uses.push(this.#useOf(DEAF_KEY, this.#latest, this.#deaf));
     yield this.#messages(uses);

@@ -73,7 +73,7 @@ export class Member {
     if (typeof store?.withdrawals === "function" && mode !== "strict") this.#hearing = new Hearing(store, this);
   }
 
-  /** Tokens are judged from now on, or once there are bundles, and the store is there. Waits for these, but no longer than a request does. */
+  /** Tokens are judged from now on, or once there are bundles, and the store is there. Waits for these, but at most as long as a request does. */
   async begin() {
     this.#know();
     await Promise.all([
@@ -338,8 +338,8 @@ export class Member {
 
   // -- Times
 
-  // Sees to it that there is a timer for what is due next, where somebody waits. It stays set where nobody does, and keeps nothing then: to set one
-  // anew would take a tenth of a check.
+  // Sees to it that there is a timer for what is due next, where somebody waits. It stays set where nobody does, and then keeps no member: to set one
+  // again would take a tenth of a check.
   #watch() {
     const waits = this.#open.size + this.#withdrawals.size > 0;
     if (waits === waiting.has(this) && (this.#timer || !waits)) return;
@@ -367,7 +367,7 @@ export class Member {
     });
   }
 
-  // Does something of which nobody hears that it fails. (A library that has stopped answers nobody.)
+  // Does something whose failure nobody hears of. (A library that has stopped answers nobody.)
   #safely(body) {
     try {
       body();

@@ -34,7 +34,7 @@ export class Accepted {
     this.#claims = claims;
   }
 
-  /** All claims of the token, as `JSON.parse` reads its payload: an object anew each time. */
+  /** All claims of the token, as `JSON.parse` reads its payload: a new object each time. */
   get claims() {
     return this.#claims();
   }

@@ -294,7 +294,7 @@ if (Symbol.dispose) {
   for (const it of [Validator, Bundles]) Object.defineProperty(it.prototype, Symbol.dispose, { value, configurable: true, writable: true });
 }
 
-// The bytes of a header's value, of which Node makes a character each.
+// The bytes of a header's value: Node makes a character of each.
 function bytesOfHeader(value) {
   return Uint8Array.from(value, (it) => (it.charCodeAt(0) < 256 ? it.charCodeAt(0) : 0x3f));
 }

@@ -39,7 +39,7 @@ async function replace(file, content) {
   await rename(`${file}.new`, file);
 }
 
-// A validator that follows these sources, and what it was told of them.
+// A validator that follows these sources, and what its onFault got.
 async function following(follow) {
   const faults = [], onFault = (why, source) => faults.push([why?.message ?? null, source]);
   return { validator: await Validator.open({ audiences: "ledger", follow: { ...follow, onFault }, mode: "reuse", wait: 600 }), faults };

@@ -34,7 +34,7 @@ export function token({ privateKey, kid, domain }, claims = {}, header = {}) {
   return `${signed}.${sign("SHA256", Buffer.from(signed), { key: privateKey, dsaEncoding: "ieee-p1363" }).toString("base64url")}`;
 }
 
-/** What a call answers, in one word: "accepted", or the name of what it throws. */
+/** What a call answers, in one word: "accepted", or the name of the error that it throws. */
 export async function said(call) {
   try {
     await (typeof call === "function" ? call() : call);

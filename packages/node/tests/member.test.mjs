@@ -565,11 +565,11 @@ test("a request that did not come ends no process", async (t) => {
   const member = await memberOver({ due: fails, leave: fails });
   await assert.rejects(member.check("a", () => 1n), fault);
   member.fail(new Error("the end"));
-  await new Promise((resolve) => setImmediate(resolve)); // (Node tells of what nobody handles before that)
+  await new Promise((resolve) => setImmediate(resolve)); // (Node tells of rejections that nobody handles before that)
   assert.deepEqual(heard, []);
 });
 
-// What a program says that ends by itself. It has the package, a collector of what nobody refers to, options of a validator, and a good token.
+// What a program says that ends by itself. It has the package, a garbage collector, options of a validator, and a good token.
 async function programSays(body) {
   const program = `import { setFlagsFromString } from "node:v8";
     import { runInNewContext } from "node:vm";

@@ -19,7 +19,7 @@ const room = await mkdtemp(join(tmpdir(), "svid-postgres-"));
 const binary = join(room, "postgres.test"), go = `${TOP}/go`;
 await run("go", ["test", "-c", "-o", binary, "./claims/postgres"], { cwd: go, ...LOUD });
 
-// A server of PostgreSQL, which `kill`, `start`, `pause`, `resume` and SQL are told to.
+// A server of PostgreSQL, which takes `kill`, `start`, `pause`, `resume` and SQL.
 const serving = spawn(binary, ["-test.run", "^TestAServerOfAnotherLanguage$"], { env: { ...OPEN, SVID_STORE_SERVER: "1" }, stdio: ["pipe", "pipe", "inherit"] });
 const lines = createInterface({ input: serving.stdout })[Symbol.asyncIterator]();
 const heard = async () => (await lines.next()).value;

@@ -57,7 +57,7 @@ async function begun(folder, options, kept = []) {
 // Those that were opened. (A process that is killed closes none of them.)
 const files = [];
 
-// Before each call that changes a disk, `call` may throw, or wait, or do it itself: then it says false. It is told the name, the file and what is given.
+// Before each call that changes a disk, `call` may throw, or wait, or do it itself: then it says false. It gets the name, the file and the arguments.
 function disturbed(call, after = () => {}) {
   const made = (name, real) => async function (...given) {
     const isFree = name === "open" ? !(given[1] & fs.constants.O_CREAT) || basename(given[0]) === "lock" : name === "write" && (await path(this)) === "lock";
@@ -438,7 +438,7 @@ test("a kill at any time loses no acceptance", async () => {
   await validator.close();
 });
 
-// What a process does with a folder. `kept` gains each number that it is told to be kept. It makes no call after one of them that throws Killed.
+// What a process does with a folder. `kept` gains each number that the journal acknowledges. It makes no call after one of them that throws Killed.
 async function work(folder, kept) {
   let journal;
   try {
@@ -642,7 +642,7 @@ test("a restart forgets no claim, and what is over is claimed anew", async () =>
   await store.close();
   store = await claims();
   assert.equal(await owner(store, 1, 1), 2);
-  assert.equal(await owner(store, 9, 1, clock - MARGIN), 1); // (one that is over is told, and not kept)
+  assert.equal(await owner(store, 9, 1, clock - MARGIN), 1); // (the answer has one that is over, and nothing keeps it)
   await store.close();
   assert.equal(await said(store.put([claim(1, 1)])), "accepted");
   assert.equal(await said(store.put([claim(10, 1)])), "Closed");

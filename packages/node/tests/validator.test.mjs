@@ -1,4 +1,4 @@
-// What a validator does beside the vectors: many checks at once, withdrawals, messages, bundles, times, and want of memory.
+// What a validator does beside the vectors: many checks at once, withdrawals, messages, bundles, times, and running out of memory.
 
 import assert from "node:assert/strict";
 import { readdirSync } from "node:fs";
@@ -142,7 +142,7 @@ test("a renewal while a signature is verified decides by the new bundles", async
   const checked = said(validator.check(token(one)));
   validator.renew(other.bundles);
   verified.open(true);
-  // (the answer of yes was to a question about the key that is gone: the token is asked about anew)
+  // (the answer of yes was to a question about the key that is gone: the token is asked about again)
   assert.equal(await checked, "accepted");
   assert.equal(verified.asked, 2);
   validator.close();
@@ -255,7 +255,7 @@ test("of a token that another one accepted too, a validator says so once", async
   const early = await first.check(tokens[20], time);
   first.take(new Uint8Array(uses.slice(0, 20).flatMap(({ message }) => [...message])), time);
   assert.deepEqual(keys, []);
-  // (of what was accepted before the first messages, and after them)
+  // (of tokens that were accepted before the first messages, and after them)
   for (const [n, { use }] of [[20, early], [30, await first.check(tokens[30], time)]]) {
     for (let again = 0; again < 2; again++) {
       first.take(uses[n].message, time);

@@ -63,9 +63,9 @@ export function entriesOf(bundles, domain) {
 }
 
 /**
- * The key that an entry is: `{ key }`, as the library lists keys; or `{ reason }`, why it is passed over for a token.
+ * The key that an entry is: `{ key }`, as the library lists keys; or `{ reason }`, why it is skipped for a token.
  * @param entry the text of the entry
- * @param names what the token says, as `library.says`: `alg` and `kid`, each of which may be absent
+ * @param names what the token says, as `library.says`: `alg` and `kid`, and either may be absent
  * @param fitting the keys that may have signed the token, as the library lists them
  */
 export function keyOf(library, entry, { alg, kid }, fitting) {

@@ -70,7 +70,7 @@ export function withdraw(library, input, { bundles, verdict }) {
   return changed(library, input, bundles, (validator) => validator.withdraw(input.now, verdict.key, verdict.exp));
 }
 
-/** The record that messages come to: as `recordOf`, and `messages`. They must be messages. */
+/** The record that messages make: as `recordOf`, and `messages`. They must be messages. */
 export function readRecord(library, messages) {
   return { messages, ...recordOf(textOf(library.report(messages).bytes)) };
 }

@@ -314,7 +314,7 @@ class Lent {
     return [at, BigInt(bytes.length)];
   }
 
-  // (anew each time, since a call may make the memory grow, which takes away its buffer)
+  // (made again each time, since a call may make the memory grow, which takes away its buffer)
   view(at, length) {
     return new Uint8Array(this.calls.memory.buffer, Number(at), Number(length));
   }

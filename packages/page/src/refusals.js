@@ -203,7 +203,7 @@ function badSignature({ parts }) {
   return said("No key that may have signed it verifies the signature.", [parts[2].from, parts[2].to]);
 }
 
-// (by its key, which is made of the trust domain and the jti, or of what is signed where there is none)
+// (by its key, which is made of the trust domain and the jti, or of the signed bytes where there is none)
 function charactersOfKey(it) {
   const jti = stringAt(objectOf(it.parts, 1), "jti");
   return jti ? charactersOf(it, 1, "jti") : [0, it.parts[1].to];

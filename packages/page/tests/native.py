@@ -38,7 +38,7 @@ def words(*numbers):
 
 
 def told_text(status, told):
-    """A status, what is told, and the text, as the glue tells them."""
+    """A status, the fields of svid_told, and the text, as the glue tells them."""
     return words(status, told.len, told.input, told.message, told.offset) + (out[: told.len] if status == 0 else b"")
 
 

@@ -430,7 +430,7 @@ function contrasts() {
   return found;
 }
 
-// The contrast of what is no text but is seen to be operated or read: the edges of fields and buttons, bars and dots (WCAG 2.2, 1.4.11).
+// The contrast of parts that are no text but are seen to be operated or read: the edges of fields and buttons, bars and dots (WCAG 2.2, 1.4.11).
 function edges() {
   const canvas = new OffscreenCanvas(1, 1).getContext("2d", { willReadFrequently: true });
   const over = (colours) => {

@@ -1,4 +1,4 @@
-// Tokens and keys for the tests: made anew in each run, by the cryptography of Node.
+// Tokens and keys for the tests: made again in each run, by the cryptography of Node.
 
 const encoder = new TextEncoder();
 const { subtle } = globalThis.crypto;

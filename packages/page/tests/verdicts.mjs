@@ -113,7 +113,7 @@ export function testVerdicts(start) {
 
   const saidOf = (answer) => (answer.startsWith("accepted ") ? "Accepted" : answer.replace("refused ", "Refused: "));
 
-  // Wants each vector of a list to have its verdict: all that have another one are told.
+  // Wants each vector of a list to have its verdict: it names all that have another one.
   async function wantVerdicts(vectors, verdict, wanted) {
     const wrong = [];
     for (const it of vectors) {

@@ -78,7 +78,7 @@ def joined(documents: Sequence[Document], keys: bool = False) -> bytes:
 
 
 def bundle_words(status: int, offset: int) -> str:
-    """What a status says of bundles, and of which name of them."""
+    """What a status says of bundles, and which of their names it is about."""
     if status not in (lib.BUNDLES_DOMAIN, lib.BUNDLES_KEYS, lib.BUNDLES_TWICE):
         return said(status)
     return said(status, f"It is number {offset} of the names in rising order, counted from 0.")

@@ -82,7 +82,7 @@ class Claims:
         self._announced = threading.Event()  # the claimant knows that too
 
     def begin(self, wait: float) -> None:
-        """Begins to put claims, and waits until the store answers, but no longer than `wait`.
+        """Begins to put claims, and waits until the store answers, but at most for `wait`.
 
         Then it has told its withdrawals too.
         """

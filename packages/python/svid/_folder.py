@@ -65,7 +65,7 @@ class Folder:
             return file.read()
 
     def create(self, name: str) -> int:
-        """Opens a new file, in place of one that has the name."""
+        """Opens a new file, instead of one that has the name."""
         self.remove(name)
         return os.open(self.path / name, _MADE, 0o600)
 
@@ -109,7 +109,7 @@ class Folder:
         """Keeps the ID, before anything is kept that can't be read without it.
 
         A start that failed or was killed may have left a file that has it, and the folder itself:
-        no later sync vouches for a name whose sync failed. So the file is made anew.
+        no later sync vouches for a name whose sync failed. So the file is made again.
         """
         try:
             _sync_folder(self.path.parent)
@@ -131,7 +131,7 @@ class Folder:
         """Makes the folder where it is not there, so that its name lasts.
 
         Where the sync of the folder above fails, no later sync vouches for the name. So the folder
-        is removed, and the next start makes it anew.
+        is removed, and the next start makes it again.
         """
         try:
             os.mkdir(self.path, 0o700)

@@ -221,7 +221,7 @@ class Followed:
         return kept
 
     def _listed(self, kept: dict[_Key, _Kept], fault: _Fault) -> Iterable[_Key]:
-        """The files. Those that are gone from a folder are no longer kept.
+        """The files. It drops those that are gone from a folder.
 
         Of a folder they are those whose names end in `.json` and don't begin with `.`.
         """

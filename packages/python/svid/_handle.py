@@ -39,7 +39,7 @@ _Call = Callable[..., int]
 
 
 class _LeftBehind:
-    """What a fork has in place of the lock."""
+    """What a fork has instead of the lock."""
 
     def __enter__(self) -> None:
         raise Forked

@@ -81,7 +81,7 @@ class Journal:
 
     @property
     def torn(self) -> tuple[str, ...]:
-        """The journals at whose end a crash cut off a write. Nobody was told that it was kept."""
+        """The journals at whose end a crash cut off a write. Nobody had an answer of it."""
         return self._keeper.torn
 
     @property
@@ -98,7 +98,7 @@ class Journal:
 
         Raises Unavailable if that fails, or takes more than `wait` seconds: then the disk may have
         them now, or later, or never. After a write that failed (the disk is full) a later one may
-        succeed. After a sync that failed nothing is kept, until the folder is opened anew.
+        succeed. After a sync that failed nothing is kept, until the folder is opened again.
         At most 16,777,215 bytes.
         """
         self._keeper.append(bytes(messages), wait)
@@ -142,7 +142,7 @@ class _Commit:
         """Tells who waits what came of it."""
         self.done.set()
         for tell in self.told:
-            with contextlib.suppress(Exception):  # (who is told must not end the writing)
+            with contextlib.suppress(Exception):  # (a listener must not end the writing)
                 tell(self.why)
 
 
@@ -316,7 +316,7 @@ class _Keeper:
             _close(unused)
 
     def _stay(self) -> None:
-        """Raises Unavailable, from now on, if the folder is no longer at its path.
+        """Raises Unavailable, from now on, unless the path still leads to the folder.
 
         What is there now may be the folder of another process.
         """

@@ -258,7 +258,7 @@ class MemberTerms(ctypes.Structure):
 
 
 class Known(ctypes.Structure):
-    """`svid_known`: what a member is told that it knows."""
+    """`svid_known`: what a member knows, as its calls say."""
 
     _fields_ = [
         ("bundled", c_uint64),

@@ -124,7 +124,7 @@ class Validator:
             random ones. Two validators of one ID accept a token twice.
         refresh: how many seconds pass between two looks at files of bundles, at least 0.01. None
             looks once.
-        verifies: verifies signatures in place of the package `cryptography`; see `svid.Verifies`.
+        verifies: verifies signatures instead of the package `cryptography`; see `svid.Verifies`.
         rsa_bits: how many bits an RSA key may have, 2,048 to 16,384. A longer one verifies nothing,
             so that a token of a stranger costs little. It is not for `verifies`.
         state: a folder that keeps the record, so that no token that `check` returned is accepted
@@ -284,7 +284,7 @@ class Validator:
     def withdraw(self, token: Token, now: float | None = None) -> Use:
         """Withdraws a token until it expires: from now on it is refused as Withdrawn.
 
-        Send the `message` of what it returns to the other validators. It verifies no signature: the
+        Send the `message` of its result to the other validators. It verifies no signature: the
         token is withdrawn that has this trust domain and `jti`, or this text where it has no `jti`.
         Raises Gone for an expired token, and Refused for what is no JWT-SVID (TooLong to Jti).
         """

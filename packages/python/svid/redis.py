@@ -466,7 +466,7 @@ class _Connection:
         return answers
 
     def good(self, answers: list[Any]) -> list[Any]:
-        """Answers of which none is an error."""
+        """Answers without an error among them."""
         for it in answers:
             if isinstance(it, Exception):
                 raise self._fault(it)

@@ -213,7 +213,7 @@ def fetch(
             error.close()
             raise OSError(f"it answers status {error.code}") from None
         except (OSError, ValueError, http.client.HTTPException) as error:
-            why = getattr(error, "reason", error)  # (what urllib was told)
+            why = getattr(error, "reason", error)  # (the error below that of urllib)
             raise line.why(why if isinstance(why, Exception) else error) from None
     bearable(text)
     return text, _good_for(text)

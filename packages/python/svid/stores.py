@@ -40,8 +40,8 @@ class Store(Protocol):
     - Two puts of one key never overlap, whoever makes them.
     - An entry stays until its token has expired by the store's own clock, and for a margin after
       that: at least the validators' `ahead`, and what the clock of the store may step back.
-    - Before it answers again after it may have lost entries, it raises `Found.deaf`: to its time at
-      the loss plus the validators' `longest` plus twice their `ahead`.
+    - Before it answers again after it may have lost entries, it increases `Found.deaf`: to its time
+      at the loss plus the validators' `longest` plus twice their `ahead`.
 
     Several threads call it at once. A call that fails raises any Exception: then nobody knows what
     the store has, and the validator puts the same claims again. A call ends within some seconds,

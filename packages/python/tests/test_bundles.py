@@ -222,7 +222,7 @@ print(open("/proc/self/status").read().partition("VmHWM:")[2].split()[0])
 
 
 def many_keys():
-    """A mebibyte of bundles: 26,000 keys of one trust domain, of which none is usable."""
+    """A mebibyte of bundles: 26,000 keys of one trust domain, none of them usable."""
     one = b'{"kty":"EC","use":"jwt-svid","kid":""}'
     count = ((1 << 20) - 40) // (len(one) + 1)
     return b'{"example.org":{"keys":[' + b",".join([one] * count) + b"]}}"
@@ -425,7 +425,7 @@ def test_a_refresh_that_can_not_be(refresh):
 
 
 def told(caplog):
-    """The faults that were told."""
+    """The faults in the log."""
     return [it.getMessage() for it in caplog.records if it.levelno == logging.WARNING]
 
 
@@ -447,7 +447,7 @@ def test_a_file_that_gets_bad_is_told_once_and_not_used(tmp_path, caplog):
 
 
 def test_a_bad_file_of_a_folder_leaves_the_others(tmp_path, caplog):
-    """The others change meanwhile. What was told of a file that is gone is forgotten."""
+    """The others change meanwhile. Faults of a file that is gone are forgotten."""
     good, bad = tmp_path / "example.org.json", tmp_path / "other.example.json"
     good.write_text(json.dumps({"keys": []}))
     bad.write_text(json.dumps({"keys": []}))

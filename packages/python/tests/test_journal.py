@@ -336,7 +336,7 @@ def test_an_append_waits_no_longer_than_it_wants(tmp_path, slow):
 
 @contextlib.contextmanager
 def waiting_for_less(slow, seconds=min(30, PATIENCE / 3)):
-    """What is called takes no longer. If it does, the disk answers, and so it ends."""
+    """The call ends in that time. If it does not, the disk answers, and so it ends."""
     late = threading.Timer(seconds, slow.go.set)
     late.start()
     try:
@@ -515,7 +515,7 @@ for which in range(3):
 
 
 def test_a_kill_at_any_time_loses_no_acceptance(tmp_path):
-    """The worker also replaces its snapshot all the while, and begins anew each time."""
+    """The worker also replaces its snapshot all the while, and begins again each time."""
     told, state, chance = [], tmp_path / "state", random.Random(7)
     environment = {**os.environ, "PYTHONPATH": os.pathsep.join(sys.path)}
     for turn in range(12):
@@ -796,7 +796,7 @@ def removed(folder, why):
 
 
 def run(folder, kept):
-    """What a process does with a folder. `kept` gains each number that it is told to be kept."""
+    """What a process does with a folder. `kept` gains each number that the journal acknowledges."""
     try:
         journal = svid.Journal(folder)
     except OSError as why:
@@ -1003,7 +1003,7 @@ MOVES = {
 
 @pytest.mark.parametrize("how", MOVES)
 def test_a_folder_that_is_moved_keeps_nothing(tmp_path, how):
-    """Another process may have begun at its path: no acceptance is told, and its files stay."""
+    """Another process may have begun at its path: no append succeeds, and its files stay."""
     folder = tmp_path / "state"
     with contextlib.closing(svid.Journal(folder)) as journal:
         append(journal, 1)

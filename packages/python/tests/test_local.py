@@ -34,7 +34,7 @@ def opened(tmp_path, clock):
     stores = []
 
     def again():
-        """Opens the folder anew."""
+        """Opens the folder again."""
         for it in stores:
             it.close()
         stores.append(LocalStore(tmp_path / "claims", LONGEST, AHEAD, clock))

@@ -53,7 +53,7 @@ def away():
 
 
 def answer(check, *given, **named):
-    """What a call comes to: the subject that it gives, if any, or the name of the error."""
+    """The outcome of a call: the subject that it gives, if any, or the name of the error."""
     try:
         return getattr(check(*given, **named), "spiffe_id", "")
     except svid.Error as why:
@@ -79,7 +79,7 @@ class Soon:
 
 
 def in_time(check, token):
-    """What a check comes to, once it is not too late: a wait may be short for a busy machine."""
+    """The outcome of a check, once it is not too late: a wait may be short for a busy machine."""
     said = []
     until(lambda: said.append(Soon(check, token).answer) or said[-1] != "Unavailable")
     return said[-1]
@@ -687,7 +687,7 @@ def test_a_disk_that_hangs(tmp_path, monkeypatch):
     with validator(state=tmp_path, wait=0.2) as checks:
         monkeypatch.setattr(os, "fdatasync", fdatasync)
 
-        def hangs():  # (a check that is late before it was judged keeps nothing, and shows nothing)
+        def hangs():  # (a check that is late before it was judged stores and shows nothing)
             assert Soon(checks.check, fresh(jti=os.urandom(8).hex())).answer == "Unavailable"
             return checks.unready() == KEEPS_NOTHING
 

@@ -58,7 +58,7 @@ def binary(tmp_path_factory):
 
 
 class Machine:
-    """A server of PostgreSQL, which `kill`, `start`, `pause`, `resume` and SQL are told to."""
+    """A server of PostgreSQL, which takes `kill`, `start`, `pause`, `resume` and SQL."""
 
     def __init__(self, binary):
         self._run = subprocess.Popen(

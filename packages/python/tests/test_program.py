@@ -96,7 +96,7 @@ def audiences():
 
 
 def made_of(members):
-    """An object with the members, of which one may be left out, another value, or given twice."""
+    """An object with the members: one may be left out, have another value, or be given twice."""
     members = list(members)
     change = pick(["", "", "", "less", "odd", "twice", "deep", "text"])
     index = chance.randrange(len(members))
@@ -163,7 +163,7 @@ CHANGES += [with_a_byte_changed, with_a_byte_less, with_another_signature, with_
 
 
 def row():
-    """Tokens, of which some come again."""
+    """Tokens. Some come again."""
     made = [any_token() for _ in range(ROW)]
     for _ in range(chance.randint(0, 9)):
         index = chance.randint(1, ROW - 1)

@@ -37,7 +37,7 @@ TESTS = {
     "|TestEachPutLooksAtTheRun",
     "sentinels": "TestSentinel|TestAPrimaryThatHung|TestSentinelsThatDisagree",
 }
-# Those of what only the member in Go has.
+# Those of parts that only the member in Go has.
 OTHERS = {
     "TestRights",
     "TestAKeyOfAnUnknownAlgorithm",

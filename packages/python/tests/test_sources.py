@@ -213,7 +213,7 @@ def test_a_bundle_that_did_not_come_is_no_unknown_domain(authority, tmp_path):
 
 
 def faulty(checks, caplog, text):
-    """Waits until a fault is told that has this text, and looks that it is told once."""
+    """Waits until the log has a fault with this text, and looks that it has it once."""
     until(lambda: [it for it in told(caplog) if text in it])
     asked = len(told(caplog))
     time.sleep(0.05)  # (some more answers come, and tell nothing)
@@ -234,7 +234,7 @@ def faulty(checks, caplog, text):
     ids=["status", "no bundle", "too long", "too many brackets", "to http", "in a circle"],
 )
 def test_what_an_endpoint_may_answer(authority, tmp_path, quick, caplog, given, said):
-    """The last good bundle stays. The fault is told once, with the address."""
+    """The last good bundle stays. The log has the fault once, with the address."""
     with Served(authority.server(tmp_path)) as served:
         endpoint = svid.Endpoint(served.url, authorities=authority.pem(tmp_path))
         with following(endpoint) as checks:

@@ -148,7 +148,7 @@ def test_the_wheel_is_typed(wheel, tmp_path):
         "    return checks.check(7).spiffe_id\n"
     )
     environment = {**os.environ, "MYPYPATH": str(tmp_path / "packages")}
-    # (../test has read the types of what the package imports, and keeps them there)
+    # (../test has read the types of the modules that the package imports, and keeps them there)
     cache = os.environ.get("MYPY_CACHE_DIR", tmp_path / "cache")
     words = [sys.executable, "-m", "mypy", "--strict", "--cache-dir", cache]
     words += [tmp_path / "good.py", tmp_path / "bad.py"]

@@ -109,7 +109,7 @@ impl Claims {
         Arc::new(Claims { store, clock, gate: Mutex::new(gate), comes: Condvar::new(), announced: Condvar::new(), hears })
     }
 
-    /// Begins to put claims, and waits until the store answers, but no longer than `wait`.
+    /// Begins to put claims, and waits until the store answers, but at most for `wait`.
     pub fn begin(self: &Arc<Claims>, requests: &Weak<Requests>, wait: Duration) -> Result<(), Error> {
         self.grow(requests)?;
         if self.hears {

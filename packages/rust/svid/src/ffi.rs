@@ -468,7 +468,7 @@ impl Handle {
     pub const CLOSED: Handle = Handle { word: 0, held: std::ptr::null_mut() };
 }
 
-// SAFETY: the library keeps nothing of a thread, and a handle may be given to one call at a time from any thread (svid.h, "A validator that
+// SAFETY: the library has no state of a thread, and a handle may be given to one call at a time from any thread (svid.h, "A validator that
 // you keep"). It is not `Sync`: each call takes `&mut`.
 unsafe impl Send for Handle {}
 

@@ -56,7 +56,7 @@ struct Held {
 }
 
 impl Follower {
-    /// Begins to follow sources that were checked, in place of those before. Their bundles stay until others come, if their trust domains are named
+    /// Begins to follow sources that were checked, instead of those before. Their bundles stay until others come, if their trust domains are named
     /// here too. After an error those before are followed.
     pub fn begin(requests: &Arc<Requests>, sources: Sources, before: &mut Option<Follower>) -> Result<(), Error> {
         let mut state = State::default();
@@ -195,7 +195,7 @@ impl Shared {
         is_good
     }
 
-    /// Hands all bundles to the guard if they have changed, and warns of what it does not take.
+    /// Hands all bundles to the guard if they have changed, and warns of bundles that it does not take.
     pub fn tell_all(&self) {
         match self.requests.upgrade() {
             Some(requests) if self.state().is_due => {
@@ -221,7 +221,7 @@ impl Shared {
         bundles::join(self.sources.fixed().chain(held))
     }
 
-    /// Warns of what is wrong with a source, if that is something else than before.
+    /// Warns of the fault of a source, if it is another one than before.
     fn fault(&self, domain: &str, source: &str, why: Option<String>) {
         let mut state = self.state();
         let stays = if state.held.contains_key(domain) { "; the last good one stays" } else { "" };

@@ -23,8 +23,8 @@ use crate::verify::Verify;
 /// guard. Its lock is held for some microseconds: tokens are read and signatures are verified without it.
 ///
 /// [`Options::mode`] says how often it accepts a token. [`Guard::with_journal`] keeps what it accepts over restarts and crashes. The C library
-/// decides which request is answered, when, and what has to be on the disk or in the store before. A check blocks its thread until then, but no
-/// longer than [`Options::wait`].
+/// decides which request is answered, when, and what has to be on the disk or in the store before. A check blocks its thread until then, but at
+/// most for [`Options::wait`].
 ///
 /// Tokens are judged at the record's *moment*, the greatest time that it has seen, so a clock that is set back makes no expired token good. After
 /// `fork`, only one of the two processes may go on with a guard.
@@ -56,7 +56,7 @@ pub struct Guard<V> {
 
 impl<V> Guard<V> {
     /// Opens a guard with an empty record, which follows these sources of trust bundles until it is dropped. It reads what can be read now. With a
-    /// store it waits until that answers, but no longer than [`Options::wait`].
+    /// store it waits until that answers, but at most for [`Options::wait`].
     ///
     /// # Errors
     ///
@@ -194,7 +194,7 @@ impl<V> Guard<V> {
 
     /// Withdraws the token with this key, which expires at `expires`, here, in the state folder and in the store: it is refused as
     /// [`Withdrawn`](crate::Refusal::Withdrawn) from now on. [`Said::of`] has the key of a token. Where validators share no store, send the
-    /// [`message`](Use::message) of what the record has gained to the others.
+    /// [`message`](Use::message) of the use to the others.
     ///
     /// # Errors
     ///

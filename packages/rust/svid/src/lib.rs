@@ -109,7 +109,7 @@ pub use crate::verify::ring::Ring;
 /// How many keys are tried for a token (docs/FORMATS.md, "Candidates").
 pub const MOST_CANDIDATES: usize = ffi::MOST_CANDIDATES;
 
-/// How many bits an RSA key may have, unless a verifier is told otherwise.
+/// How many bits an RSA key may have, unless a verifier is made with another limit.
 pub const USUAL_RSA_BITS: usize = ffi::USUAL_RSA_BITS;
 
 /// The time of the system's clock, in whole seconds since 1970.

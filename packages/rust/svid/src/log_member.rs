@@ -219,7 +219,7 @@ impl<V> LogMember<V> {
             (Ok(()), _) => (true, None),
             (Err(Error::Messages(why)), _) => (true, Some(why)),
             (_, ffi::TOO_SHORT) => (false, None),
-            // (what was read is told; the next call goes on)
+            // (it returns what was read; the next call goes on)
             (Err(Error::NoMemory), _) if reading.count > 0 => (false, None),
             (Err(why), _) => return Err(why),
         };

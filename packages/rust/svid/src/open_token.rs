@@ -17,7 +17,7 @@ const ROOM: usize = 4096;
 pub(crate) struct OpenToken<'a> {
     pub raw: Handle,
     text: &'a [u8],
-    /// What is told of it once it is accepted.
+    /// What it says, for the caller once it is accepted.
     pub says: Says,
     /// What `svid_validator_ask_token` writes.
     pub rows: Vec<u8>,

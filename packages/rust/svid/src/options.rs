@@ -45,11 +45,11 @@ impl Mode {
     }
 }
 
-/// What is told of what goes wrong beside a check.
+/// Hears what goes wrong beside a check.
 pub(crate) type Warns = dyn Fn(&dyn fmt::Display) + Send + Sync;
-/// What is told of each token that is not accepted.
+/// Hears of each token that is not accepted.
 pub(crate) type Refuses = dyn Fn(&Error) + Send + Sync;
-/// What is told of a token that several guards accepted.
+/// Hears of a token that several guards accepted.
 pub(crate) type HearsTwice = dyn Fn(TokenKey) + Send + Sync;
 /// Gives the time in seconds since 1970.
 pub(crate) type Now = dyn Fn() -> Result<u64, Error> + Send + Sync;
@@ -165,7 +165,7 @@ impl Options {
         self
     }
 
-    /// Hears what an operator should read: that the store does not answer, that the state folder keeps nothing, or that a bundle can't be read.
+    /// Hears what an operator should read: that the store does not answer, that the state folder stores nothing, or that a bundle can't be read.
     /// Threads of the guard call it, so let it return at once, and call the guard from nowhere in it. Without it, warnings of the crate `log`.
     #[must_use]
     pub fn warns(mut self, hears: impl Fn(&dyn fmt::Display) + Send + Sync + 'static) -> Options {
@@ -274,7 +274,7 @@ impl Options {
     }
 }
 
-// (nothing in it changes but in the store, which is told so: it is called again after a panic)
+// (nothing in it changes but in the store, whose contract says so: it is called again after a panic)
 impl std::panic::UnwindSafe for Options {}
 impl std::panic::RefUnwindSafe for Options {}
 

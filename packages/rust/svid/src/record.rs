@@ -96,7 +96,7 @@ pub struct Accepted {
     says: Says,
 }
 
-/// What an accepted token says beside its subject and its expiry. It is read before the token is accepted, so that no want of memory loses it.
+/// What an accepted token says beside its subject and its expiry. It is read before the token is accepted, so that it is not lost when memory runs out.
 #[derive(Debug, Clone, Default, PartialEq, Eq)]
 pub(crate) struct Says {
     audience: String,

@@ -37,7 +37,7 @@ pub type StoreError = Box<dyn std::error::Error + Send + Sync>;
 /// - Two puts of one key never overlap, whoever makes them.
 /// - An entry stays until its token has expired by the store's own clock, and for a margin after that: at least the validators'
 ///   [`ahead`](crate::Options::ahead), and what the clock of the store may step back.
-/// - Before it answers again after it may have lost entries, it raises [`Found::deaf`]: to its time at the loss plus the validators'
+/// - Before it answers again after it may have lost entries, it increases [`Found::deaf`]: to its time at the loss plus the validators'
 ///   [`longest`](crate::Options::longest) plus twice their `ahead`.
 ///
 /// Several threads call it at once. After a call that fails or panics nobody knows what the store has, and the guard puts the same claims again.

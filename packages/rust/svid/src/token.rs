@@ -65,7 +65,7 @@ impl Said {
         Ok(made)
     }
 
-    /// The key by which the uses of the token are told.
+    /// The key that identifies the token.
     pub fn key(&self) -> TokenKey {
         self.key
     }

@@ -23,7 +23,7 @@ impl Unavailable {
     /// A keeper may lack a withdrawal.
     pub(crate) const MAY_LACK: Unavailable = Unavailable { why: Why::MayLack, told_as: ffi::LATE };
 
-    /// The time is over, because of what this status is about.
+    /// The time is over. This status says what it waited for.
     pub(crate) fn late(told_as: u32) -> Unavailable {
         Unavailable { why: Why::Status(ffi::LATE), told_as }
     }

@@ -91,7 +91,7 @@ fn what_a_verifier_answers() {
         assert_eq!(guard.judge(token), Err(due));
         assert_eq!(guard.size().unwrap().uses, 0);
     }
-    // What comes before a signature is told of a token that nobody can verify.
+    // A token that nobody can verify is refused for what comes before its signature.
     let guard = opened_at(4_102_444_800, Always::new(Err(Unverified::Unsupported)));
     assert_eq!(guard.check(token), Err(refused(Refusal::Expired)));
     assert_eq!(guard.judge(token), Err(refused(Refusal::Expired)));

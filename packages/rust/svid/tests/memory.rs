@@ -73,7 +73,7 @@ pub unsafe extern "C" fn realloc(old: *mut c_void, size: usize) -> *mut c_void {
 }
 
 /// Makes a call on what `begin` makes, with each of its allocations refused, until it needs no further one. What it answers must be what it
-/// answers with memory, or else want of memory; and then that answer when it is made again. Says how many were refused.
+/// answers with memory, or else out of memory; and then that answer when it is made again. Says how many were refused.
 fn refused<B, T: PartialEq + std::fmt::Debug>(begin: impl Fn() -> B, call: impl Fn(&mut B) -> Result<T, Error>) -> usize {
     refused_as(&[Error::NoMemory], begin, call)
 }

@@ -75,7 +75,7 @@ fn a_file_is_followed() {
     assert!(heard.all().is_empty(), "{:?}", heard.all());
 }
 
-/// The last good bundle stays, and each fault is told once.
+/// The last good bundle stays, and each fault is reported once.
 #[test]
 fn a_file_that_is_bad() {
     let (room, heard, mut issuer) = (Room::new("bad"), Heard::default(), Issuer::new("example.org"));
@@ -97,7 +97,7 @@ fn a_file_that_is_bad() {
     until("a warning of the file that is gone", || heard.all().len() > before);
     fs::create_dir(&path).expect("nothing is there");
     until("a warning of a folder", || heard.count("no regular file") == 1);
-    // (two looks later nothing more is told)
+    // (two looks later nothing more is reported)
     let told = heard.all();
     for _ in 0..2 {
         other.rotate();

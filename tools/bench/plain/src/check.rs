@@ -8,7 +8,7 @@ use std::collections::HashSet;
 use std::error::Error;
 use std::io::{self, Write};
 
-/// What a run of checks is told.
+/// The settings of a run of checks.
 pub struct Setting {
     pub bundles: String,
     pub table: String,
@@ -61,7 +61,7 @@ fn lines(text: &[u8]) -> impl Iterator<Item = (usize, &[u8])> {
         .filter(|(_, line)| !line.is_empty())
 }
 
-/// The bytes of which these are the hexadecimal digits.
+/// The bytes that these hexadecimal digits stand for.
 fn digits<const N: usize>(text: &[u8]) -> Option<[u8; N]> {
     let mut bytes = [0; N];
     if text.len() != 2 * N {

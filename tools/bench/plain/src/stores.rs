@@ -16,7 +16,7 @@ const MOST_LOOKUPS: u64 = 1_000_000;
 trait Store: Default {
     fn insert(&mut self, used: Use);
     fn has(&self, key: &[u8; 32]) -> bool;
-    /// How many uses a walk in order comes to, and the xor of their last bytes.
+    /// How many uses a walk in order meets, and the xor of their last bytes.
     fn walk(&self) -> (u64, u8);
     /// How many uses expire by a moment, which go.
     fn drop_expired(&mut self, moment: u64) -> u64;

@@ -107,7 +107,7 @@ impl Token<'_> {
         hasher.finish()
     }
 
-    /// The key by which the uses of the token are told.
+    /// The key that identifies the token.
     pub fn key(&self) -> Digest {
         let mut hasher = Sha256::new();
         match self.jti.as_deref() {

@@ -13,8 +13,8 @@ impl Told {
     }
 }
 
-/// The fact that a token was accepted once, or withdrawn. The fields stand in the order by which uses are
-/// told apart and sorted.
+/// The fact that a token was accepted once, or withdrawn. The fields stand in the order in which uses are
+/// compared and sorted.
 #[derive(Clone, Copy, Debug, PartialEq, Eq, PartialOrd, Ord)]
 pub struct Use {
     /// When the token expires, in seconds.
@@ -29,7 +29,7 @@ pub struct Use {
     pub told: Told,
 }
 
-/// Takes the first `N` bytes of what is left, or nothing where there are fewer.
+/// Takes the first `N` bytes of the rest, or nothing where there are fewer.
 pub fn take<const N: usize>(rest: &mut &[u8]) -> Option<[u8; N]> {
     let (field, behind) = rest.split_first_chunk()?;
     *rest = behind;

@@ -1,4 +1,4 @@
-/* The allocations of the library, of which a test refuses one: svid_test_refuse(n) refuses the one behind the next n; below 0, none. */
+/* The allocations of the library. A test refuses one: svid_test_refuse(n) refuses the one after the next n; below 0, none. */
 #include <stddef.h>
 
 extern void *__real_malloc(size_t size);

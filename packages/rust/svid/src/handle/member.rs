@@ -16,7 +16,7 @@ pub(crate) struct Waiting {
     withdrawals: HashMap<u64, Ending>,
 }
 
-/// A request that has no answer yet, and what comes to its thread.
+/// A request that has no answer yet, and what its thread gets.
 #[derive(Debug)]
 struct Request {
     thread: Thread,
@@ -198,7 +198,7 @@ impl Core {
                 ),
             }
         };
-        // (after these nothing happened; all others are told by the deed)
+        // (after these nothing happened; the deed tells all others)
         if matches!(status, ffi::CLOSED | ffi::JUMP | ffi::TOO_SHORT | ffi::HAS_LOG | ffi::NO_MEMBER) {
             return Err(Error::of(status, &told));
         }

@@ -49,7 +49,7 @@ pub enum JournalError {
         /// The file `place`.
         file: PathBuf,
     },
-    /// The name of a new folder could not be forced to the disk, and the folder is there: mend the disk, remove the folder, which keeps nothing
+    /// The name of a new folder could not be forced to the disk, and the folder is there: mend the disk, remove the folder, which holds nothing
     /// yet, and start again.
     NameMayNotLast {
         /// The folder.
@@ -64,10 +64,10 @@ pub enum JournalError {
         /// Why.
         why: Arc<io::Error>,
     },
-    /// A sync failed, now or before: nobody knows what the disk holds, and nothing is kept until the folder is opened anew.
+    /// A sync failed, now or before: nobody knows what the disk holds, and nothing is kept until the folder is opened again.
     Ended,
-    /// The path no longer leads to the folder: somebody removed or moved it, or mounted another one over it. Another process may have begun
-    /// there, so nothing is kept until the folder is opened anew: put it back first.
+    /// The path leads elsewhere than to the folder: somebody removed or moved it, or mounted another one over it. Another process may have begun
+    /// there, so nothing is kept until the folder is opened again: put it back first.
     Moved {
         /// The path.
         folder: PathBuf,

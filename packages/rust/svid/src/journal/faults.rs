@@ -31,7 +31,7 @@ enum Name {
     Stuck,
 }
 
-/// A disk of which the folder, its names, and what the files behind them hold come to be there by syncs alone.
+/// A disk where syncs alone make the folder, its names and the contents of the files last.
 #[cfg(test)]
 #[derive(Default)]
 struct Disk {

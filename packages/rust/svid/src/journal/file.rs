@@ -12,7 +12,7 @@ use crate::record::ValidatorId;
 pub enum End {
     /// Nothing was written here.
     Nothing,
-    /// A write was cut off: nobody was told that it is on the disk.
+    /// A write was cut off: nobody had an answer that it is on the disk.
     Tear,
     /// What was synced here has changed.
     Damage,

@@ -112,7 +112,7 @@ impl Folder {
         Ok(content)
     }
 
-    /// Opens a new file, in place of one that has the name.
+    /// Opens a new file, instead of one that has the name.
     pub fn create(&self, name: &str) -> io::Result<Growing> {
         self.faults.of("create", name)?;
         self.unlink(name)?;
@@ -166,7 +166,7 @@ impl Folder {
     }
 
     /// Keeps the validator ID, before anything is kept that can't be read without it. A start that failed or was killed may have left a file
-    /// that has it, and the folder itself: no later sync vouches for a name whose sync failed. So the file is made anew.
+    /// that has it, and the folder itself: no later sync vouches for a name whose sync failed. So the file is made again.
     pub fn keep_validator_id(&self, id: ValidatorId) -> Result<(), JournalError> {
         match sync_above(&self.path, &self.faults) {
             // (Who may not read the folder above has not made this one. Where that folder is only read, it may have no sync.)
@@ -237,7 +237,7 @@ fn regular(path: &Path, how: &mut OpenOptions) -> io::Result<File> {
 }
 
 /// Makes the folder where it is not there, so that its name lasts. Where the sync of the folder above fails, no later sync vouches for the name.
-/// So the folder is removed, and the next start makes it anew.
+/// So the folder is removed, and the next start makes it again.
 fn make(path: &Path, faults: &Faults) -> Result<(), JournalError> {
     match faults.of("mkdir", &path.to_string_lossy()).and_then(|()| DirBuilder::new().mode(0o700).create(path)) {
         Ok(()) => {}

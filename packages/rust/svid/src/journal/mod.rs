@@ -204,7 +204,7 @@ impl Journal {
         self.validator_id
     }
 
-    /// The journals at whose end a crash cut off a write. Nobody was told that it was kept. They are worth a line in a log.
+    /// The journals at whose end a crash cut off a write. Nobody had an answer that it was kept. They are worth a line in a log.
     pub fn torn(&self) -> &[PathBuf] {
         &self.torn
     }
@@ -250,7 +250,7 @@ impl Journal {
     /// Replaces the snapshot by the record of the validator, and drops the journals before it. `piece` writes a piece of the record, and is called
     /// until all is written. Threads may append all the while. A use must be in the record before it is appended, as a check does it.
     ///
-    /// After an error nothing is lost, and nothing is written to what is there in place of a folder that was moved.
+    /// After an error nothing is lost, and nothing is written to what is there instead of a folder that was moved.
     pub(crate) fn snapshot(&self, piece: impl FnMut(&mut Part, &mut [u8]) -> Result<usize, Error>) -> Result<(), JournalError> {
         let taken = self.take_snapshot(piece);
         self.keeper.is_due.store(self.wants_snapshot(), Ordering::Relaxed);

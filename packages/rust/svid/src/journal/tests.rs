@@ -304,7 +304,7 @@ fn messages_of_any_length() {
     assert_eq!(found, MOST);
 }
 
-/// Ways in which the path of a folder comes to lead elsewhere.
+/// Ways to make the path of a folder lead elsewhere.
 type Move = fn(&Path);
 const MOVES: [(&str, Move); 4] = [
     ("removed", |path| fs::remove_dir_all(path).unwrap()),
@@ -324,7 +324,7 @@ fn is_moved<T>(result: Result<T, JournalError>) -> bool {
     matches!(result, Err(JournalError::Moved { .. }))
 }
 
-// Another process may have begun at the path, so nothing is told as kept, and its files stay as they are.
+// Another process may have begun at the path, so nothing is acknowledged as kept, and its files stay as they are.
 #[test]
 fn a_folder_that_is_moved_keeps_nothing() {
     for (how, moves) in MOVES {
@@ -368,7 +368,7 @@ fn a_folder_that_comes_back_keeps_nothing() {
     assert!(why.contains("put it back there, and start the service again"), "{why}");
 }
 
-/// A start of which a call fails, or by which the process is killed. It says whether that call came.
+/// A start in which a call fails, or kills the process. It says whether that call came.
 fn fails(path: &Path, faults: &Faults, call: usize, is_killed: bool) -> bool {
     faults.ends(Some((call, is_killed)));
     let why = opened(path, faults).map(drop);

@@ -6,7 +6,7 @@ use std::time::Instant;
 
 use super::statements::{Reason, ANSWER, SILENT};
 
-/// How many characters of an error are told.
+/// How many characters of an error are shown.
 const MOST: usize = 1024;
 
 /// Why there is no answer. Nobody knows what the store has.

@@ -39,7 +39,7 @@ const LONGEST: Duration = Duration::from_secs(86_400);
 /// The store of a group in PostgreSQL 15 or later. It is a member of the same store as `svidd` with `--store postgres://..`: services and sidecars
 /// accept a token once together. An administrator makes the store by what `svidd schema` prints.
 ///
-/// It looks at the store once a second, on a thread of its own, until it is dropped or [closed](PostgresStore::close). A call takes no longer than
+/// It looks at the store once a second, on a thread of its own, until it is dropped or [closed](PostgresStore::close). A call takes at most
 /// [`Options::wait`]. After `fork`, only one of the two processes may go on with it.
 ///
 /// ```no_run

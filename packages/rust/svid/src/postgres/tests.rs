@@ -188,7 +188,7 @@ fn answer(stores: &Stores, name: &str, id: &str, words: &[&str]) -> Result<Strin
 
 const LONG: Duration = Duration::from_secs(500);
 
-/// A server of PostgreSQL, which `kill`, `start`, `pause`, `resume` and SQL are told to.
+/// A server of PostgreSQL, which takes `kill`, `start`, `pause`, `resume` and SQL.
 struct Machine {
     run: Child,
     said: BufReader<std::process::ChildStdout>,

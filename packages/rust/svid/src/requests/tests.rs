@@ -130,7 +130,7 @@ fn memory() -> MemoryStore {
     MemoryStore::new().clock(time)
 }
 
-/// What a check comes to, in a word.
+/// The outcome of a check, in a word.
 fn word<T>(answer: Result<T, Error>) -> String {
     match answer {
         Ok(_) => "accepted".to_owned(),
@@ -140,7 +140,7 @@ fn word<T>(answer: Result<T, Error>) -> String {
     }
 }
 
-/// What a check comes to. It is made in a thread of its own, for which nobody waits without an end.
+/// The outcome of a check. It is made in a thread of its own, for which nobody waits without an end.
 fn check<F: Fn() + Send + Sync + 'static>(guard: &Arc<Guard<By<F>>>, token: &str) -> String {
     answer(soon(guard, token))
 }
@@ -286,7 +286,7 @@ fn away() -> Result<(), StoreError> {
     Err("the store is away".into())
 }
 
-/// What a check comes to, once it is not too late: a wait may be short for a busy machine.
+/// The outcome of a check, once it is not too late: a wait may be short for a busy machine.
 fn in_time(guard: &Arc<Plain>, token: &str) -> String {
     let mut said = String::new();
     until(|| {
@@ -754,7 +754,7 @@ fn withdrawals_that_are_not_heard_yet() {
     let why = "the withdrawals of the group's store can't be read: the store is away".to_owned();
     let told = || heard.lock().unwrap().iter().filter(|it| **it == why).count();
     until(|| told() == 1);
-    // (each fault is told once)
+    // (each fault is reported once)
     let asked = store.asked.load(Ordering::Relaxed);
     until(|| store.asked.load(Ordering::Relaxed) > asked + 1);
     assert_eq!(told(), 1);
@@ -1111,7 +1111,7 @@ fn who_hears_of_tokens_that_several_accepted() {
     let again = accepted(&three, 5);
     hearing().take([message(&uses[5]), message(&again)].concat()).expect("it takes both");
     assert_eq!(heard.lock().unwrap()[1..], [again.key]);
-    // What is bad is told as that, and what is long is taken.
+    // Bad messages are an error, and long ones are taken.
     assert!(matches!(one.take(b"no message"), Err(Error::Messages(_))));
     let long = message(&accepted(&two, 41)).repeat((1 << 22) / 82 + 1);
     assert_eq!(one.take(&long), Ok(()));

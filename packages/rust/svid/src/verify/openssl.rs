@@ -36,7 +36,7 @@ enum Key {
     Ec(EcKey<Public>),
     /// It can't be used with the algorithm.
     Unfit,
-    /// OpenSSL refuses it. That is not kept, since it may be for want of memory, of which OpenSSL does not always tell.
+    /// OpenSSL refuses it. That is not kept, since OpenSSL may be out of memory, and does not always say so.
     Bad,
 }
 
@@ -148,7 +148,7 @@ fn by_ec(key: &EcKey<Public>, algorithm: Algorithm, signed: &[u8], signature: &[
     }
 }
 
-/// What an error of OpenSSL means: want of memory, or else that it takes a signature or a key for a bad one.
+/// What an error of OpenSSL means: out of memory, or else that it takes a signature or a key for a bad one.
 fn no(why: &ErrorStack) -> Result<bool, Unverified> {
     let is_memory = |reason| matches!(reason, "malloc failure" | "too many temporary variables" | "initialization error");
     match why.errors().iter().filter_map(|it| it.reason()).any(is_memory) {

@@ -51,7 +51,7 @@ final class Claims {
         pacing.setLong(Library.Pacing.PAUSE, Library.FIRST_PAUSE);
     }
 
-    /** Begins to put claims, and waits until the store answers, but no longer than so many milliseconds. */
+    /** Begins to put claims, and waits until the store answers, but at most so many milliseconds. */
     void begin(long wait) {
         grow();
         try {
@@ -139,7 +139,7 @@ final class Claims {
             try {
                 these = next();
             } catch (OutOfMemoryError none) {
-                // (nothing went out, and whoever waits is told in time)
+                // (nothing went out, and whoever waits gets its answer in time)
                 continue;
             }
             if (these == null) {

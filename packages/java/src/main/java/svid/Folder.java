@@ -84,7 +84,7 @@ final class Folder {
         return Disk.read(at(name), Integer.MAX_VALUE - 8);
     }
 
-    /** Opens a new file, in place of one that has the name. */
+    /** Opens a new file, instead of one that has the name. */
     int create(String name) throws IOException {
         remove(name);
         return disk.create(at(name));
@@ -132,7 +132,7 @@ final class Folder {
 
     /**
      * Keeps the ID, before anything is kept that can't be read without it. A start that failed or was killed may have left a file that has
-     * it, and the folder itself: no later sync vouches for a name whose sync failed. So the file is made anew.
+     * it, and the folder itself: no later sync vouches for a name whose sync failed. So the file is made again.
      */
     void keepId(byte[] id) throws IOException {
         try {
@@ -156,7 +156,7 @@ final class Folder {
 
     /**
      * Makes the folder where it is not there, so that its name lasts. Where the sync of the folder above fails, no later sync vouches for
-     * the name. So the folder is removed, and the next start makes it anew.
+     * the name. So the folder is removed, and the next start makes it again.
      */
     private void make() throws IOException {
         try {

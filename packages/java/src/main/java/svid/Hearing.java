@@ -30,7 +30,7 @@ final class Hearing {
         thread.start();
     }
 
-    /** Waits until all withdrawals were read once, but no longer than so many milliseconds. */
+    /** Waits until all withdrawals were read once, but at most so many milliseconds. */
     void await(long wait) {
         try {
             announced.await(wait, TimeUnit.MILLISECONDS);

@@ -94,7 +94,7 @@ final class Journal implements AutoCloseable {
                 try {
                     it.accept(why);
                 } catch (RuntimeException failed) {
-                    // (who is told must not end the writing)
+                    // (a listener must not end the writing)
                 }
             }
         }
@@ -163,7 +163,7 @@ final class Journal implements AutoCloseable {
         return folderId;
     }
 
-    /** The journals at whose end a crash cut off a write. Nobody was told that it was kept. */
+    /** The journals at whose end a crash cut off a write. Nobody had an answer that it was kept. */
     List<String> torn() {
         return torn;
     }
@@ -357,7 +357,7 @@ final class Journal implements AutoCloseable {
         }
     }
 
-    /** Throws, from now on, if the folder is no longer at its path: what is there now may be the folder of another process. */
+    /** Throws, from now on, unless the path still leads to the folder: what is there now may be the folder of another process. */
     private void stay() {
         try {
             folder.stand();

@@ -123,7 +123,7 @@ final class Member extends State {
     }
 
     /**
-     * Reads the record of the state folder. Tokens are judged from then on, or once the store is there. Waits for that, but no longer than
+     * Reads the record of the state folder. Tokens are judged from then on, or once the store is there. Waits for that, but at most as long as
      * a request does.
      */
     void begin(long now) throws IOException {
@@ -699,7 +699,7 @@ final class Member extends State {
         return new SvidException.Unavailable(toldAs(status), SvidException.Unavailable.saidOf(status), cause);
     }
 
-    /** The status whose word a client hears: where its time is over, that of what it waited for. */
+    /** The status whose word a client hears: where its time is over, the one that says what it waited for. */
     private int toldAs(int status) {
         return status == Library.LATE ? late : status;
     }

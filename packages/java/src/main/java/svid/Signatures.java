@@ -54,7 +54,7 @@ final class Signatures {
         }
     }
 
-    /** A field of what the library wrote. */
+    /** A field that the library wrote. */
     private record Part(Pointer at, byte[] bytes) {}
 
     /** Drops the keys of bundles that were replaced. */

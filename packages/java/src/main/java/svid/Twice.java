@@ -64,7 +64,7 @@ record Twice(List<Entry> before, List<Entry> told) {
         return TokenKey.of(entry.key);
     }
 
-    /** The entries of messages; none of what is no messages. */
+    /** The entries of messages; none if the bytes are no messages. */
     static List<Entry> entries(byte[] messages) {
         try (Room room = new Room()) {
             Told told = new Told(room);

@@ -360,7 +360,7 @@ public final class Validator implements AutoCloseable {
 
     /**
      * Takes messages of other validators, or a record that was saved. Taking a message twice, or in another order, makes no difference.
-     * {@link Options#twice} is told of a token that they show to be accepted twice.
+     * {@link Options#twice} hears of a token that they show to be accepted twice.
      *
      * @param messages any number of messages, one after the other
      * @throws SvidException.TooFar where they tell of a time that is too far ahead: none was taken

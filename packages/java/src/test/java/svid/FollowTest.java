@@ -139,7 +139,7 @@ public class FollowTest {
         }
     }
 
-    /** Of a text that is no bundle the last good one stays, and the fault is told once, with the path. */
+    /** If a text is no bundle, the last good one stays, and the fault is reported once, with the path. */
     @Test
     public void theLastGoodOneStays() throws Exception {
         Path file = path("a.json");
@@ -409,7 +409,7 @@ public class FollowTest {
         }
     }
 
-    /** The last good bundle has the authorities, once there is one: the file no longer counts. */
+    /** The last good bundle has the authorities, once there is one: the file does not count then. */
     @Test
     public void theAuthoritiesFollowToo() throws Exception {
         write(path("first.json"), withAuthorities("ca"));

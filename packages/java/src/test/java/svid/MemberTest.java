@@ -111,7 +111,7 @@ public class MemberTest {
         }
     }
 
-    /** What a call comes to: the subject that it gives, if any, or the name of the error. */
+    /** The outcome of a call: the subject that it gives, if any, or the name of the error. */
     private static String answer(Callable<?> call) {
         try {
             return call.call() instanceof Admission admission ? admission.spiffeId().toString() : "";
@@ -126,7 +126,7 @@ public class MemberTest {
         return new Soon(call).answer();
     }
 
-    /** What a check comes to, once it is not too late: a wait may be short for a busy machine. */
+    /** The outcome of a check, once it is not too late: a wait may be short for a busy machine. */
     private static String inTime(Validator validator, String token) throws Exception {
         String[] said = new String[1];
         until(() -> !(said[0] = soon(() -> validator.check(token))).equals("Unavailable"));
@@ -841,7 +841,7 @@ public class MemberTest {
         }
     }
 
-    /** A thread that is interrupted waits no longer, and still knows that it was interrupted. */
+    /** A thread that is interrupted stops waiting, and still knows that it was interrupted. */
     @Test
     public void anInterrupt() throws Exception {
         Fickle store = new Fickle();

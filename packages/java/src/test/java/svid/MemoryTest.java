@@ -166,7 +166,7 @@ public class MemoryTest {
         }) > 0);
     }
 
-    /** A call whose want of memory is no answer. */
+    /** Makes a call, and throws on that it ran out of memory. */
     private static void rethrown(Validator validator, Call call) throws Exception {
         try {
             call.on(validator);
@@ -175,7 +175,7 @@ public class MemoryTest {
         }
     }
 
-    /** A check whose want of memory is no refusal. */
+    /** Makes a check, and throws on that it ran out of memory. */
     private static void rethrown(Validator validator, String token) throws Refusal {
         try {
             validator.check(token);

@@ -50,7 +50,7 @@ public class PostgresTest {
     private static String url;
     private static int groups;
 
-    /** Builds the tests of Go, and starts a server of PostgreSQL, which `kill`, `start`, `pause`, `resume` and SQL are told to. */
+    /** Builds the tests of Go, and starts a server of PostgreSQL, which takes `kill`, `start`, `pause`, `resume` and SQL. */
     @BeforeClass
     public static void start() throws Exception {
         room = Files.createTempDirectory("svid-postgres-");

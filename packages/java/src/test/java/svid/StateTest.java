@@ -318,7 +318,7 @@ public class StateTest {
         assertTrue(assertThrows(SvidException.BadFolder.class, () -> open(folder)).getMessage().contains("is of an older svidd"));
     }
 
-    /** Each changed bit of what was synced is found, and the file is named. */
+    /** Each changed bit of synced bytes is found, and the file is named. */
     @Test
     public void damageIsFound() throws Exception {
         Path folder = room().resolve("state");
@@ -423,7 +423,7 @@ public class StateTest {
         }
     }
 
-    /** A check waits for the disk, but no longer than it wants. A withdrawal then may not last. */
+    /** A check waits for the disk, but only as long as it wants. A withdrawal then may not last. */
     @Test
     public void aDiskThatHangs() throws Exception {
         Fickle disk = new Fickle();
@@ -432,7 +432,7 @@ public class StateTest {
             Member member = new Member(Vectors.ledger().wait(Duration.ofMillis(200)), Making.bundles().getBytes(), journal);
             member.begin(BEGUN);
             disk.before = name -> Making.await(open);
-            until(() -> { // (a check that is late before it was judged keeps nothing)
+            until(() -> { // (a check that is late before it was judged stores nothing)
                 assertThrows(SvidException.Unavailable.class, () -> member.check(token().getBytes(), () -> BEGUN, null));
                 return member.unready(BEGUN) != null;
             });
@@ -548,7 +548,7 @@ public class StateTest {
         void of(Path folder) throws IOException;
     }
 
-    /** Another process may have begun at its path: no acceptance is told, and its files stay. */
+    /** Another process may have begun at its path: no acceptance is acknowledged, and its files stay. */
     @Test
     public void aFolderThatIsMovedKeepsNothing() throws Exception {
         Move emptied = folder -> {
@@ -708,7 +708,7 @@ public class StateTest {
         }
     }
 
-    /** What a process does with a folder. {@code kept} gains each number that it is told to be kept. */
+    /** What a process does with a folder. {@code kept} gains each number that the journal acknowledges. */
     private static void run(Sure disk, Set<Integer> kept) throws Exception {
         Journal journal;
         try {

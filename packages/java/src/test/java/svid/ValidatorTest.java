@@ -372,7 +372,7 @@ public class ValidatorTest {
                 assertThrows(SvidException.Unverifiable.class, () -> validator.check(token));
                 assertThrows(SvidException.Unverifiable.class, () -> validator.judge(token));
                 assertEquals(0, validator.size().uses());
-                // What comes before a signature is told of a token that nobody can verify.
+                // A token that nobody can verify is refused for what comes before its signature.
                 try (Validator late = Validator.open(ledgerAt(END), bundles())) {
                     assertEquals(Refusal.Reason.EXPIRED, refused(() -> late.check(token)));
                 }

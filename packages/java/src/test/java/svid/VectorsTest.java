@@ -37,7 +37,7 @@ public class VectorsTest {
     }
 
     /**
-     * The ends of the names of signatures that only who has the key can make, and of which java.security says otherwise: it takes a digest
+     * The ends of the names of signatures that only who has the key can make, and that java.security judges otherwise: it takes a digest
      * without the parameters of its hash, and no abscissa that is not below the order.
      */
     private static final List<String> OTHERWISE = List.of(", a hash without parameters", ", an abscissa beyond the order");

@@ -93,7 +93,7 @@ public final class Issuer {
     }
 
     /**
-     * A token with these claims beside or in place of {@code sub}, {@code exp}, {@code iat} and {@code jti}. Null as a value leaves one
+     * A token with these claims beside or instead of {@code sub}, {@code exp}, {@code iat} and {@code jti}. Null as a value leaves one
      * out.
      */
     public String token(String path, Map<String, ?> claims) {
