@@ -14,7 +14,7 @@ export interface RedisStoreOptions extends Omit<PostgresStoreOptions, "servers">
 }
 
 /**
- * The store of a group in Redis 7 or later, over node-redis (`npm install redis`): in one server, or in one with replicas. A Cluster is refused. It is a
+ * The store of a group in Redis 7 or later, over node-redis (`npm install redis@4`): in one server, or in one with replicas. A Cluster is refused. It is a
  * member of the same store as svidd with `--store redis://..`: services with this package and sidecars accept a token once together.
  *
  * It looks at the store once a second until `close`. Nothing of that keeps the process.

@@ -31,8 +31,8 @@ const TESTS = {
   losses: "TestAnEntryThatIsRemovedByHand|TestWhatAMemberKnows|TestATokenThatLivesTooLong|TestMembersAgree|TestEachPutLooksAtTheEpoch|" +
     "TestAnEndCoversWhatEachMemberKnows|TestAStoreThatWasMadeAnew|TestMembersCompareFirst|TestWhatIsOverIsNotKept|TestAClockThatIsADayOff",
   ends: "TestFullMemory|TestFullDisk|TestLateAnswers|TestKilledOverAndOver|TestAClusterIsRefused",
-  replicas: "TestAReplicaAlone|TestAReplicaUnderTheSameName|TestATakeover|TestATakeoverWithReplicas|TestTooFewReplicas|TestTwoPrimaries|" +
-    "TestAPrimaryThatWasAReplica|TestEachPutLooksAtTheRun",
+  replicas: "TestAReplicaAlone|TestAReplicaUnderTheSameName|TestTooFewReplicas|TestTwoPrimaries|TestAPrimaryThatWasAReplica|TestEachPutLooksAtTheRun",
+  takeovers: "TestATakeover|TestATakeoverWithReplicas",
   sentinels: "TestSentinel|TestAPrimaryThatHung|TestSentinelsThatDisagree",
 };
 async function runs(tests) {
@@ -48,6 +48,7 @@ test("go/claims/redis: a server that is fit", () => runs(TESTS.fit));
 test("go/claims/redis: losses", () => runs(TESTS.losses));
 test("go/claims/redis: a server that ends", () => runs(TESTS.ends));
 test("go/claims/redis: replicas", () => runs(TESTS.replicas));
+test("go/claims/redis: takeovers", () => runs(TESTS.takeovers));
 test("go/claims/redis: Sentinels", () => runs(TESTS.sentinels));
 
 const OWNER = new Uint8Array(32).fill(111), WITHDRAWN = new Uint8Array(32);
@@ -171,6 +172,7 @@ test("a connection that breaks is not made again by itself", () =>
     withStores(machine, [{ servers: [machine.url, "unix:///nowhere"] }], async (store) => {
       for (let n = 1; n < 10; n++) {
         await put(store, claim(n));
+        await until(() => store.state().catch(() => false));
         await machine.told("CLIENT", "KILL", "TYPE", "normal");
       }
       await put(store, claim(10));
