@@ -30,7 +30,7 @@ function tokenOf(alg, { privateKey }) {
 const bundles = { "example.org": { keys: Object.entries(KEYS).map(([kid, it]) => ({ use: "jwt-svid", kid, ...it.publicKey.export({ format: "jwk" }) })) } };
 
 async function svid(tokens, options) {
-  const validator = await Validator.open({ audiences: audience, bundles, ...options });
+  const validator = await Validator.open({ audiences: audience, bundles, wait: 600, ...options }); // (a machine may be busy)
   return { run: async () => { for (const it of tokens) await validator.check(it); }, end: () => validator.close() };
 }
 

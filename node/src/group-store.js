@@ -57,7 +57,7 @@ export class GroupStore {
 
   async withdraw(key, expires) {
     await this.#member.withdraw(key, BigInt(expires), this.#end());
-    this.#withdrawn.set(nameOf(key), BigInt(expires));
+    this.#know(key, BigInt(expires));
   }
 
   async withdrawals(after = "") {
@@ -71,6 +71,12 @@ export class GroupStore {
 
   #end() {
     return performance.now() + this.#wait;
+  }
+
+  // A token is withdrawn. (Whoever withdraws it again, with an earlier expiry, does not take that back.)
+  #know(key, expires) {
+    const name = nameOf(key), before = this.#withdrawn.get(name) ?? 0n;
+    this.#withdrawn.set(name, expires > before ? expires : before);
   }
 
   /** Looks at the store, and warns where its epoch has ended. */
@@ -94,7 +100,7 @@ export class GroupStore {
   async #hear(end) {
     for (;;) {
       const { these, last } = await this.#member.withdrawals(this.#position, end);
-      for (const { key, expires } of these) this.#withdrawn.set(nameOf(key), expires);
+      for (const { key, expires } of these) this.#know(key, expires);
       if (last === this.#position) break;
       this.#position = last;
     }

@@ -17,6 +17,7 @@ const run = promisify(execFile);
 const redis = createRequire(import.meta.url)("redis");
 const { Validator } = await imported();
 const { RedisStore, StoreFault } = await imported("src/redis.js");
+const { GroupStore } = await imported("src/group-store.js");
 const LOUD = { maxBuffer: 1 << 26 };
 const room = await mkdtemp(join(tmpdir(), "svid-redis-"));
 const binary = join(room, "redis.test"), go = `${TOP}/go`;
@@ -209,6 +210,26 @@ test("a connection that is made too late is closed, and ends no process", async 
     await until(() => secured.open.size);
   });
   await until(() => !before.open.size);
+});
+
+test("who withdraws a token again does not take that back", async () => {
+  let time = 1000n, looks = 0, these = [];
+  const member = {
+    epoch: "e",
+    look: async () => ({ epoch: "e", deaf: 0n, time, wait: (looks++, 0) }),
+    put: async (claims) => claims.map(({ owner }) => ({ owner, time, deaf: 0n })),
+    withdraw: async () => {},
+    withdrawals: async (after) => ({ these: after ? [] : these, last: String(these.length) }),
+    close() {},
+  };
+  these = [{ key: claim(1).key, expires: 9000n }, { key: claim(1).key, expires: 1001n }];
+  const store = await new GroupStore().begin(() => member, { servers: "x" });
+  for (const expires of [9000n, 1001n]) await store.withdraw(claim(2).key, expires);
+  await until(() => looks);
+  [time, looks] = [5000n, 0]; // (what expires by then is forgotten at a look)
+  await until(() => looks > 1);
+  for (const n of [1, 2, 3]) assert.deepEqual((await store.put([claim(n)]))[0].owner, n < 3 ? WITHDRAWN : OWNER);
+  store.close();
 });
 
 test("warnings of a store", () =>
