@@ -99,17 +99,13 @@ def of_node(room):
     room.run(*words, room.take(f"svid-{VERSION}.tgz"))
     modules = room.folder / "node_modules"
     assert json.loads((modules / "svid/package.json").read_text())["version"] == VERSION
-    # (the files of Debian's node-pg, which can't be installed beside other packages)
-    debian = Path("/usr/share/nodejs")
-    if not (debian / "pg").exists():
-        (room.folder / "debian").mkdir()
-        output("apt-get", "-q", "download", "node-pg", "node-split2", "node-xtend", cwd=room.folder / "debian")
-        for it in room.folder.glob("debian/*.deb"):
-            output("dpkg", "-x", it, room.folder / "debian")
-        debian = room.folder / "debian/usr/share/nodejs"
-    for pattern in "pg*", "postgres-*", "buffer-writer", "obuf", "packet-reader", "split2", "xtend":
-        for it in debian.glob(pattern):
-            shutil.copytree(it, modules / it.name)
+    output(TOP / "node/clients", room.folder / "debian", "pg", "redis")
+    of_postgres = "pg*", "postgres-*", "buffer-writer", "obuf", "packet-reader", "split2", "xtend"
+    of_redis = "redis", "@redis", "cluster-key-slot", "generic-pool", "yallist"
+    for pattern in *of_postgres, *of_redis:
+        for debian in Path("/usr/share/nodejs"), room.folder / "debian/usr/share/nodejs":
+            for it in debian.glob(pattern):
+                shutil.copytree(it, modules / it.name, dirs_exist_ok=True)
     shutil.copy(SERVICES / "service.mjs", room.folder)
     return ["node", "service.mjs"]
 

@@ -2,7 +2,8 @@
 //
 //     node packages/node/bench.mjs [TOKENS [ROUNDS]]
 //
-// SVID_PACKAGE names the folder of the package (`packages/node/build --folder FOLDER` makes FOLDER/svid). All sides get the same tokens, in turns, and each
+// SVID_PACKAGE names the folder of the package (`packages/node/build --folder FOLDER` makes FOLDER/svid). jose is found by NODE_PATH: `packages/node/clients FOLDER jose`
+// gets it, and NODE_PATH=/usr/share/nodejs:FOLDER/usr/share/nodejs names both its places. All sides get the same tokens, in turns, and each
 // has a round's least time: of the clock, and of the processor with all threads, in microseconds a token. jose is handed the right key at once, so
 // it looks for none. Without signatures, `check` is given a verifier that says yes, and jose decodes without verifying.
 
@@ -11,7 +12,7 @@ import { createRequire } from "node:module";
 import { pathToFileURL } from "node:url";
 
 const { Validator } = await import(pathToFileURL(`${process.env.SVID_PACKAGE}/index.js`));
-const jose = createRequire(import.meta.url)("/usr/share/nodejs/jose"); // (Debian's package node-jose)
+const jose = createRequire(import.meta.url)("jose"); // (Debian's package node-jose)
 const [COUNT, ROUNDS] = [process.argv[2] ?? 4000, process.argv[3] ?? 7].map(Number);
 const audience = "ledger", now = Math.floor(Date.now() / 1000);
 const KEYS = {
@@ -29,7 +30,7 @@ function tokenOf(alg, { privateKey }) {
 const bundles = { "example.org": { keys: Object.entries(KEYS).map(([kid, it]) => ({ use: "jwt-svid", kid, ...it.publicKey.export({ format: "jwk" }) })) } };
 
 async function svid(tokens, options) {
-  const validator = await Validator.open({ audiences: audience, bundles, ...options });
+  const validator = await Validator.open({ audiences: audience, bundles, wait: 600, ...options }); // (a machine may be busy)
   return { run: async () => { for (const it of tokens) await validator.check(it); }, end: () => validator.close() };
 }
 

@@ -167,7 +167,7 @@ export interface Withdrawals {
 
 /** What `new MemoryStore` takes. */
 export interface MemoryStoreOptions {
-  /** Its clock, in seconds since 1970. */
+  /** Its clock, in seconds since 1970. By default that of the machine. */
   now?: () => Seconds;
   /** For how many seconds an entry stays after its token has expired. By default 60. */
   margin?: Seconds;
@@ -211,7 +211,7 @@ export interface ValidatorTerms extends Terms {
    * alone.
    */
   state?: string;
-  /** The clock, in seconds since 1970. By default that of the machine. */
+  /** The clock, in seconds since 1970. By default that of the machine. A call throws TypeError where it gives no time, as undefined is none. */
   now?: () => Seconds;
   /**
    * Patterns of the SPIFFE IDs that may call (`Validator.allows`). A good token of another caller throws `NotAllowed`, and is not used up. Left out,
@@ -341,8 +341,8 @@ export class Bundles {
  *
  * Any number of checks may run at once: signatures are verified in between, and each token is accepted once.
  *
- * Each method throws `Closed` after `close`, `OutOfMemory` and `Stopped`; each with `now` throws `Jump`. `now` is by default the time of the
- * clock. Tokens are judged at the record's moment, the greatest time that it has seen.
+ * Each method throws `Closed` after `close`, `OutOfMemory` and `Stopped`; each with `now` throws `Jump`. Where `now` is left out or undefined, it is
+ * the time of the clock. Tokens are judged at the record's moment, the greatest time that it has seen.
  */
 export class Validator {
   protected constructor(ready: never);

@@ -9,8 +9,8 @@ const VALIDATOR_ID = 16, KEY = 32, OWNER = 32;
 const LEAST_WAIT = 0.001; // (the library counts milliseconds)
 const ANYBODY = "spiffe://example.org";
 
-/** The time of a call, in whole seconds: by default that of the clock. */
-export function seconds(now = Date.now() / 1000) {
+/** The time of a call, in whole seconds. (It has no default: a clock that gives nothing is none.) */
+export function seconds(now) {
   const whole = wholeOf("now", now);
   if (whole >= YEAR_5138) throw new RangeError(`now is in seconds since 1970, and ${now} is not: Date.now() is in milliseconds`);
   return whole;

@@ -103,7 +103,6 @@ async function bytesOf(url) {
 /** One handle of the library, in an instance of its own. */
 export class Library {
   #calls; // the exports of the instance, or null once it is closed
-  #buffer; // of the memory as it was at the last look; it is another one once the memory has grown
   #bytes;
   #view;
   #room; // where the room of every call stands
@@ -213,7 +212,7 @@ export class Library {
   close() {
     const calls = this.#calls;
     if (calls === null) return;
-    this.#calls = this.#buffer = this.#bytes = this.#view = null;
+    this.#calls = this.#bytes = this.#view = null;
     try {
       if (this.#kind) calls[`svid_${this.#kind}_close`](this.#handle);
     } catch {
@@ -269,12 +268,12 @@ export class Library {
 
   /** What an acceptance is, for callers. */
   acceptedOf(token, own, subject, use) {
-    return new Accepted({ ...subject, expires: use.expires, use }, own, () => this.says(token), () => JSON.parse(textOf(this.#payload(token))));
+    return new Accepted(subject, use, own, () => this.says(token), () => JSON.parse(textOf(this.#payload(token))));
   }
 
   // The ID in OUT, and its parts.
   #subject() {
-    const out = this.#at(OUT), length = this.#length(), spiffeId = textOf(this.#seen(out, length));
+    const out = this.#at(OUT), begins = Number(out), length = this.#length(), spiffeId = textOf(this.#bytes.subarray(begins, begins + length));
     this.#run("svid_id_parse", out, BigInt(length), this.#at(SMALL));
     return { spiffeId, ...this.#parts(spiffeId) };
   }
@@ -287,10 +286,10 @@ export class Library {
 
   // A use with its message.
   #used(at, withdrawn = false) {
-    const use = { ...this.#use(at), withdrawn };
-    if (withdrawn) return new Use({ ...use, message: this.messageOf(use) });
+    const use = this.#use(at);
+    if (withdrawn) return new Use(use, withdrawn, this.messageOf({ ...use, withdrawn }));
     this.#run("svid_batch_of", at, this.#at(SMALL));
-    return new Use({ ...use, message: this.#seen(this.#at(SMALL), BATCH) });
+    return new Use(use, withdrawn, this.#seen(this.#at(SMALL), BATCH));
   }
 
   #use(at) {
@@ -807,11 +806,10 @@ export class Library {
     return this.#room + BigInt(offset);
   }
 
-  // Views of the memory as it is now: one that has grown has another buffer.
+  // Views of the memory as it is now: once it has grown, those of before have no bytes. (To ask for its buffer costs more.)
   #look() {
-    const buffer = this.#calls?.memory.buffer;
-    if (!buffer || buffer === this.#buffer) return;
-    this.#buffer = buffer;
+    if (this.#bytes?.length || !this.#calls) return;
+    const { buffer } = this.#calls.memory;
     this.#bytes = new Uint8Array(buffer);
     this.#view = new DataView(buffer);
   }

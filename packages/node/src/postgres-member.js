@@ -3,81 +3,16 @@
 import { createRequire } from "node:module";
 import { readFileSync } from "node:fs";
 import * as tls from "node:tls";
+import { CELL, Gate, StoreFault, brief, bytesOf, foundOf, now, until, withdrawalsOf } from "./answers.js";
 import * as said from "./statements.js";
 
-const HEAD = 33, CELL = 33, ONE = 40, OWNER = 32; // bytes of an answer: its head, an entry, a withdrawal, an owner
-const LONGEST_ERROR = 1024;
+const HEAD = 33, OWNER = 32; // bytes of an answer's head, and of an owner
 const INT8 = 20;
 const NAME = /^(?!pg_)[A-Za-z0-9_-]{1,63}$/;
 const pg = createRequire(import.meta.url)("pg");
 const types = { getTypeParser: (oid, format) => (oid === INT8 ? BigInt : pg.types.getTypeParser(oid, format)) };
 
-/** Why a store has no answer. Nobody knows what it has. */
-export class StoreFault extends Error {
-  constructor(reason, more = "", options) {
-    super((said.FAULTS[reason] ?? "") + more, options);
-    this.name = "StoreFault";
-    this.reason = reason;
-  }
-}
-
-const now = () => performance.now();
-const brief = (text) => (text.length <= LONGEST_ERROR ? text : `${text.slice(0, LONGEST_ERROR)}.. (${text.length} characters)`);
 const expiryOf = (expires) => (expires < said.MOST_EXPIRY ? expires : said.MOST_EXPIRY);
-const bytesOf = (it) => Buffer.from(it.buffer, it.byteOffset, it.byteLength);
-
-/** What a promise has until a moment; then a StoreFault, and `undo` is called. */
-async function until(end, promise, undo = () => {}) {
-  let timer;
-  const late = new Promise((_, reject) => {
-    timer = setTimeout(() => {
-      reject(new StoreFault("silent"));
-      undo();
-    }, Math.max(0, end - now()));
-  });
-  promise.catch(() => {}); // (it may fail later)
-  try {
-    return await Promise.race([promise, late]);
-  } finally {
-    clearTimeout(timer);
-  }
-}
-
-/** Lets so many go on at once. */
-class Gate {
-  #free;
-  #waiting = [];
-
-  constructor(free) {
-    this.#free = free;
-  }
-
-  async within(end, act) {
-    if (this.#free > 0) this.#free--;
-    else {
-      let go;
-      const turn = new Promise((resolve) => this.#waiting.push((go = resolve)));
-      await until(end, turn, () => this.#leave(go));
-    }
-    try {
-      return await act();
-    } finally {
-      this.#next();
-    }
-  }
-
-  #leave(go) {
-    const at = this.#waiting.indexOf(go);
-    if (at < 0) this.#next(); // (its turn came just now)
-    else this.#waiting.splice(at, 1);
-  }
-
-  #next() {
-    const go = this.#waiting.shift();
-    if (go) go();
-    else this.#free++;
-  }
-}
 
 /** One of the addresses, and what the last look at it saw where there are several. */
 class Server {
@@ -304,8 +239,6 @@ export class Member {
   /** @param terms `lasts`, `margin` and `back`, in seconds */
   constructor({ servers, group, replicas }, terms) {
     if (!NAME.test(group)) throw new TypeError("group is letters, digits, - and _ alone, at most 63 of them, and does not begin with pg_");
-    if (!servers?.length) throw new TypeError("servers is the address of each server: give one");
-    if (!Number.isInteger(replicas) || replicas < 1) throw new RangeError("replicas is how many servers must have a claim: at least 1");
     for (const [name, text] of Object.entries(said.STATEMENTS)) this.#statements[name] = text.replaceAll("{S}", `"${group}"`);
     this.#terms = terms;
     this.#group = group;
@@ -393,12 +326,7 @@ export class Member {
   /** The withdrawals after a position, and the position up to which these are read. */
   async withdrawals(after, end) {
     const [[last, bytes]] = await this.#call("withdrawals", [after.replaceAll("\0", " ")], end);
-    if (bytes.length % ONE) throw new StoreFault("answer");
-    const these = Array.from({ length: bytes.length / ONE }, (_, n) => {
-      const one = bytes.subarray(n * ONE, (n + 1) * ONE);
-      return { key: new Uint8Array(one.subarray(0, 32)), expires: one.readBigUInt64BE(32) };
-    });
-    return { these, last };
+    return { these: withdrawalsOf(bytes), last };
   }
 
   /** Keeps the claim in mind that lives longest: each look asks whether it is there. */
@@ -516,13 +444,6 @@ function answerOf(rows, count) {
   if (!Buffer.isBuffer(bytes) || (bytes.length !== HEAD && bytes.length !== HEAD + count * CELL)) throw new StoreFault("answer");
   const epoch = bytes.toString("hex", 17, HEAD).replace(/^(.{8})(.{4})(.{4})(.{4})/, "$1-$2-$3-$4-");
   return { status: bytes[0], time: bytes.readBigUInt64BE(1), deaf: bytes.readBigUInt64BE(9), epoch, cells: bytes.subarray(HEAD) };
-}
-
-/** What is answered to one of the claims. */
-function foundOf({ time, deaf, cells }, claim, n) {
-  if (!cells.length) return { owner: claim.owner, time, deaf }; // (each is there by this call)
-  const cell = cells.subarray(n * CELL, (n + 1) * CELL);
-  return cell[0] === 1 ? { owner: new Uint8Array(cell.subarray(1)), time, deaf } : new StoreFault(said.OF_CELL[cell[0]] ?? "answer");
 }
 
 /**

@@ -1,119 +1,15 @@
 // The store of a group in PostgreSQL. What it does stands in postgres.d.ts.
 
-import { limit } from "./given.js";
-import { Library } from "./library.js";
-import { Member, StoreFault } from "./postgres-member.js";
-import * as said from "./statements.js";
+import { StoreFault } from "./answers.js";
+import { GroupStore } from "./group-store.js";
+import { Member } from "./postgres-member.js";
 
 export { StoreFault };
 
-const nameOf = (key) => Buffer.from(key).toString("hex");
-
 /** The store of a group in PostgreSQL, which svidd has by `--store postgres://..`. */
-export class PostgresStore {
-  #member;
-  #wait;
-  #timer;
-  #warn;
-  #ended = false;
-  #why = "";
-  #margin;
-  #position = "";
-  #heard = false; // the withdrawals were read to the end once
-  #withdrawn = new Map();
-
+export class PostgresStore extends GroupStore {
   /** Connects in the background. */
-  static async open({ servers, group = "svid", longest = 3600, ahead = 30, replicas = 1, wait = 2, onWarning } = {}) {
-    if (!(wait > 0 && wait < 2 ** 21)) throw new RangeError("wait is a number of seconds above 0");
-    const library = await Library.start(), back = BigInt(said.STEP_BACK / 1000), least = BigInt(said.LEAST_MARGIN / 1000);
-    const lasts = library.claimUntil(limit("longest", longest), 2n * limit("ahead", ahead));
-    const margin = (limit("ahead", ahead) > least ? limit("ahead", ahead) : least) + back;
-    const all = typeof servers === "string" ? [servers] : [...(servers ?? [])];
-    const store = new PostgresStore();
-    store.#member = new Member({ servers: all, group, replicas }, { lasts, margin, back });
-    store.#margin = margin;
-    store.#wait = wait * 1000;
-    store.#warn = onWarning ?? ((text) => process.emitWarning(text, "SvidWarning"));
-    store.#watch();
-    return store;
-  }
-
-  /** Ends all connections, and the calls that are under way. */
-  close() {
-    this.#ended = true;
-    clearTimeout(this.#timer);
-    this.#member.close();
-  }
-
-  async put(claims) {
-    const end = this.#end();
-    if (this.#member.epoch === undefined || !this.#heard || !claims.length) {
-      if ((await this.#look(end)).wait) throw new StoreFault("run");
-      await this.#hear(end);
-    }
-    const found = await this.#member.put(claims, end);
-    for (const it of found) if (it instanceof StoreFault) throw it;
-    return found.map((it, n) => (this.#withdrawn.has(nameOf(claims[n].key)) ? { ...it, owner: new Uint8Array(it.owner.length) } : it));
-  }
-
-  async withdraw(key, expires) {
-    await this.#member.withdraw(key, BigInt(expires), this.#end());
-    this.#withdrawn.set(nameOf(key), BigInt(expires));
-  }
-
-  async withdrawals(after = "") {
-    return this.#member.withdrawals(after, this.#end());
-  }
-
-  async state() {
-    const { epoch, deaf, time } = await this.#look(this.#end());
-    return { epoch, deaf, time };
-  }
-
-  #end() {
-    return performance.now() + this.#wait;
-  }
-
-  /** Looks at the store, and warns where its epoch has ended. */
-  async #look(end) {
-    const before = this.#member.epoch, is = await this.#member.look(end);
-    if (before !== undefined && before !== is.epoch) {
-      this.#tell(`the epoch of the group's store has ended: tokens that expire by ${is.deaf} may have been claimed before`);
-    }
-    return is;
-  }
-
-  #tell(text) {
-    try {
-      this.#warn(text);
-    } catch {
-      // (who is warned must not end a call)
-    }
-  }
-
-  /** Reads the withdrawals that have come. */
-  async #hear(end) {
-    for (;;) {
-      const { these, last } = await this.#member.withdrawals(this.#position, end);
-      for (const { key, expires } of these) this.#withdrawn.set(nameOf(key), expires);
-      if (last === this.#position) break;
-      this.#position = last;
-    }
-    this.#heard = true;
-  }
-
-  /** Looks at the store once a second until it is closed. */
-  async #watch() {
-    const begun = performance.now();
-    try {
-      const { time } = await this.#look(begun + said.STATE_WAIT);
-      await this.#hear(performance.now() + said.HEAR_WAIT);
-      for (const [key, expires] of this.#withdrawn) if (expires + this.#margin < time) this.#withdrawn.delete(key);
-      this.#why = "";
-    } catch (why) {
-      if (!this.#why && !this.#ended) this.#tell(`the group's store can't be looked at: ${why.message}`);
-      this.#why = why.message || "unknown";
-    }
-    if (!this.#ended) this.#timer = setTimeout(() => this.#watch(), Math.max(0, begun + said.STATE_EVERY - performance.now())).unref();
+  static open(options) {
+    return new PostgresStore().begin((...given) => new Member(...given), options);
   }
 }

@@ -9,8 +9,13 @@ const listed = (fields) => Object.fromEntries(Object.entries(fields).map(([name,
 
 /** One entry of a record. */
 export class Use {
-  constructor(fields) {
-    Object.assign(this, fields);
+  constructor({ expires, at, key, validatorId }, withdrawn, message) {
+    this.expires = expires;
+    this.at = at;
+    this.key = key;
+    this.validatorId = validatorId;
+    this.withdrawn = withdrawn;
+    this.message = message;
   }
 
   /** The same in numbers and texts: bytes as hexadecimal digits. */
@@ -27,8 +32,12 @@ export class Accepted {
   #claims;
 
   /** @param own the audiences of the service @param says reads the token @param claims reads its payload */
-  constructor(fields, own, says, claims) {
-    Object.assign(this, fields);
+  constructor({ spiffeId, trustDomain, path }, use, own, says, claims) {
+    this.spiffeId = spiffeId;
+    this.trustDomain = trustDomain;
+    this.path = path;
+    this.expires = use.expires;
+    this.use = use;
     this.#own = own;
     this.#says = says;
     this.#claims = claims;

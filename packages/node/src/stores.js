@@ -1,6 +1,6 @@
 // The store of a group: it keeps one claim for each token, the first one that is put. What a store does stands in index.d.ts (`Store`).
 
-import { expiryOf, limit, seconds } from "./given.js";
+import { clockOf, expiryOf, limit } from "./given.js";
 import { Library } from "./library.js";
 
 const WITHDRAWN = 32; // as many zeros are the owner of a token that was withdrawn
@@ -18,7 +18,7 @@ export class MemoryStore {
 
   /** Makes an empty store. */
   constructor({ now, margin = 60, lasts = 3600 } = {}) {
-    this.#now = () => seconds(now?.());
+    this.#now = clockOf(now);
     this.#margin = limit("margin", margin);
     this.#lasts = limit("lasts", lasts);
   }

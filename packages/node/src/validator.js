@@ -11,6 +11,7 @@ import { hexOf } from "./records.js";
 import { Verifier } from "./signatures.js";
 
 const NO_SIGNATURE = "BadSignature";
+const CLOCK = clockOf();
 const PIECE = 1_048_576;
 const NO_LOG = "log is no option: to accept a token once in a whole group, write mode \"strict\" and give the group's store";
 
@@ -269,7 +270,7 @@ export class Bundles {
     const found = asked ? await this.#verifier.first(asked) : {};
     const question = found.row ? this.#library.question(token, found.number) : null;
     try {
-      return this.#library.judgeBy({ ...this.#terms, now: seconds(now) }, token, question);
+      return this.#library.judgeBy({ ...this.#terms, now: now === undefined ? CLOCK() : seconds(now) }, token, question);
     } catch (why) {
       throw why instanceof Refusal && why.name === NO_SIGNATURE && found.unverifiable ? found.unverifiable : why;
     }

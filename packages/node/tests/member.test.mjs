@@ -611,7 +611,7 @@ test("a validator that is dropped is freed, also while its store is away", async
 test("a check has its answer though its validator was dropped", async () => {
   const stdout = await programSays(`let puts = 0;
     const store = { put: (claims) => (claims.length ? (puts++, new Promise(() => {})) : []), withdraw: async () => {} };
-    const check = async () => (await Validator.open({ ...terms, mode: "strict", wait: 0.3, store })).check(token);
+    const check = async () => (await Validator.open({ ...terms, mode: "strict", wait: 3, store })).check(token);
     let answer;
     check().catch((why) => (answer = why.name));
     await collectUntil(() => puts || answer);

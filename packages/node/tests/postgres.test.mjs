@@ -80,7 +80,7 @@ const TESTS = {
   primaries: "TestTwoPrimaries|TestTwoStandbysArePromoted|TestServersOfTwoClusters|TestStandbysAreNotWaitedForAnyMore|TestWhatIsGivenUpEndsAtTheServer",
 };
 async function runs(tests) {
-  const env = { ...OPEN, SVID_STORE_CLIENT: `${process.execPath} ${TOP}/packages/node/tests/store-client.mjs` };
+  const env = { ...OPEN, SVID_STORE_CLIENT: `${process.execPath} ${TOP}/packages/node/tests/store-client.mjs postgres` };
   const words = ["-test.v", "-test.timeout", "50m", "-test.run", `^(${tests})$`];
   const ran = await run(binary, words, { cwd: `${go}/claims/postgres`, env, ...LOUD }).catch((why) => why);
   assert.equal(ran.code, undefined, `${ran.stdout?.match(/^--- FAIL.*/gm)} ${ran.stdout?.slice(-5000)} ${ran.stderr?.slice(-2000)}`);

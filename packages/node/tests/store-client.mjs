@@ -1,11 +1,13 @@
-// Makes calls of a member of a store in PostgreSQL for the tests of go/claims/postgres, which run over each client.
+// Makes calls of a member of a store for the tests of go/claims, which run over each client. Its argument is the store's server: postgres or redis.
 //
 // A line of standard input is a call: its number, the name, the store, and what it takes. A line of standard output is the answer: the number, and
 // what it returns, or `fault REASON TEXT`.
 
 import { createInterface } from "node:readline";
 
-const { Member, StoreFault } = await import(`${process.env.SVID_PACKAGE}/src/postgres-member.js`);
+const [, , server] = process.argv;
+const { Member } = await import(`${process.env.SVID_PACKAGE}/src/${server}-member.js`);
+const { StoreFault } = await import(`${process.env.SVID_PACKAGE}/src/answers.js`);
 const stores = new Map();
 const hex = (it) => Buffer.from(it).toString("hex");
 const faultOf = (why) => [why.reason ?? "error", hex(String(why.message ?? why)) || "-"];
@@ -42,7 +44,8 @@ const CALLS = {
 async function answer(name, id, ...words) {
   if (name !== "new") return CALLS[name](stores.get(id), performance.now() + Number(words[0] ?? 0) * 1000, ...words.slice(1));
   const [group, lasts, margin, back, replicas, ...servers] = words;
-  stores.set(id, new Member({ servers, group, replicas: Number(replicas) }, { lasts: BigInt(lasts), margin: BigInt(margin), back: BigInt(back) }));
+  const more = server === "redis" ? [Number(servers.shift())] : []; // (for how long members compare)
+  stores.set(id, new Member({ servers, group, replicas: Number(replicas) }, { lasts: BigInt(lasts), margin: BigInt(margin), back: BigInt(back) }, ...more));
   return [];
 }
 

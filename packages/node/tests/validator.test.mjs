@@ -6,7 +6,7 @@ import { test } from "node:test";
 import { inspect } from "node:util";
 import { PACKAGE, TOP, counted, digest, exhausted, hex, imported, issuer, listed, now, read, said, seen, token } from "./making.mjs";
 
-const { Bundles, REFUSALS, Refusal, SvidError, Validator } = await imported();
+const { Bundles, MemoryStore, REFUSALS, Refusal, SvidError, Validator } = await imported();
 const { sentences } = await listed();
 
 const one = issuer(), bundles = one.bundles;
@@ -78,6 +78,33 @@ test("a validator goes by the clock that it is given", async () => {
   assert.throws(() => validator.tick(), { name: "RangeError" });
   await assert.rejects(Validator.open({ ...terms, now: 5 }), { name: "TypeError", message: /now is a function/ });
   validator.close();
+});
+
+test("a clock that gives no time is refused, and a call without one goes by the clock", async () => {
+  const bundles = await Bundles.open(terms);
+  for (const time of [undefined, null, NaN, "5"]) {
+    const validator = await Validator.open({ ...terms, now: () => time }), text = token(one), { moment } = validator.size();
+    for (const call of ["check", "judge", "withdraw"]) assert.equal(await said(validator[call](text)), "TypeError", `${call} ${time}`);
+    for (const call of ["tick", "unready"]) assert.throws(() => validator[call](), TypeError, `${call} ${time}`);
+    assert.throws(() => validator.take(new Uint8Array()), TypeError);
+    assert.deepEqual(validator.size(), { moment, uses: 0 });
+    await assert.rejects(new MemoryStore({ now: () => time }).put([]), TypeError);
+    if (time !== undefined) assert.equal(await said(bundles.judge(text, time)), "TypeError");
+    validator.close();
+  }
+  assert.throws(() => new MemoryStore({ now: 5 }), TypeError);
+  const time = 1_800_000_000, validator = await Validator.open({ ...terms, now: () => time }), text = token(one, { exp: time + 60 });
+  for (const about of [undefined, {}, { now: undefined }]) {
+    await validator.check(token(one, { exp: time + 60 }), about);
+    assert.equal(validator.size().moment, BigInt(time));
+  }
+  for (const call of ["judge", "withdraw"]) await validator[call](text, undefined);
+  for (const call of ["tick", "unready"]) validator[call](undefined);
+  validator.take(new Uint8Array(), undefined);
+  assert.equal(validator.size().moment, BigInt(time));
+  assert.equal(await said(bundles.judge(token(one), undefined)), "accepted");
+  validator.close();
+  bundles.close();
 });
 
 test("a refusal has a name and a sentence, and nothing of the token", async () => {
