@@ -99,7 +99,7 @@ def of_node(room):
     room.run(*words, room.take(f"svid-{VERSION}.tgz"))
     modules = room.folder / "node_modules"
     assert json.loads((modules / "svid/package.json").read_text())["version"] == VERSION
-    output(TOP / "node/clients", room.folder / "debian", "pg", "redis")
+    output(TOP / "packages/node/clients", room.folder / "debian", "pg", "redis")
     of_postgres = "pg*", "postgres-*", "buffer-writer", "obuf", "packet-reader", "split2", "xtend"
     of_redis = "redis", "@redis", "cluster-key-slot", "generic-pool", "yallist"
     for pattern in *of_postgres, *of_redis:

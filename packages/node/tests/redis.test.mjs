@@ -37,7 +37,7 @@ const TESTS = {
   sentinels: "TestSentinel|TestAPrimaryThatHung|TestSentinelsThatDisagree",
 };
 async function runs(tests) {
-  const env = { ...process.env, SVID_STORE_CLIENT: `${process.execPath} ${TOP}/node/tests/store-client.mjs redis` };
+  const env = { ...process.env, SVID_STORE_CLIENT: `${process.execPath} ${TOP}/packages/node/tests/store-client.mjs redis` };
   const words = ["-test.v", "-test.timeout", "50m", "-test.run", `^(${tests})$`];
   const ran = await run(binary, words, { cwd: `${go}/claims/redis`, env, ...LOUD }).catch((why) => why);
   assert.equal(ran.code, undefined, `${ran.stdout?.match(/^--- FAIL.*/gm)} ${ran.stdout?.slice(-5000)} ${ran.stderr?.slice(-2000)}`);
