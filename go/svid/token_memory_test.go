@@ -3,6 +3,8 @@
 package svid_test
 
 import (
+	"errors"
+	"fmt"
 	"testing"
 
 	"svid.example/go/v3/internal/scarce"
@@ -40,5 +42,31 @@ func TestTokensLeaveNothing(t *testing.T) {
 				t.Errorf("%s of %.10q: %d calls hold %d blocks", name, text, times, more)
 			}
 		}
+	}
+}
+
+// Other audiences leave nothing of the record that was copied, nor of one that could not be.
+func TestOtherAudiencesLeaveNothing(t *testing.T) {
+	v := open(t, 1)
+	if _, err := v.Withdraw(moment, svid.TokenKey{1}, moment+300); err != nil {
+		t.Fatal(err)
+	}
+	change := func(times int) {
+		t.Helper()
+		for i := 0; i < times; i++ {
+			if err := v.SetAudiences([]string{"ledger", fmt.Sprint("other", i%3)}); err != nil {
+				t.Fatal(err)
+			}
+			if err := v.SetAudiences([]string{"\n"}); !errors.Is(err, svid.ErrAudience) {
+				t.Fatal(err)
+			}
+		}
+	}
+	change(10)
+	const times, most = 100, 50
+	before := scarce.Held()
+	change(times)
+	if more := scarce.Held() - before; more > most {
+		t.Errorf("%d changes hold %d blocks", times, more)
 	}
 }
