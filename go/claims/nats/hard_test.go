@@ -172,6 +172,15 @@ func TestAnAnswerThatNeverComes(t *testing.T) {
 	}
 }
 
+// A server that is away for long is found again: nothing bounds how often it is tried.
+func TestAServerThatIsAwayForLong(t *testing.T) {
+	t.Parallel()
+	a := open(t, newMachine(t), claimstest.Options{Name: "long", Terms: claimstest.Usual})
+	if n := a.conn.Opts.MaxReconnect; n >= 0 {
+		t.Errorf("after %d tries the client gives up", n)
+	}
+}
+
 // A disk that is full takes no claim, and loses none.
 func TestAFullDisk(t *testing.T) {
 	t.Parallel()
