@@ -85,3 +85,34 @@ func TestAServerThatIsAwayIsAskedNowAndThen(t *testing.T) {
 		t.Errorf("one that is away was asked each time: %v", faults[1])
 	}
 }
+
+// Members that come and go leave no key that stays for ever: a group's store has the same few, however often its members were restarted.
+func TestMembersThatComeAndGoLeaveNoKey(t *testing.T) {
+	t.Parallel()
+	server := start(t)
+	stay := func() string {
+		t.Helper()
+		answer, err := server.Do("EVAL", "local n = 0 for _, k in ipairs(redis.call('KEYS', '*')) do if redis.call('TTL', k) < 0 then n = n + 1 end end return n", "0")
+		if err != nil {
+			t.Fatal(err)
+		}
+		return answer
+	}
+	member := func(n int) {
+		t.Helper()
+		s := openedOwn(t, Options{URLs: []string{server.URL}})
+		put(t, s, n)
+		if _, err := s.State(limited(t)); err != nil {
+			t.Fatal(err)
+		}
+		s.Close()
+	}
+	member(1)
+	before := stay()
+	for n := 2; n < 7; n++ {
+		member(n)
+	}
+	if now := stay(); now != before {
+		t.Errorf("keys that stay are %s, and were %s with one member", now, before)
+	}
+}
