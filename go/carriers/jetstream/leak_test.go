@@ -64,3 +64,14 @@ func TestARepairThatFailedWaitsForItsTime(t *testing.T) {
 		t.Errorf("%d summaries were asked for within an hour", n)
 	}
 }
+
+// However often reading failed, it begins again soon.
+func TestTheRestBeforeReadingHasABound(t *testing.T) {
+	rest := time.Duration(attemptPause)
+	for i := 0; i < 1000; i++ {
+		before := rest
+		if rest = longer(rest); rest < before || rest <= 0 || rest > mostAnewWait {
+			t.Fatalf("behind %d failures: %v, and %v before", i+1, rest, before)
+		}
+	}
+}

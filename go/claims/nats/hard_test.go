@@ -440,7 +440,7 @@ func TestALostTail(t *testing.T) {
 			proxy := logtest.NewProxy(t, m.Address())
 			o.Address = proxy.Address
 			a := open(t, m, o)
-			o.Address = ""
+			o.Address, o.Compares = "", true
 			b := open(t, m, o)
 			before := claimstest.State(t, a)
 			for i := 0; i < 10; i++ {
@@ -458,9 +458,16 @@ func TestALostTail(t *testing.T) {
 			lose(t, folder, kept)
 			m.Start(t)
 			natstest.Await(t, "the other member to be connected", b.conn.IsConnected)
-			proxy.Shut(false) // The one that misses its claim comes back a little later.
 			c.Owner = claimstest.Own(2)
-			if f := claimstest.Put(t, b, c)[0]; claimstest.Judge(c, f, 60) == claimstest.Mine {
+			answered := make(chan claims.Found, 1)
+			go func() { answered <- claimstest.Try(b, patience.Long, c)[0] }()
+			select { // The one that misses its claim comes back a little later.
+			case early := <-answered:
+				answered <- early
+			case <-time.After(compares / 2):
+			}
+			proxy.Shut(false)
+			if f := <-answered; f.Err != nil || claimstest.Judge(c, f, 60) == claimstest.Mine {
 				t.Errorf("accepted twice: %+v", f)
 			}
 			haveEnded(t, m, o, before, a, b)
