@@ -58,8 +58,8 @@ func held(t *testing.T) (h holding) {
 
 // fits says whether there is no more than before, but for what a process takes once. A call that leaves anything leaves it so many times.
 func (h holding) fits(before holding, times int) bool {
-	return h.files <= before.files && h.threads <= before.threads+times/10 && h.goroutines <= before.goroutines &&
-		h.blocks <= before.blocks+times/2 && h.heap <= before.heap+int64(times)<<8
+	return h.files <= before.files && h.threads <= before.threads+times/10+16 && h.goroutines <= before.goroutines &&
+		h.blocks <= before.blocks+times/2+20 && h.heap <= before.heap+int64(times)<<8+64<<10
 }
 
 // A lived is a part of the life of a guard, which is repeated so many times.
@@ -69,8 +69,15 @@ type lived struct {
 	do    func(i int)
 }
 
-// How often. To open a guard takes milliseconds of a processor.
-const opens, calls = 100, 1000
+// How often: a fifth of it under the race detector, as go/build says. To open a guard takes some of a processor's milliseconds.
+var opens, calls = few(100), few(1000)
+
+func few(times int) int {
+	if os.Getenv("SVID_TEST_FEW") != "" {
+		return times / 5
+	}
+	return times
+}
 
 // leavesNothing repeats parts of a life, and compares what the process holds.
 func leavesNothing(t *testing.T, parts ...lived) {
@@ -91,7 +98,6 @@ func leavesNothing(t *testing.T, parts ...lived) {
 			}
 			time.Sleep(10 * time.Millisecond)
 		}
-		t.Logf("%s: %+v, and %+v before", part.name, after, before)
 	}
 }
 
