@@ -1450,12 +1450,21 @@ func TestAMarkEndsABurst(t *testing.T) {
 		return nil
 	})
 	j.quiet = time.Millisecond
+	awaitSync := func(due int) {
+		t.Helper()
+		late := time.After(patience.Long)
+		for n := 0; n < due; {
+			select {
+			case n = <-marks:
+			case <-late:
+				t.Fatalf("%d syncs do not come", due)
+			}
+		}
+	}
 	mustAppend(t, j, batch(0))
-	for <-marks < 2 { // the append, and the mark
-	}
+	awaitSync(2) // the append, and the mark
 	mustAppend(t, j, batch(1))
-	for <-marks < 4 {
-	}
+	awaitSync(4)
 	// A journal that is followed by another one has a mark, too, and one without a batch needs none.
 	j.write.Lock()
 	j.quiet = 0
@@ -1522,6 +1531,28 @@ func TestNoFileStaysOpen(t *testing.T) {
 	}
 	if n := open(); n != before {
 		t.Errorf("%d files are open, %d before", n, before)
+	}
+}
+
+// A Close that can't put its mark, since the disk is full, lets go of the folder all the same: a service may open it again.
+func TestACloseThatFailsLetsGoOfTheFolder(t *testing.T) {
+	dir, isFull := t.TempDir(), false
+	j := mustWatch(t, dir, func(call, _ string) error {
+		if call == "write" && isFull {
+			return syscall.ENOSPC
+		}
+		return nil
+	})
+	mustAppend(t, j, batch(0))
+	isFull = true
+	if err := j.Close(); !errors.Is(err, syscall.ENOSPC) {
+		t.Errorf("a mark without room: %v", err)
+	}
+	if err := j.Close(); err != ErrClosed {
+		t.Errorf("a second Close: %v", err)
+	}
+	if o := mustOpen(t, dir); !bytes.Equal(o.messages, batch(0)) {
+		t.Errorf("%d bytes are read", len(o.messages))
 	}
 }
 

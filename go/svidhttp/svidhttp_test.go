@@ -57,3 +57,24 @@ func TestOnlyProtectSaysWhoCalls(t *testing.T) {
 		t.Error(accepted, ok)
 	}
 }
+
+// A worded checker has a word for each error that is no answer about a token.
+type worded struct{ err error }
+
+func (c worded) Check(context.Context, string) (svid.Accepted, error) { return svid.Accepted{}, c.err }
+func (worded) ReasonOf(error) string                                  { return "NotClaimed" }
+
+// Of an error that is no answer about a token, a client reads the checker's word, and nothing of the error itself.
+func TestAClientReadsAWordOfTheChecker(t *testing.T) {
+	for err, want := range map[error]string{
+		errors.New("dial tcp 192.0.2.1:6379: /run/secret"): `{"reason":"NotClaimed","result":"unavailable"}`,
+		svid.Replayed: `{"reason":"Replayed","result":"refused"}`,
+	} {
+		r, w := httptest.NewRequest(http.MethodGet, "/", nil), httptest.NewRecorder()
+		r.Header.Set("Authorization", "Bearer x")
+		Protect(worded{err}, http.NotFoundHandler()).ServeHTTP(w, r)
+		if w.Body.String() != want+"\n" {
+			t.Errorf("%v: %q", err, w.Body)
+		}
+	}
+}

@@ -68,10 +68,7 @@ func (g *Group) watch(b bucket) {
 		if g.life.Err() != nil {
 			return
 		}
-		if rest *= 2; rest > mostAnewWait {
-			rest = mostAnewWait
-		}
-		if r.seen != behind {
+		if rest = longer(rest); r.seen != behind {
 			rest = attemptPause
 		}
 		if err.Error() != said || r.seen != behind {
@@ -85,6 +82,14 @@ func (g *Group) watch(b bucket) {
 		said, behind = err.Error(), r.seen
 		pause.For(g.life, rest)
 	}
+}
+
+// longer is the rest behind one more failure: a broker that was away for hours is found as soon as one that was away for seconds.
+func longer(rest time.Duration) time.Duration {
+	if rest *= 2; rest > mostAnewWait {
+		rest = mostAnewWait
+	}
+	return rest
 }
 
 // front says that values are gone which the bucket had before this member read it, and whether they may still live.

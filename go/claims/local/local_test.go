@@ -5,6 +5,7 @@ import (
 	"errors"
 	"os"
 	"path/filepath"
+	"runtime"
 	"sync"
 	"sync/atomic"
 	"testing"
@@ -214,6 +215,51 @@ func TestTheFolderStaysSmall(t *testing.T) {
 	}
 	if size > 4<<20 {
 		t.Errorf("a folder of some 2,000 live entries has %d bytes, of 80,000 claims", size)
+	}
+}
+
+// A store whose folder takes nothing more says so, though nobody claims a token: before one is used up that another member could take.
+func TestAFolderThatTakesNothingIsSeen(t *testing.T) {
+	dir, c := filepath.Join(t.TempDir(), "claims"), newClock()
+	s := open(t, dir, c)
+	claimstest.State(t, s) // (it writes the time, once in this minute)
+	if err := os.Rename(dir, dir+".moved"); err != nil {
+		t.Fatal(err)
+	}
+	if _, err := s.State(context.Background()); !errors.Is(err, journal.ErrMoved) {
+		t.Errorf("a folder that was moved: %v", err)
+	}
+	_ = s.Close()
+}
+
+// What is over takes no memory, however long the store runs.
+func TestWhatIsOverTakesNoMemory(t *testing.T) {
+	dir, c := filepath.Join(t.TempDir(), "claims"), newClock()
+	s := open(t, dir, c)
+	heap := func() int {
+		runtime.GC()
+		var memory runtime.MemStats
+		runtime.ReadMemStats(&memory)
+		return int(memory.HeapAlloc)
+	}
+	hours := func(n int) {
+		t.Helper()
+		for these, found := make([]claims.Claim, 500), make([]claims.Found, 500); n > 0; n-- {
+			for i := range these {
+				these[i] = claims.Claim{Key: claimstest.Key(), Owner: claimstest.Own(1), Expires: c.at.Load() + 30}
+			}
+			if s.Put(context.Background(), these, found); found[0].Err != nil {
+				t.Fatal(found[0].Err)
+			}
+			c.at.Add(3600)
+			claimstest.State(t, s)
+		}
+	}
+	hours(20)
+	before := heap()
+	hours(100)
+	if grown := heap() - before; grown > 500<<10 {
+		t.Errorf("50,000 claims that are over take %d bytes", grown)
 	}
 }
 

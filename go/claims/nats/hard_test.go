@@ -172,6 +172,15 @@ func TestAnAnswerThatNeverComes(t *testing.T) {
 	}
 }
 
+// A server that is away for long is found again: nothing bounds how often it is tried.
+func TestAServerThatIsAwayForLong(t *testing.T) {
+	t.Parallel()
+	a := open(t, newMachine(t), claimstest.Options{Name: "long", Terms: claimstest.Usual})
+	if n := a.conn.Opts.MaxReconnect; n >= 0 {
+		t.Errorf("after %d tries the client gives up", n)
+	}
+}
+
 // A disk that is full takes no claim, and loses none.
 func TestAFullDisk(t *testing.T) {
 	t.Parallel()
@@ -431,7 +440,7 @@ func TestALostTail(t *testing.T) {
 			proxy := logtest.NewProxy(t, m.Address())
 			o.Address = proxy.Address
 			a := open(t, m, o)
-			o.Address = ""
+			o.Address, o.Compares = "", true
 			b := open(t, m, o)
 			before := claimstest.State(t, a)
 			for i := 0; i < 10; i++ {
@@ -449,9 +458,16 @@ func TestALostTail(t *testing.T) {
 			lose(t, folder, kept)
 			m.Start(t)
 			natstest.Await(t, "the other member to be connected", b.conn.IsConnected)
-			proxy.Shut(false) // The one that misses its claim comes back a little later.
 			c.Owner = claimstest.Own(2)
-			if f := claimstest.Put(t, b, c)[0]; claimstest.Judge(c, f, 60) == claimstest.Mine {
+			answered := make(chan claims.Found, 1)
+			go func() { answered <- claimstest.Try(b, patience.Long, c)[0] }()
+			select { // The one that misses its claim comes back a little later.
+			case early := <-answered:
+				answered <- early
+			case <-time.After(compares / 2):
+			}
+			proxy.Shut(false)
+			if f := <-answered; f.Err != nil || claimstest.Judge(c, f, 60) == claimstest.Mine {
 				t.Errorf("accepted twice: %+v", f)
 			}
 			haveEnded(t, m, o, before, a, b)

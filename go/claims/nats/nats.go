@@ -186,15 +186,32 @@ func (s *Store) connect(ctx context.Context) error {
 		nc.Close()
 		return err
 	}
-	s.conn = nc
+	if !s.keepConnection(nc) {
+		nc.Close()
+		return client.ErrConnectionClosed
+	}
 	return nil
 }
 
-// Close lets go of the server.
+// keepConnection lets the store have a connection, unless it was closed meanwhile.
+func (s *Store) keepConnection(nc *client.Conn) bool {
+	s.mu.Lock()
+	defer s.mu.Unlock()
+	if s.life.Err() != nil {
+		return false
+	}
+	s.conn = nc
+	return true
+}
+
+// Close lets go of the server, also of one that Open connects to at the moment.
 func (s *Store) Close() error {
+	s.mu.Lock()
 	s.end()
-	if s.conn != nil {
-		s.conn.Close()
+	nc := s.conn
+	s.mu.Unlock()
+	if nc != nil {
+		nc.Close()
 	}
 	s.away(client.ErrConnectionClosed)
 	return nil

@@ -194,6 +194,26 @@ func TestAStateFolderThatCantBeTaken(t *testing.T) {
 	}
 }
 
+// --ahead 0s says that no clocks differ, and is not taken for an option that was left out.
+func TestAnAheadOfNoTime(t *testing.T) {
+	t.Parallel()
+	state := t.TempDir()
+	future := batchOf(svid.Use{Key: svid.TokenKey{1}, Expires: svid.Now() + 7200, At: svid.Now() + 3600})
+	for name, content := range map[string][]byte{"place": []byte(strings.Repeat("0f", 16)), "journal.1": future} {
+		if err := os.WriteFile(filepath.Join(state, name), content, 0o600); err != nil {
+			t.Fatal(err)
+		}
+	}
+	for ahead, want := range map[string]string{"0s": "more than 0 seconds ahead", "7s": "more than 7 seconds ahead"} {
+		p := prepare(t, nil, bundleOption(bundleFile(t, example)), "--state", state, "--ahead", ahead)
+		p.launch()
+		p.exitsWith(2)
+		if !strings.Contains(p.log.String(), want) {
+			t.Errorf("--ahead %s: %s", ahead, p.log)
+		}
+	}
+}
+
 func TestWhatIsWrongWithTheOptionsIsSaidAtOnce(t *testing.T) {
 	t.Parallel()
 	status, _, err := here("", "serve", "--check-config", "--replay", "twice", "--log", "loud")

@@ -1,9 +1,11 @@
 package server
 
 import (
+	"bytes"
 	"context"
 	"errors"
 	"fmt"
+	"strings"
 	"sync/atomic"
 	"testing"
 	"time"
@@ -66,5 +68,24 @@ func TestReadyzTellsOfAStoreThatIsAway(t *testing.T) {
 		}
 		away.Store(false)
 		await(t, fmt.Sprintf("the store to be there again in mode %s", mode), func() bool { e.lookAhead(); return e.Ready() == nil })
+	}
+}
+
+// That a store is away, and that it is there again, is a line of the log each, however often it is looked at.
+func TestAStoreThatIsAwayIsSaidOnce(t *testing.T) {
+	var log bytes.Buffer
+	o := inStrict(Options{Wait: time.Nanosecond, Log: NewLog(&log, Decisions)})
+	e := newShop().use(t, ready(t, engine(t, o)))
+	log.Reset()
+	for times := 1; times <= 2; times++ {
+		for i := 0; i < 5; i++ {
+			e.storeAnswered(time.Now().Add(-time.Minute), errors.New("connection refused"))
+		}
+		for i := 0; i < 5; i++ {
+			e.storeAnswered(time.Now(), nil)
+		}
+		if away, there := strings.Count(log.String(), `"event":"unready"`), strings.Count(log.String(), `"event":"ready"`); away != times || there != times {
+			t.Errorf("%d lines say that it is away, and %d that it is there: %s", away, there, &log)
+		}
 	}
 }

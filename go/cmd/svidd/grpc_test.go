@@ -1,0 +1,116 @@
+package main
+
+import (
+	"errors"
+	"net"
+	"net/http"
+	"os"
+	"sync/atomic"
+	"syscall"
+	"testing"
+	"time"
+
+	"golang.org/x/net/http2"
+
+	"svid.example/go/v3/internal/logtest"
+	"svid.example/go/v3/internal/patience"
+)
+
+// A scarce listener has no file descriptors for some connections.
+type scarce struct {
+	net.Listener
+	none atomic.Int32 // so many times yet
+}
+
+func (s *scarce) Accept() (net.Conn, error) {
+	if s.none.Add(-1) >= 0 {
+		return nil, &net.OpError{Op: "accept", Net: "tcp", Err: os.NewSyscallError("accept4", syscall.EMFILE)}
+	}
+	return s.Listener.Accept()
+}
+
+// serveGRPC serves an answer to each call, and returns a function that connects.
+func serveGRPC(t *testing.T, none int32) (s *grpcServer, connect func() *http2.ClientConn, ended chan error) {
+	t.Helper()
+	s = newGRPC(http.HandlerFunc(func(w http.ResponseWriter, r *http.Request) { w.WriteHeader(http.StatusNoContent) }), nil)
+	l, err := net.Listen("tcp", "127.0.0.1:0")
+	if err != nil {
+		t.Fatal(err)
+	}
+	few := &scarce{Listener: l}
+	few.none.Store(none)
+	ended = make(chan error, 1)
+	go func() { ended <- s.Serve(few) }()
+	t.Cleanup(func() { s.Close() })
+	return s, func() *http2.ClientConn {
+		t.Helper()
+		c, err := net.DialTimeout("tcp", l.Addr().String(), patience.Long)
+		if err != nil {
+			t.Fatal(err)
+		}
+		t.Cleanup(func() { c.Close() })
+		client, err := new(http2.Transport).NewClientConn(c)
+		if err != nil {
+			t.Fatal(err)
+		}
+		return client
+	}, ended
+}
+
+// wantAnswer wants one on a connection.
+func wantAnswer(t *testing.T, on *http2.ClientConn) {
+	t.Helper()
+	request, err := http.NewRequest(http.MethodPost, "http://a/", nil)
+	if err != nil {
+		t.Fatal(err)
+	}
+	answer, err := on.RoundTrip(request)
+	if err != nil {
+		t.Fatal(err)
+	}
+	answer.Body.Close()
+	if answer.StatusCode != http.StatusNoContent {
+		t.Fatal(answer.Status)
+	}
+}
+
+// A connection of Envoy takes any number of calls, one after the other: it may stay for weeks.
+func TestAConnectionTakesManyCalls(t *testing.T) {
+	t.Parallel()
+	_, connect, _ := serveGRPC(t, 0)
+	for on, i := connect(), 0; i < 4*mostStreams; i++ {
+		wantAnswer(t, on)
+	}
+}
+
+// Where there are no file descriptors for a while, the server goes on once there are some, and ends when it is to.
+func TestTooManyOpenFilesEndNoServer(t *testing.T) {
+	t.Parallel()
+	s, connect, ended := serveGRPC(t, 4)
+	wantAnswer(t, connect())
+	s.Close()
+	select {
+	case err := <-ended:
+		if !errors.Is(err, http.ErrServerClosed) {
+			t.Errorf("at its end: %v", err)
+		}
+	case <-time.After(patience.Long):
+		t.Fatal("the server does not end")
+	}
+}
+
+// A connection that has ended leaves nothing at the server.
+func TestConnectionsThatEndedAreForgotten(t *testing.T) {
+	t.Parallel()
+	s, connect, _ := serveGRPC(t, 0)
+	for i := 0; i < 20; i++ {
+		on := connect()
+		wantAnswer(t, on)
+		on.Close()
+	}
+	logtest.Await(t, "the connections to be forgotten", func() bool {
+		s.mu.Lock()
+		defer s.mu.Unlock()
+		return len(s.conns) == 0
+	})
+}

@@ -1,0 +1,48 @@
+package server
+
+import (
+	"context"
+	"testing"
+	"time"
+
+	"svid.example/go/v3/claims"
+	"svid.example/go/v3/internal/scarce"
+	"svid.example/go/v3/svid"
+)
+
+// A withdrawal that the store told of while memory was refused comes again: its token is not accepted behind that.
+func TestAWithdrawalThatFoundNoMemoryComesAgain(t *testing.T) {
+	for n := 0; ; n++ {
+		o := inStrict(Options{Wait: time.Minute})
+		o.Mode = Reuse
+		s := newShop()
+		e := s.use(t, ready(t, engine(t, o)))
+		gone := token("withdrawn")
+		use, err := e.Find(gone)
+		if err != nil {
+			t.Fatal(err)
+		}
+		if _, err := s.Withdraw(context.Background(), claims.Withdrawal{Key: use.Key, Expires: use.Expires}); err != nil {
+			t.Fatal(err)
+		}
+		var heard error
+		refused := scarce.During(n, false, func() { heard = e.hearFromStore(s) })
+		if refused > 0 && heard == nil {
+			if err := check(e, gone); err != svid.Withdrawn {
+				t.Errorf("allocation %d is refused, and the withdrawal is heard: %v", n, err)
+			}
+		}
+		if err := e.hearFromStore(s); err != nil {
+			t.Fatal(err)
+		}
+		if err := check(e, gone); err != svid.Withdrawn {
+			t.Errorf("allocation %d was refused, and the withdrawal came again: %v", n, err)
+		}
+		if refused == 0 {
+			if n == 0 {
+				t.Error("no allocation was refused")
+			}
+			return
+		}
+	}
+}
