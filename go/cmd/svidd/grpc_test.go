@@ -16,13 +16,13 @@ import (
 	"svid.example/go/v3/internal/patience"
 )
 
-// A scarce listener has no file descriptors for some connections.
-type scarce struct {
+// A fewFiles listener has no file descriptors for some connections.
+type fewFiles struct {
 	net.Listener
 	none atomic.Int32 // so many times yet
 }
 
-func (s *scarce) Accept() (net.Conn, error) {
+func (s *fewFiles) Accept() (net.Conn, error) {
 	if s.none.Add(-1) >= 0 {
 		return nil, &net.OpError{Op: "accept", Net: "tcp", Err: os.NewSyscallError("accept4", syscall.EMFILE)}
 	}
@@ -37,7 +37,7 @@ func serveGRPC(t *testing.T, none int32) (s *grpcServer, connect func() *http2.C
 	if err != nil {
 		t.Fatal(err)
 	}
-	few := &scarce{Listener: l}
+	few := &fewFiles{Listener: l}
 	few.none.Store(none)
 	ended = make(chan error, 1)
 	go func() { ended <- s.Serve(few) }()
