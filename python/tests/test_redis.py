@@ -30,12 +30,14 @@ TESTS = {
     "|TestMembersAgree|TestEachPutLooksAtTheEpoch|TestAnEndCoversWhatEachMemberKnows"
     "|TestAStoreThatWasMadeAnew|TestMembersCompareFirst|TestWhatIsOverIsNotKept"
     "|TestAClockThatIsADayOff",
-    "ends": "TestFullMemory|TestFullDisk|TestLateAnswers|TestKilledOverAndOver"
-    "|TestAClusterIsRefused",
+    "ends": "TestFullMemory|TestFullDisk|TestLateAnswers|TestKilledOverAndOver",
     "replicas": "TestAReplicaAlone|TestAReplicaUnderTheSameName|TestATakeover"
     "|TestATakeoverWithReplicas|TestTooFewReplicas|TestTwoPrimaries|TestAPrimaryThatWasAReplica"
     "|TestEachPutLooksAtTheRun",
     "sentinels": "TestSentinel|TestAPrimaryThatHung|TestSentinelsThatDisagree",
+    "cluster": "TestCluster|TestClusterWithoutOneServer|TestHowAClusterIsNamed"
+    "|TestAMemberOfAnotherLanguageInACluster",
+    "cluster_replicas": "TestClusterTakeover|TestClusterTakeoverWithReplicas",
 }
 # Those of what only the member in Go has.
 OTHERS = {
@@ -46,9 +48,6 @@ OTHERS = {
     "TestSlots",
     "TestNoTextIsAnID",
     "TestARecordThatChangedMeanwhile",
-    "TestCluster",
-    "TestClusterWithoutOneServer",
-    "TestClusterTakeover",
     "TestServersThatHang",
 }
 
@@ -200,7 +199,7 @@ def test_close_ends_calls(machine):
     with machine.paused():
         thread = threading.Thread(target=call)
         thread.start()
-        until(lambda: store._open and not store._idle)
+        until(lambda: store._open and not any(it.idle for it in store._pools.values()))
         store.close()
         thread.join(PATIENCE)
         assert raised == ["closed"]
