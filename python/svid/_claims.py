@@ -235,7 +235,7 @@ class Claims:
             return
         with self._gate:
             lib.quick.svid_pacing_answered(self._pacing_at)
-            self._silent = None
+            self._silent = self._silent if others else None
             self.deaf = max([self.deaf, *(deaf for _, (_, deaf) in answers)])
             self.is_there = True
             if others:

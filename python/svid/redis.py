@@ -794,7 +794,7 @@ class _Servers:
                         raise StoreFault("answer") from None
             except StoreFault as why:
                 faults.append(why)
-                if why.name == "closed" or time.monotonic() > end:
+                if why.name == "closed" or time.monotonic() >= end:
                     self._first += n + 1
                     break
             else:

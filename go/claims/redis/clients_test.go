@@ -165,14 +165,27 @@ func TestRightsOfAnotherLanguage(t *testing.T) {
 	}
 }
 
-// A Cluster has one database, and the error says how it is named.
+// A Cluster has one database and no Sentinel, and the error says how it is named.
 func TestHowAClusterIsNamed(t *testing.T) {
 	t.Parallel()
 	if !claimstest.OfOthers() {
 		return
 	}
-	_, o := clusterOf(t, 0, 3)
+	all, o := clusterOf(t, 0, 3)
 	for _, url := range o.URLs {
 		claimstest.Refuses(t, newStore(t, Options{URLs: []string{url + "/2"}}), "a Cluster is named by redis://HOST:PORT")
+	}
+	owner := all[owns(t, all, newShards("svid", false)[0])]
+	s, err := broker.NewSentinel(t.TempDir(), "svid", owner.Address, 1)
+	if err == nil {
+		err = s.Start()
+	}
+	if err != nil {
+		t.Fatal(err)
+	}
+	t.Cleanup(s.Kill)
+	claimstest.Refuses(t, newStore(t, Options{URLs: []string{s.URL}}), "name some of its servers as redis://HOST:PORT")
+	if answer, err := owner.Do("EXISTS", "svid:{svid}:epoch"); err != nil || answer != ":0" {
+		t.Errorf("%q, %v", answer, err)
 	}
 }
