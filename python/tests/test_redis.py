@@ -38,8 +38,8 @@ TESTS = {
     "|TestATakeoverWithReplicas|TestTooFewReplicas|TestTwoPrimaries|TestAPrimaryThatWasAReplica"
     "|TestEachPutLooksAtTheRun",
     "sentinels": "TestSentinel|TestAPrimaryThatHung|TestSentinelsThatDisagree",
-    "cluster": "TestCluster|TestClusterWithoutOneServer|TestHowAClusterIsNamed"
-    "|TestAMemberOfAnotherLanguageInACluster",
+    "cluster": "TestCluster|TestAMemberOfAnotherLanguageInACluster",
+    "cluster_servers": "TestClusterWithoutOneServer|TestHowAClusterIsNamed",
     "cluster_replicas": "TestClusterTakeover|TestClusterTakeoverWithReplicas",
 }
 # Those of what only the member in Go has.

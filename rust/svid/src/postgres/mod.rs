@@ -12,8 +12,8 @@ mod tests;
 
 use std::collections::HashMap;
 use std::fmt;
-use std::io;
 use std::future::Future;
+use std::io;
 use std::panic::{catch_unwind, AssertUnwindSafe};
 use std::sync::mpsc::{sync_channel, RecvTimeoutError};
 use std::sync::{Arc, Mutex, MutexGuard, PoisonError};
@@ -96,7 +96,9 @@ impl PostgresStore {
     pub fn open(options: &Options, servers: &[&str], group: &str, replicas: u32) -> Result<PostgresStore, PostgresError> {
         let is_name = |it: char| it.is_ascii_alphanumeric() || "-_".contains(it);
         if group.starts_with("pg_") || !(1..=63).contains(&group.len()) || !group.chars().all(is_name) {
-            return Err(PostgresError::unfit("the group is letters, digits, - and _ alone, at most 63 of them, and does not begin with pg_"));
+            return Err(PostgresError::unfit(
+                "the group is letters, digits, - and _ alone, at most 63 of them, and does not begin with pg_",
+            ));
         }
         let back = said::STEP_BACK / 1000;
         let margin = options.ahead.max(said::LEAST_MARGIN / 1000).saturating_add(back);
