@@ -192,7 +192,7 @@ class RedisStore(GroupStore):
         parts: dict[str, dict[_Shard, _T]] = {}
         for it, what in these.items():
             # (the primary is looked for by who makes a connection)
-            name = self._servers.place(it.slot, end).name if len(self._shards) > 1 else ""
+            name = self._servers.holder(it.slot, end).name if len(self._shards) > 1 else ""
             parts.setdefault(name, {})[it] = what
         return list(parts.values())
 
@@ -334,7 +334,7 @@ class RedisStore(GroupStore):
     ) -> list[Answer]:
         """Calls a script that answers as put does, for shards of one server."""
         values = {it: [word for claim in these for word in claim] for it, these in claims.items()}
-        calls = self._pool(self._place(claims, end)).calls
+        calls = self._pool(self._server_of(claims, end)).calls
         if not calls.acquire(timeout=max(0, end - time.monotonic())):
             raise StoreFault("silent")
         try:
@@ -414,11 +414,11 @@ class RedisStore(GroupStore):
             raise StoreFault("alone", f": {answers[-1]} replicas have it, and {replicas} must")
         return answers[: len(calls)]
 
-    def _place(self, shards: Mapping[_Shard, object], end: float) -> _Server:
+    def _server_of(self, shards: Mapping[_Shard, object], end: float) -> _Server:
         """The server of these shards."""
         if len(self._shards) == 1:
             return self._servers.primary(end)
-        return self._servers.place(next(iter(shards)).slot, end)
+        return self._servers.holder(next(iter(shards)).slot, end)
 
     def _pool(self, at: _Server) -> _Pool:
         with self._lock:
@@ -437,7 +437,7 @@ class RedisStore(GroupStore):
         self._give(one, True)
 
     def _taken(self, shards: Mapping[_Shard, object], end: float) -> _Connection:
-        at = self._place(shards, end)
+        at = self._server_of(shards, end)
         pool = self._pool(at)
         with self._lock:
             if len(self._shards) == 1:  # (those to another primary are of no use)
@@ -748,7 +748,7 @@ class _Servers:
             raise StoreFault("unfit", said.FAULTS["named"])
         return True
 
-    def place(self, slot: int, end: float) -> _Server:
+    def holder(self, slot: int, end: float) -> _Server:
         """The server that has a slot of a Cluster."""
         while (ranges := self._ranges) is None:
             if not self._looking.acquire(timeout=max(0, end - time.monotonic())):

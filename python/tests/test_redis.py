@@ -271,7 +271,7 @@ def test_terms(machine):
 def test_a_shard_of_no_cluster(machine, monkeypatch):
     """A server that took the place of a Cluster would get claims that other members don't see."""
     monkeypatch.setattr(store_of_redis._Servers, "is_cluster", lambda *_: True)
-    monkeypatch.setattr(store_of_redis._Servers, "place", lambda servers, *_: servers._all[0])
+    monkeypatch.setattr(store_of_redis._Servers, "holder", lambda servers, *_: servers._all[0])
     with RedisStore(machine.url) as store:
         with pytest.raises(StoreFault, match="none of a Cluster any more") as raised:
             store.put([claim(1)])
