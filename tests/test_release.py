@@ -35,7 +35,7 @@ NAMES = [
     *(f"svid-{VERSION}-py3-none-manylinux_{it}.whl" for it in ("2_5_x86_64", "2_17_aarch64")),
     *(
         f"svid-{VERSION}{it}"
-        for it in (".crate", ".tgz", ".html", ".spdx.json", ".vex.json", *([".jar", "-javadoc.jar", "-sources.jar"] if JAR else []))
+        for it in (".crate", ".tgz", ".html", ".spdx.json", ".vex.json", *([".jar", ".pom", "-javadoc.jar", "-sources.jar"] if JAR else []))
     ),
     "SHA256SUMS",
 ]

@@ -10,6 +10,7 @@ import (
 
 	"svid.example/go/v3/claims"
 	"svid.example/go/v3/claims/claimstest"
+	"svid.example/go/v3/internal/broker"
 	"svid.example/go/v3/internal/logtest"
 )
 
@@ -34,7 +35,21 @@ func TestAMemberOfAnotherLanguage(t *testing.T) {
 		return // (the tests of that language run this one)
 	}
 	s := start(t)
-	o := Options{URLs: []string{s.URL}}
+	members(t, Options{URLs: []string{s.URL}}, newShards("svid", false), s.Redis)
+}
+
+// So they are in a Cluster.
+func TestAMemberOfAnotherLanguageInACluster(t *testing.T) {
+	t.Parallel()
+	if !claimstest.OfOthers() {
+		return
+	}
+	all, o := clusterOf(t, 0, 3)
+	members(t, o, newShards("svid", true), all...)
+}
+
+// members looks that a Go member and one of another language are members of one store. Its first server is killed meanwhile.
+func members(t *testing.T, o Options, shards []*shard, all ...*broker.Redis) {
 	ours, theirs := openedOwn(t, o), opened(t, o)
 	both := []claims.Store{ours, theirs}
 	before := claimstest.State(t, ours)
@@ -43,8 +58,11 @@ func TestAMemberOfAnotherLanguage(t *testing.T) {
 	var ledger claimstest.Ledger
 	end := claimstest.Load(t, &ledger, both...)
 	logtest.Await(t, "claims", func() bool { return ledger.Len() > 200 })
-	s.Redis.Kill()
-	s.Start(t)
+	all[0].Kill()
+	if err := all[0].Start(); err != nil {
+		t.Fatal(err)
+	}
+	logtest.Await(t, "the server", all[0].Answers)
 	n := ledger.Len()
 	logtest.Await(t, "more claims", func() bool { return ledger.Len() > n+200 })
 	end()
@@ -70,10 +88,16 @@ func TestAMemberOfAnotherLanguage(t *testing.T) {
 		if f := claimstest.Put(t, by, lost)[0]; f.Owner != lost.Owner {
 			t.Fatalf("%+v", f)
 		}
-		s.do(t, "DEL", keyOf(lost)) // (only this member knows of it)
+		it := shards[0]
+		if len(shards) > 1 {
+			it = shards[lost.Key[0]>>4]
+		}
+		if _, err := all[owns(t, all, it)].Do("DEL", it.key(&lost)); err != nil { // (only this member knows of it)
+			t.Fatal(err)
+		}
 		claimstest.State(t, by)
 		refused(t, both[1-n], lost)
-		ended(t, before, newOwn(t, o), both...)
+		endedFor(t, lost.Key[0], before, newOwn(t, o), both...)
 	}
 }
 
@@ -141,14 +165,27 @@ func TestRightsOfAnotherLanguage(t *testing.T) {
 	}
 }
 
-// A Cluster is refused, and the error says what to do.
-func TestAClusterIsRefused(t *testing.T) {
+// A Cluster has one database and no Sentinel, and the error says how it is named.
+func TestHowAClusterIsNamed(t *testing.T) {
 	t.Parallel()
 	if !claimstest.OfOthers() {
 		return
 	}
-	_, o := clusterOf(t, 0, 3)
+	all, o := clusterOf(t, 0, 3)
 	for _, url := range o.URLs {
-		claimstest.Refuses(t, newStore(t, Options{URLs: []string{url}}), "one of a Cluster")
+		claimstest.Refuses(t, newStore(t, Options{URLs: []string{url + "/2"}}), "a Cluster is named by redis://HOST:PORT")
+	}
+	owner := all[owns(t, all, newShards("svid", false)[0])]
+	s, err := broker.NewSentinel(t.TempDir(), "svid", owner.Address, 1)
+	if err == nil {
+		err = s.Start()
+	}
+	if err != nil {
+		t.Fatal(err)
+	}
+	t.Cleanup(s.Kill)
+	claimstest.Refuses(t, newStore(t, Options{URLs: []string{s.URL}}), "name some of its servers as redis://HOST:PORT")
+	if answer, err := owner.Do("EXISTS", "svid:{svid}:epoch"); err != nil || answer != ":0" {
+		t.Errorf("%q, %v", answer, err)
 	}
 }

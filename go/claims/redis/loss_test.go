@@ -24,6 +24,12 @@ import (
 // ended looks that the epoch ended for all members, and for one that starts now: all have the same one, and it is deaf.
 func ended(t *testing.T, before claims.State, late claims.Store, members ...claims.Store) {
 	t.Helper()
+	endedFor(t, claimstest.Key()[0], before, late, members...)
+}
+
+// endedFor looks so at the shard of the keys that begin with this byte.
+func endedFor(t *testing.T, first byte, before claims.State, late claims.Store, members ...claims.Store) {
+	t.Helper()
 	is := claimstest.Open(t, late)
 	if is.Epoch == before.Epoch || is.Deaf < before.Time+claimstest.Usual.Lasts {
 		t.Errorf("who starts later has %+v, and before %+v", is, before)
@@ -35,6 +41,7 @@ func ended(t *testing.T, before claims.State, late claims.Store, members ...clai
 		})
 	}
 	c := claim(1)
+	c.Key[0] = first
 	for _, m := range append(members, late) {
 		if f := claimstest.Put(t, m, c)[0]; claimstest.Judge(c, f, 60) == claimstest.Mine {
 			t.Errorf("a token of the epoch before is accepted: %+v", f)
@@ -632,7 +639,7 @@ func TestCluster(t *testing.T) {
 	t.Parallel()
 	all, o := clusterOf(t, 0, 3)
 	claimstest.Run(t, &clusterMachine{o}, "Pages")
-	a, b := openedOwn(t, o), openedOwn(t, o)
+	a, b := opened(t, o), opened(t, o)
 	before := claimstest.State(t, a)
 	claimstest.Watch(t, a)
 	var ledger claimstest.Ledger
@@ -651,13 +658,16 @@ func TestCluster(t *testing.T) {
 	stays(t, before, a, b, opened(t, o))
 
 	t.Run("Rights", func(t *testing.T) { // those that the documents name are enough
-		own := o
+		own, user := o, "cluster-member"
+		if claimstest.OfOthers() {
+			user = "cluster-service"
+		}
 		own.URLs = nil
 		for _, s := range all {
-			acl(t, func(words ...string) error { _, err := s.Do(words...); return err }, rights(t, "cluster-member"))
-			own.URLs = append(own.URLs, strings.Replace(s.URL, "redis://", "redis://cluster-member:secret@", 1))
+			acl(t, func(words ...string) error { _, err := s.Do(words...); return err }, rights(t, user))
+			own.URLs = append(own.URLs, strings.Replace(s.URL, "redis://", "redis://"+user+":secret@", 1))
 		}
-		m := openedOwn(t, own)
+		m := opened(t, own)
 		logtest.Await(t, "claims of all shards", func() bool { return len(put16(t, m)) == 16 })
 		w := withdrawal()
 		claimstest.Withdraw(t, m, w)
@@ -666,7 +676,7 @@ func TestCluster(t *testing.T) {
 		}
 	})
 	t.Run("Move", func(t *testing.T) {
-		it := a.shards[5]
+		it := newShards("svid", true)[5]
 		from := owns(t, all, it)
 		to := (from + 1) % len(all)
 		var there claims.Claim
@@ -710,7 +720,7 @@ func of16() (these []claims.Claim) {
 }
 
 // put16 puts one claim into each shard, and returns those that have an answer.
-func put16(t *testing.T, m *Store) (answered []claims.Claim) {
+func put16(t *testing.T, m claims.Store) (answered []claims.Claim) {
 	these := of16()
 	for i, f := range claimstest.Try(m, 5*time.Second, these...) {
 		if f.Err == nil {
@@ -759,10 +769,10 @@ func port(s *broker.Redis) string { _, port, _ := strings.Cut(s.Address, ":"); r
 func TestClusterWithoutOneServer(t *testing.T) {
 	t.Parallel()
 	all, o := clusterOf(t, 0, 3)
-	a, b := openedOwn(t, o), openedOwn(t, o)
-	lists := owns(t, all, a.shards[0])
+	a, b, shards := opened(t, o), opened(t, o), newShards("svid", true)
+	lists := owns(t, all, shards[0])
 	there := claim(1)
-	for owns(t, all, a.shards[there.Key[0]>>4]) != lists {
+	for owns(t, all, shards[there.Key[0]>>4]) != lists {
 		there = claim(1)
 	}
 	if f := claimstest.Put(t, b, there)[0]; claimstest.Judge(there, f, 60) != claimstest.Mine {
@@ -801,13 +811,13 @@ func TestClusterWithoutOneServer(t *testing.T) {
 func TestClusterTakeover(t *testing.T) {
 	t.Parallel()
 	all, o := clusterOf(t, 1, 6)
-	a, b := openedOwn(t, o), openedOwn(t, o)
+	a, b := opened(t, o), opened(t, o)
 	before := claimstest.State(t, a)
 	claimstest.Watch(t, a)
 	claimstest.Watch(t, b)
 	there := of16()
 	claimstest.Put(t, a, there...)
-	from := owns(t, all[:3], a.shards[3])
+	from := owns(t, all[:3], newShards("svid", true)[3])
 	for _, s := range all[3:] {
 		s.Pause()
 	}
@@ -827,6 +837,57 @@ func TestClusterTakeover(t *testing.T) {
 	logtest.Await(t, "one epoch", func() bool {
 		return claimstest.State(t, a).Epoch == late.Epoch && claimstest.State(t, b).Epoch == late.Epoch
 	})
+}
+
+// With Replicas a claim counts in a Cluster once a replica has it, so a replica that takes over lacks none, and the epoch stays.
+func TestClusterTakeoverWithReplicas(t *testing.T) {
+	t.Parallel()
+	all, o := clusterOf(t, 1, 6)
+	o.Replicas = 2
+	a, b := opened(t, o), opened(t, o)
+	before := claimstest.State(t, a)
+	there := of16()
+	claimstest.Put(t, a, there...)
+	for _, s := range all[3:] {
+		s.Pause()
+	}
+	alone := of16()
+	for n := 0; n < 2; n++ { // (the second time the entries are there, and count no more than the first time)
+		for _, f := range claimstest.Try(b, time.Second, alone...) {
+			if f.Err == nil {
+				t.Errorf("no replica has it, and it counts: %+v", f)
+			}
+		}
+	}
+	for _, s := range all[3:] {
+		s.Resume()
+	}
+	claimstest.Watch(t, a)
+	claimstest.Watch(t, b)
+	for i, f := range claimstest.Put(t, b, alone...) {
+		if claimstest.Judge(alone[i], f, 60) != claimstest.Mine {
+			t.Errorf("%+v", f)
+		}
+	}
+	it := newShards("svid", true)[3]
+	from := owns(t, all[:3], it)
+	all[from].Kill()
+	logtest.Await(t, "a replica to take over", func() bool {
+		for _, s := range all[3:] {
+			if out, err := s.Do("EXISTS", it.prefix+"epoch"); err == nil && out == ":1" {
+				return true
+			}
+		}
+		return false
+	})
+	if err := all[from].Start(); err != nil { // (as a replica of that one)
+		t.Fatal(err)
+	}
+	for _, c := range append(there, alone...) {
+		refused(t, b, c)
+	}
+	logtest.Await(t, "claims of all shards", func() bool { return len(put16(t, b)) == 16 })
+	stays(t, before, a, b, opened(t, o))
 }
 
 // A primary that hung while Sentinel let a replica take over goes on, and says that it is the primary until Sentinel tells it. A member

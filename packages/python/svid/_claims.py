@@ -139,13 +139,18 @@ class Claims:
             try:
                 # (a store that sorted a list in place would give each answer to another request)
                 claims = tuple(claim for _, claim in these)
-                found = [_packed(it) for it in self._store.put(claims)]
+                found = [_packed(it) for it in self._put(claims)]
                 if len(found) != len(these):
                     raise ValueError(f"{len(these)} claims have {len(found)} answers")
             except Exception as why:
                 self._failed([due for due, _ in these], why)
             else:
-                self._answered([due.number for due, _ in these], found)
+                self._answered([due for due, _ in these], found)
+
+    def _put(self, claims: Sequence[Claim]) -> Sequence[Found | Exception]:
+        """Puts claims. One of them may have an answer though another one has none."""
+        each = getattr(self._store, "put_each", self._store.put)
+        return cast("Sequence[Found | Exception]", each(claims))
 
     def _hear(self) -> None:
         """Reads the store's withdrawals once a second, until it is closed."""
@@ -221,13 +226,20 @@ class Claims:
             moments.append(lib.quick.svid_pacing_due(self._pacing_at))
         return min(_LONGEST, max(0, min(moments) - up()) / 1000) if moments else None
 
-    def _answered(self, numbers: list[int], found: list[tuple[bytes, int]]) -> None:
-        """The store has answered a call."""
+    def _answered(self, these: list[Due], found: list[tuple[bytes, int] | Exception]) -> None:
+        """The store has answered a call. A claim without an answer is put again."""
+        answers = [(due, it) for due, it in zip(these, found) if not isinstance(it, Exception)]
+        others = [due for due, it in zip(these, found) if isinstance(it, Exception)]
+        if others and not answers:
+            self._failed(these, next(it for it in found if isinstance(it, Exception)))
+            return
         with self._gate:
             lib.quick.svid_pacing_answered(self._pacing_at)
-            self._silent = None
-            self.deaf = max([self.deaf, *(deaf for _, deaf in found)])
+            self._silent = self._silent if others else None
+            self.deaf = max([self.deaf, *(deaf for _, (_, deaf) in answers)])
             self.is_there = True
+            if others:
+                self._later.append((up() + self._pacing.pause, others))
         claimant = self._claimant()
         if claimant is None:
             return
@@ -235,8 +247,8 @@ class Claims:
             if not self._announced.is_set():
                 claimant.reached()
                 self._announced.set()
-            for number, (answer, _) in zip(numbers, found):
-                claimant.found(number, answer)
+            for due, (answer, _) in answers:
+                claimant.found(due.number, answer)
 
     def _failed(self, these: list[Due], why: Exception) -> None:
         """A call has ended without an answer: its claims are put again."""
@@ -248,8 +260,10 @@ class Claims:
                 _LOG.warning("the group's store does not answer: %s", why)
 
 
-def _packed(found: Found) -> tuple[bytes, int]:
-    """A store's answer as the library takes it, and its `deaf`."""
+def _packed(found: Found | Exception) -> tuple[bytes, int] | Exception:
+    """A store's answer as the library takes it, and its `deaf`. Or why there is none."""
+    if isinstance(found, Exception):
+        return found
     if len(found.owner) != 32:
         raise ValueError("an owner has 32 bytes")
     return _FOUND.pack(found.time, found.deaf, found.owner), found.deaf

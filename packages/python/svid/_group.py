@@ -98,20 +98,30 @@ class GroupStore(abc.ABC):
 
         A token that was withdrawn after it was claimed has the owner WITHDRAWN within a second.
         """
+        found = []
+        for it in self.put_each(claims):
+            if isinstance(it, StoreFault):
+                raise it
+            found.append(it)
+        return found
+
+    def put_each(self, claims: Sequence[Claim]) -> list[Found | StoreFault]:
+        """Is put, where each claim has an answer of its own, or why it has none.
+
+        So one server of a Cluster that is away stops none of the others.
+        """
         end = self._until()
         if self._epoch is None or not self._heard or not claims:
             if self._look(end)[1]:
                 raise StoreFault("run")
             self._hear(end)
         all = self._put_each(claims, end)
-        for it in all:
-            if isinstance(it, StoreFault):
-                raise it
         with self._lock:
             return [
-                it._replace(owner=WITHDRAWN) if claim.key in self._withdrawn else it
+                it._replace(owner=WITHDRAWN)
+                if isinstance(it, Found) and claim.key in self._withdrawn
+                else it
                 for claim, it in zip(claims, all)
-                if isinstance(it, Found)
             ]
 
     def withdraw(self, key: bytes, expires: int) -> None:
@@ -193,18 +203,23 @@ def _watch(of: weakref.ref[GroupStore], end: End) -> None:
             end.say()
             return
         begun = time.monotonic()
+        fault: Exception | None = None
         try:
             state, _ = store._look(begun + said.STATE_WAIT / 1000)
-            store._hear(time.monotonic() + said.HEAR_WAIT / 1000)
             store._forget(state.time)
-            why = ""
         except Exception as now:
-            compares = getattr(now, "name", "") == "run"
-            if not (why or end.is_said or compares):
-                # (a record that somebody keeps must not keep the store)
-                _warn("the group's store can't be looked at: %s", str(now))
-            why = why if compares else str(now) or "unknown"
-        del store
+            fault = now
+        try:  # (the server that has the withdrawals may be there though another one is not)
+            store._hear(time.monotonic() + said.HEAR_WAIT / 1000)
+        except Exception as now:
+            fault = fault or now
+        compares = getattr(fault, "name", "") == "run"
+        if fault and not (why or end.is_said or compares):
+            # (a record that somebody keeps must not keep the store)
+            _warn("the group's store can't be looked at: %s", str(fault))
+        if not compares:
+            why = (str(fault) or "unknown") if fault else ""
+        del store, fault
         end.wait(max(0.0, begun + said.STATE_EVERY / 1000 - time.monotonic()))
 
 

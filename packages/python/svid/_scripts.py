@@ -76,7 +76,14 @@ SCRIPTS: dict[str, str] = {
         "return struct.pack('>I4', bit.bxor(is, 0xFFFFFFFF) % 2 ^ 32)\n"
         "end\n"
         "local function list(number) return PREFIX .. 'withdrawn:' .. string.format('%.0f', "
-        "number) end"
+        "number) end\n"
+        "local function tell(r, s, key, expires)\n"
+        "local text = 'svw1' .. key .. struct.pack('>I4I4', math.floor(expires / 2 ^ 32), "
+        "expires % 2 ^ 32)\n"
+        "redis.call('APPEND', list(r.list), text .. sum(text))\n"
+        "redis.call('EXPIREAT', list(r.list), string.format('%.0f', math.max(s.time, expires) "
+        "+ r.lasts + r.margin + r.back))\n"
+        "end"
     ),
     "state": (
         "local count, id, lasts, margin, back, wait = ARGV[5], ARGV[6], tonumber(ARGV[7]), "
@@ -91,11 +98,16 @@ SCRIPTS: dict[str, str] = {
         "local DUE = {appendonly = 'yes', appendfsync = 'always', "
         "['no-appendfsync-on-rewrite'] = 'no', ['maxmemory-policy'] = 'noeviction'}\n"
         "local function unfit(text) return {'unfit', text, '!' .. s.run} end\n"
-        "local info = redis.call('INFO', 'server')\n"
-        "if info:find('redis_mode:cluster', 1, true) then\n"
-        "return unfit('the server is one of a Cluster, of which this package has no client: "
-        "let svidd check the tokens, or use a server with replicas')\n"
+        "local info, node = redis.call('INFO', 'server'), '-'\n"
+        "local is_cluster, is_shard = info:find('redis_mode:cluster', 1, true) ~= nil, "
+        "PREFIX:find(':%x%x}:$') ~= nil\n"
+        "if is_cluster ~= is_shard then\n"
+        "return unfit(is_shard and 'the server is none of a Cluster any more: start the "
+        "service again, once all members are to use this server' or\n"
+        "'the server is one of a Cluster: name some of its servers as redis://HOST:PORT, and "
+        "start the service again')\n"
         "end\n"
+        "if is_cluster then node = redis.call('CLUSTER', 'MYID') end\n"
         "local version = info:match('redis_version:([^\\r]*)')\n"
         "if (tonumber(version:match('^%d+')) or 0) < 7 then return unfit('the server is of "
         "version ' .. version .. ', and the claims need Redis 7.0 or newer') end\n"
@@ -132,7 +144,7 @@ SCRIPTS: dict[str, str] = {
         "end\n"
         "end\n"
         "next.id, next.before, next.began, next.run, next.node, next.next, next.to, "
-        "next.settle = id, before, s.time, s.run, '-', '-', 0, s.millis + wait\n"
+        "next.settle = id, before, s.time, s.run, node, '-', 0, s.millis + wait\n"
         "next.deaf = math.max(at + it.back + it.lasts, it.deaf)\n"
         "return 'write', next\n"
         "end\n"
@@ -152,7 +164,7 @@ SCRIPTS: dict[str, str] = {
         "local time = math.max(latest, s.time)\n"
         "if raw == '' and not known then\n"
         "return 'write', {id = id, deaf = 0, began = s.time, lasts = lasts, margin = margin, "
-        "back = back, run = s.run, node = '-', next = '-', to = 0,\n"
+        "back = back, run = s.run, node = node, next = '-', to = 0,\n"
         "settle = s.millis + wait, list = 1, since = s.time, before = '-'}\n"
         "end\n"
         "if raw == '' then return ended(known, time) end\n"
@@ -175,7 +187,7 @@ SCRIPTS: dict[str, str] = {
         "end\n"
         "local same, other = known and known.id == r.id, r.run ~= s.run\n"
         "if s.time + r.back < greatest() then return ended(r, greatest() + 5) end\n"
-        "if same and lacks() or r.node ~= '-' and s.before ~= r.run or other and s.before ~= "
+        "if same and lacks() or r.node ~= node and s.before ~= r.run or other and s.before ~= "
         "'' and replicas == 0 then\n"
         "return ended(r, math.max(time, greatest()))\n"
         "end\n"
@@ -185,7 +197,7 @@ SCRIPTS: dict[str, str] = {
         "end\n"
         "if other and s.millis < r.to then return 'wait', r.to - s.millis end\n"
         "if other then\n"
-        "r.run, r.node, r.next, r.to = s.run, '-', '-', 0\n"
+        "r.run, r.node, r.next, r.to = s.run, node, '-', 0\n"
         "return 'write', r\n"
         "end\n"
         "if r.lasts < lasts then\n"
@@ -213,8 +225,9 @@ SCRIPTS: dict[str, str] = {
         "latest = known and known.id == r.id and math.max(latest, s.time) or s.time\n"
         "redis.call('SET', life_key, count, 'EX', LIFE)\n"
         "redis.call('SET', PREFIX .. 'seen', r.id .. ' ' .. string.format('%.0f', latest))\n"
-        "if s.time >= r.since + math.floor((r.lasts + r.margin) / 4) + 1 and "
-        "redis.call('STRLEN', list(r.list)) > 0 then\n"
+        "if (not is_shard or PREFIX:find(':00}:', 1, true)) and s.time >= r.since + "
+        "math.floor((r.lasts + r.margin) / 4) + 1 and redis.call('STRLEN', list(r.list)) > 0 "
+        "then\n"
         "r.list, r.since = r.list + 1, s.time\n"
         "write(r)\n"
         "end\n"
@@ -226,12 +239,14 @@ SCRIPTS: dict[str, str] = {
         "if not r then return {s} end\n"
         "local answer, key, expires = put(r, s, 5), ARGV[5], tonumber(ARGV[7])\n"
         "if answer[7]:sub(1, 1) == '\\2' then return answer end\n"
-        "local text = 'svw1' .. key .. struct.pack('>I4I4', math.floor(expires / 2 ^ 32), "
-        "expires % 2 ^ 32)\n"
-        "redis.call('APPEND', list(r.list), text .. sum(text))\n"
-        "redis.call('EXPIREAT', list(r.list), string.format('%.0f', math.max(s.time, expires) "
-        "+ r.lasts + r.margin + r.back))\n"
+        "tell(r, s, key, expires)\n"
         "return answer"
+    ),
+    "tell": (
+        "local r, s = agreed()\n"
+        "if not r then return {s} end\n"
+        "tell(r, s, ARGV[5], tonumber(ARGV[7]))\n"
+        "return {'ok', s.time, r.deaf, r.id, s.time + r.back, '', ''}"
     ),
     "withdrawals": (
         "local s, r, MOST, ONE, found = server(), read(stored()), 1000, 48, {}\n"
@@ -274,10 +289,9 @@ FAULTS: dict[str, str] = {
     ),
     "password": "the server does not know the user, or the password is wrong (WRONGPASS)",
     "denied": "this user lacks a right that docs/STORES.md names for services",
-    "cluster": (
-        "the server is one of a Cluster, of which this package has no client: let svidd check the "
-        "tokens, or use a server with replicas"
-    ),
+    "cluster": "the server does not have this part of the Cluster's store now",
+    "named": "a Cluster is named by redis://HOST:PORT of some of its servers, and has one database",
+    "slot": "no server of the Cluster has a slot of the store: see redis-cli --cluster check",
     "primaries": (
         "servers say both that they are the primary, so a token could be claimed twice: stop all "
         "but one, or make them replicas of that one (REPLICAOF)"
@@ -290,6 +304,8 @@ CODES: dict[str, str] = {
     "WRONGPASS": "password",
     "NOPERM": "denied",
     "MOVED": "cluster",
+    "ASK": "cluster",
+    "TRYAGAIN": "cluster",
     "CLUSTERDOWN": "cluster",
 }
 COMPARE_WAIT = 3_000

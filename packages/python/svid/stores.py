@@ -46,6 +46,9 @@ class Store(Protocol):
     Several threads call it at once. A call that fails raises any Exception: then nobody knows what
     the store has, and the validator puts the same claims again. A call ends within some seconds,
     even if the server does not answer.
+
+    A store whose claims are on several servers may have `put_each` too, which validators then call:
+    it is put, but has an Exception in the place of each answer that is not there.
     """
 
     def put(self, claims: Sequence[Claim]) -> Sequence[Found]:

@@ -81,7 +81,9 @@ def test_what_is_over_is_claimed_anew(opened, clock):
 
 
 @pytest.mark.parametrize("is_restarted", [False, True])
-def test_a_clock_that_goes_back_ends_the_epoch(opened, clock, is_restarted):
+def test_a_clock_that_goes_back_ends_the_epoch(opened, clock, is_restarted, monkeypatch):
+    # (a snapshot that comes late has the time too)
+    monkeypatch.setattr("svid._journal.Journal.wants_snapshot", False)
     store = opened()
     put(store, b"k", b"1")
     clock.at = NOW + 1000  # the entry is over, and dropped

@@ -336,6 +336,37 @@ def test_an_answer_that_is_none(wrong):
     assert store.wrongs == 2
 
 
+def test_a_claim_without_an_answer_stops_no_other():
+    """A store may answer some claims of a call: these count, and the others are put again."""
+
+    class Partly(Fickle):
+        away = None
+
+        def put_each(self, claims):
+            found = self.put(claims)
+            if len(claims) == 2 and not self.away:
+                self.away = claims[0].key
+            return [
+                ConnectionError("its server is away") if claim.key == self.away else it
+                for claim, it in zip(claims, found)
+            ]
+
+    store = Partly()
+    with strict(store, wait=PATIENCE) as checks:
+        with holding(store):
+            first = Soon(checks.check, fresh(jti="first"))
+            until(lambda: store.puts)
+            checks._handle._claims._pacing.calls = 64  # (as many as may be under way)
+            both = [Soon(checks.check, fresh(jti=it)) for it in ("one", "other")]
+            until(lambda: len(checks._handle._claims._waiting) == 2)
+            checks._handle._claims._pacing.calls = 1
+        assert first.answer == SUBJECT
+        until(lambda: [it.said for it in both].count(SUBJECT) == 1)
+        until(lambda: [[it.key for it in claims] for claims in store.puts].count([store.away]) > 1)
+        store.away = b""
+        assert [it.answer for it in both] == [SUBJECT, SUBJECT]
+
+
 def test_a_store_that_sorts_its_claims(caplog):
     """That raises, so that no answer goes to another request."""
 

@@ -7,6 +7,7 @@ import os
 import pathlib
 import re
 import signal
+import socket
 import subprocess
 import sys
 import threading
@@ -16,6 +17,8 @@ import pytest
 import redis
 import svid
 from making import PATIENCE, fresh, until, validator
+from svid import redis as store_of_redis
+from svid._group import GroupStore
 from svid.redis import RedisStore, StoreFault
 
 TOP = pathlib.Path(os.environ["SVID"]).parent
@@ -30,12 +33,14 @@ TESTS = {
     "|TestMembersAgree|TestEachPutLooksAtTheEpoch|TestAnEndCoversWhatEachMemberKnows"
     "|TestAStoreThatWasMadeAnew|TestMembersCompareFirst|TestWhatIsOverIsNotKept"
     "|TestAClockThatIsADayOff",
-    "ends": "TestFullMemory|TestFullDisk|TestLateAnswers|TestKilledOverAndOver"
-    "|TestAClusterIsRefused",
+    "ends": "TestFullMemory|TestFullDisk|TestLateAnswers|TestKilledOverAndOver",
     "replicas": "TestAReplicaAlone|TestAReplicaUnderTheSameName|TestATakeover"
     "|TestATakeoverWithReplicas|TestTooFewReplicas|TestTwoPrimaries|TestAPrimaryThatWasAReplica"
     "|TestEachPutLooksAtTheRun",
     "sentinels": "TestSentinel|TestAPrimaryThatHung|TestSentinelsThatDisagree",
+    "cluster": "TestCluster|TestAMemberOfAnotherLanguageInACluster",
+    "cluster_servers": "TestClusterWithoutOneServer|TestHowAClusterIsNamed",
+    "cluster_replicas": "TestClusterTakeover|TestClusterTakeoverWithReplicas",
 }
 # Those of parts that only the member in Go has.
 OTHERS = {
@@ -46,9 +51,6 @@ OTHERS = {
     "TestSlots",
     "TestNoTextIsAnID",
     "TestARecordThatChangedMeanwhile",
-    "TestCluster",
-    "TestClusterWithoutOneServer",
-    "TestClusterTakeover",
     "TestServersThatHang",
 }
 
@@ -200,7 +202,7 @@ def test_close_ends_calls(machine):
     with machine.paused():
         thread = threading.Thread(target=call)
         thread.start()
-        until(lambda: store._open and not store._idle)
+        until(lambda: store._open and not any(it.idle for it in store._pools.values()))
         store.close()
         thread.join(PATIENCE)
         assert raised == ["closed"]
@@ -264,6 +266,59 @@ def test_terms(machine):
     with RedisStore(machine.url, ahead=61) as store:
         with pytest.raises(StoreFault, match="give all members the same clock tolerance"):
             store.put([])
+
+
+def test_a_shard_of_no_cluster(machine, monkeypatch):
+    """A server that took the place of a Cluster would get claims that other members don't see."""
+    monkeypatch.setattr(store_of_redis._Servers, "is_cluster", lambda *_: True)
+    monkeypatch.setattr(store_of_redis._Servers, "holder", lambda servers, *_: servers._all[0])
+    with RedisStore(machine.url) as store:
+        with pytest.raises(StoreFault, match="none of a Cluster any more") as raised:
+            store.put([claim(1)])
+        assert raised.value.name == "unfit"
+    assert machine.client().keys() == []
+
+
+def test_servers_that_hang(machine, tmp_path):
+    """The first server that answers says if there is a Cluster, though no look has time for all."""
+    with contextlib.ExitStack() as open:
+        urls = []
+        for n in range(4):
+            one = open.enter_context(socket.socket(socket.AF_UNIX))
+            one.bind(f"{tmp_path}/hangs{n}")
+            one.listen()
+            urls.append(f"unix://{tmp_path}/hangs{n}")
+        with RedisStore(*urls, machine.url, wait=1.5) as store:
+            put(store, claim(1))
+
+
+def test_withdrawals_are_heard_though_a_server_is_away():
+    """The server of a Cluster that has them may be there."""
+
+    class Partly(GroupStore):
+        def __init__(self):
+            self._begin_group(["server"], 1, 2.0, (7200, 120, 60))
+
+        def close(self):
+            self._end.say()
+
+        def _look(self, end):
+            raise StoreFault("silent")
+
+        def _put_each(self, claims, end):
+            raise StoreFault("silent")
+
+        def _withdraw(self, key, expires, end):
+            raise StoreFault("silent")
+
+        def _withdrawals(self, after, end):
+            return ([] if after else [(claim(1).key, claim(1).expires)]), "last"
+
+    with Partly() as store:
+        store._watch()
+        until(lambda: claim(1).key in store._withdrawn)
+        with pytest.raises(StoreFault):
+            store.state()
 
 
 def test_passwords(tmp_path, monkeypatch):

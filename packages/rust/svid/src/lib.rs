@@ -100,7 +100,7 @@ pub use crate::unavailable::Unavailable;
 pub use crate::verify::{Unverified, Verify};
 
 #[cfg(feature = "postgres")]
-pub use crate::postgres::PostgresStore;
+pub use crate::postgres::{PostgresError, PostgresStore};
 #[cfg(feature = "openssl")]
 pub use crate::verify::openssl::OpenSsl;
 #[cfg(feature = "ring")]

@@ -399,3 +399,25 @@ fn types_of_threads() {
     #[cfg(feature = "ring")]
     is_shared::<svid::Ring>();
 }
+
+/// Why a call does nothing: `?` turns each into what `main` returns, and a thread may tell another one.
+#[test]
+fn errors_of_all_calls() {
+    fn is<T: std::error::Error + Send + Sync + 'static>() {}
+    is::<Error>();
+    is::<svid::BundlesFault>();
+    is::<svid::Denied>();
+    is::<svid::IdError>();
+    is::<svid::JournalError>();
+    is::<svid::KeyError>();
+    is::<svid::MessagesError>();
+    is::<svid::OptionsFault>();
+    is::<svid::PatternError>();
+    is::<Refusal>();
+    is::<svid::SourceFault>();
+    is::<svid::Unavailable>();
+    is::<svid::Unexpected>();
+    is::<svid::Unverified>();
+    #[cfg(feature = "postgres")]
+    is::<svid::PostgresError>();
+}

@@ -2,6 +2,8 @@
 
 use std::fmt;
 use std::future::Future;
+use std::io;
+use std::sync::Arc;
 use std::time::Instant;
 
 use super::statements::{Reason, ANSWER, SILENT};
@@ -53,6 +55,46 @@ impl fmt::Display for Fault {
 }
 
 impl std::error::Error for Fault {}
+
+/// Why a [`PostgresStore`](crate::PostgresStore) does not begin.
+#[derive(Debug, Clone)]
+#[non_exhaustive]
+pub enum PostgresError {
+    /// What is wrong with the options, the group, the replicas or an address, without any part of an address.
+    Unfit(String),
+    /// The system has no other thread, or no means for one to wait.
+    Io(Arc<io::Error>),
+}
+
+impl PostgresError {
+    pub(crate) fn unfit(text: impl Into<String>) -> PostgresError {
+        PostgresError::Unfit(text.into())
+    }
+}
+
+impl From<io::Error> for PostgresError {
+    fn from(why: io::Error) -> PostgresError {
+        PostgresError::Io(Arc::new(why))
+    }
+}
+
+impl fmt::Display for PostgresError {
+    fn fmt(&self, f: &mut fmt::Formatter<'_>) -> fmt::Result {
+        match self {
+            PostgresError::Unfit(why) => f.write_str(why),
+            PostgresError::Io(why) => write!(f, "the store's thread can't begin: {why}"),
+        }
+    }
+}
+
+impl std::error::Error for PostgresError {
+    fn source(&self) -> Option<&(dyn std::error::Error + 'static)> {
+        match self {
+            PostgresError::Unfit(_) => None,
+            PostgresError::Io(why) => Some(why.as_ref()),
+        }
+    }
+}
 
 /// What comes of some work until a moment.
 pub(crate) async fn within<T>(end: Instant, work: impl Future<Output = T>) -> Result<T, Fault> {

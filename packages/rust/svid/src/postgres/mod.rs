@@ -13,6 +13,7 @@ mod tests;
 use std::collections::HashMap;
 use std::fmt;
 use std::future::Future;
+use std::io;
 use std::panic::{catch_unwind, AssertUnwindSafe};
 use std::sync::mpsc::{sync_channel, RecvTimeoutError};
 use std::sync::{Arc, Mutex, MutexGuard, PoisonError};
@@ -23,6 +24,8 @@ use tokio::runtime::{Builder, Handle};
 use tokio::sync::watch;
 
 use self::address::Address;
+pub use self::fault::PostgresError;
+
 use self::fault::Fault;
 use self::member::{Member, Sight, Terms};
 use self::servers::Servers;
@@ -50,7 +53,7 @@ const LONGEST: Duration = Duration::from_secs(86_400);
 /// let store = PostgresStore::open(&options, &["postgres://sidecar1@db.example.org/tokens?sslmode=verify-full"], "svid", 1)?;
 /// let sources = Sources::new().file("example.org", "/run/spire/bundle.json");
 /// let guard = Guard::open(&options.store(Arc::new(store)), sources, OpenSsl::new())?;
-/// # Ok::<(), Box<dyn std::error::Error + Send + Sync>>(())
+/// # Ok::<(), Box<dyn std::error::Error>>(())
 /// ```
 pub struct PostgresStore {
     shared: Arc<Shared>,
@@ -90,15 +93,18 @@ impl PostgresStore {
     /// # Errors
     ///
     /// What is wrong with one of these, without any part of an address; or that the system has no other thread.
-    pub fn open(options: &Options, servers: &[&str], group: &str, replicas: u32) -> Result<PostgresStore, StoreError> {
+    pub fn open(options: &Options, servers: &[&str], group: &str, replicas: u32) -> Result<PostgresStore, PostgresError> {
         let is_name = |it: char| it.is_ascii_alphanumeric() || "-_".contains(it);
         if group.starts_with("pg_") || !(1..=63).contains(&group.len()) || !group.chars().all(is_name) {
-            return Err("the group is letters, digits, - and _ alone, at most 63 of them, and does not begin with pg_".into());
+            return Err(PostgresError::unfit(
+                "the group is letters, digits, - and _ alone, at most 63 of them, and does not begin with pg_",
+            ));
         }
         let back = said::STEP_BACK / 1000;
         let margin = options.ahead.max(said::LEAST_MARGIN / 1000).saturating_add(back);
         if options.lasts().max(margin) >= said::MOST_EXPIRY {
-            return Err("the store keeps each entry for as long as a token may live: give the options another longest and ahead".into());
+            let text = "the store keeps each entry for as long as a token may live: give the options another longest and ahead";
+            return Err(PostgresError::unfit(text));
         }
         let terms = Terms { lasts: options.lasts() as i64, margin: margin as i64, back: back as i64 };
         let member = Shared::member(servers, group, replicas, terms)?;
@@ -107,7 +113,7 @@ impl PostgresStore {
     }
 
     /// Begins the thread of a store. `watches`: it looks at the store.
-    fn begin(shared: Shared, watches: bool) -> Result<PostgresStore, StoreError> {
+    fn begin(shared: Shared, watches: bool) -> Result<PostgresStore, PostgresError> {
         let (shared, (closing, mut is_closing), (tell, told)) = (Arc::new(shared), watch::channel(false), sync_channel(1));
         let its = Arc::clone(&shared);
         let work = move || {
@@ -131,7 +137,8 @@ impl PostgresStore {
             runtime.shutdown_background();
         };
         thread::Builder::new().name("svid-store".to_owned()).spawn(work)?;
-        Ok(PostgresStore { shared, runtime: told.recv()??, closing })
+        let runtime = told.recv().map_err(|why| io::Error::new(io::ErrorKind::Other, why))??;
+        Ok(PostgresStore { shared, runtime, closing })
     }
 
     /// Ends all connections, and the calls that are under way.
@@ -183,12 +190,12 @@ impl fmt::Debug for PostgresStore {
 }
 
 impl Shared {
-    fn member(servers: &[&str], group: &str, replicas: u32, terms: Terms) -> Result<Member, StoreError> {
+    fn member(servers: &[&str], group: &str, replicas: u32, terms: Terms) -> Result<Member, PostgresError> {
         let replicas = i32::try_from(replicas).unwrap_or(0);
         if servers.is_empty() || replicas < 1 {
-            return Err("give the address of each server, and at least 1 of replicas".into());
+            return Err(PostgresError::unfit("give the address of each server, and at least 1 of replicas"));
         }
-        let address = |(n, url): (usize, &&str)| Address::of(url).map_err(|why| format!("address {} {why}", n + 1));
+        let address = |(n, url): (usize, &&str)| Address::of(url).map_err(|why| PostgresError::Unfit(format!("address {} {why}", n + 1)));
         let addresses = servers.iter().enumerate().map(address).collect::<Result<_, _>>()?;
         Ok(Member::new(Servers::new(addresses, format!("\"{group}\"")), group, replicas, terms))
     }

@@ -415,6 +415,23 @@ fn what_is_no_store() {
     assert!(PostgresStore::open(&options().any_life(), &["postgres://h/d"], "svid", 1).is_err());
 }
 
+/// `?` turns why no store begins into what a `main` returns.
+#[test]
+fn errors_of_a_main() {
+    fn service() -> Result<(), Box<dyn std::error::Error>> {
+        PostgresStore::open(&options(), &["redis://h"], "svid", 1)?;
+        Ok(())
+    }
+    fn thread() -> Result<(), crate::StoreError> {
+        PostgresStore::open(&options(), &["postgres://h/d"], "svid", 0)?;
+        Ok(())
+    }
+    assert!(service().unwrap_err().to_string().starts_with("address 1 "));
+    assert!(thread().unwrap_err().to_string().starts_with("give the address"));
+    let why = PostgresError::from(std::io::Error::from(std::io::ErrorKind::WouldBlock));
+    assert!(std::error::Error::source(&why).is_some() && why.to_string().starts_with("the store's thread can't begin: "));
+}
+
 #[test]
 fn what_a_server_says_is_one_short_line() {
     assert_eq!(Fault::server("one\nother\x1b[2J").text, "one other [2J");

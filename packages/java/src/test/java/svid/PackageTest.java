@@ -86,7 +86,7 @@ public class PackageTest {
     @Test
     public void theJarIsTheSameEachTime() throws Exception {
         Path again = built("second");
-        for (String it : List.of(".jar", "-sources.jar", "-javadoc.jar")) {
+        for (String it : List.of(".jar", "-sources.jar", "-javadoc.jar", ".pom")) {
             String name = jar.getFileName().toString().replace(".jar", it);
             assertArrayEquals(it, Files.readAllBytes(jar.resolveSibling(name)), Files.readAllBytes(again.resolveSibling(name)));
         }
@@ -123,6 +123,27 @@ public class PackageTest {
                 assertEquals(parts[1].equals("java"), file.getEntry("svid/Member." + parts[1]) != null);
             }
         }
+    }
+
+    /** It names the jar, and what that needs when it runs: the packages whose classes it is compiled against. */
+    @Test
+    public void whatThePomSays() throws Exception {
+        Path pom = Path.of(jar.toString().replace(".jar", ".pom"));
+        Element project = DocumentBuilderFactory.newInstance().newDocumentBuilder().parse(pom.toFile()).getDocumentElement();
+        List<String> said = new ArrayList<>();
+        for (String name : List.of("groupId", "artifactId", "version")) {
+            said.add(project.getElementsByTagName(name).item(0).getTextContent());
+        }
+        assertEquals(jar.getFileName().toString(), said.get(1) + "-" + said.get(2) + ".jar");
+        List<String> needs = new ArrayList<>();
+        for (int n = 0; n < project.getElementsByTagName("dependency").getLength(); n++) {
+            Element it = (Element) project.getElementsByTagName("dependency").item(n);
+            if (it.getElementsByTagName("scope").getLength() == 0) {
+                needs.add(it.getElementsByTagName("artifactId").item(0).getTextContent());
+            }
+        }
+        assertEquals(List.of("jna", "gson"), needs);
+        assertEquals(0, project.getElementsByTagName("build").getLength());
     }
 
     @Test
