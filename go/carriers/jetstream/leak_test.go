@@ -11,7 +11,7 @@ import (
 	"svid.example/go/v3/internal/patience"
 )
 
-// However often a member repairs its record, or begins to read anew, it listens at no more subjects than before.
+// However often a member repairs its record, or starts to read again, it listens at no more subjects than before.
 func TestNoSubscriptionStays(t *testing.T) {
 	t.Parallel()
 	a := join(t, options(1, natstest.Start(t).URL))
@@ -45,7 +45,7 @@ func TestNoSubscriptionStays(t *testing.T) {
 			return err == nil
 		})
 	}
-	const most = 2 // of a repair, and of the reader that begins anew
+	const most = 2 // of a repair, and of the reader that starts again
 	natstest.Await(t, fmt.Sprintf("subscriptions, which were %d, to end", before), func() bool { return a.conn.NumSubscriptions() <= before+most })
 }
 

@@ -104,7 +104,7 @@ class Connection {
       });
       this.#client.on("connect", () => {
         this.#isMade = true;
-        if (this.isBroken) queueMicrotask(() => this.close()); // (node-redis logs in first, and nobody hears of what it can't send)
+        if (this.isBroken) queueMicrotask(() => this.close()); // (node-redis logs in first, and says nothing of a command that it can't send)
       });
       await until(end, this.#client.connect(), () => this.close());
     } catch (why) {
@@ -141,7 +141,7 @@ class Connection {
     }
   }
 
-  /** Answers of which none is an error. */
+  /** Answers without an error. */
   good(answers) {
     for (const it of answers) if (it instanceof Error) throw this.fault(it);
     return answers;
@@ -339,6 +339,7 @@ export class Member {
     if (String(what) !== "ok") {
       this.#agreed = false;
       if (String(what) === "wait") return { pause: Math.min(more, said.PAUSE) };
+      if (String(more).startsWith("the server is one of a Cluster")) throw new StoreFault("cluster");
       throw new StoreFault(String(what), String(more));
     }
     const [record, epoch, deaf, time, latest] = [rest[0], String(rest[1]), ...rest.slice(2).map(BigInt)];

@@ -31,7 +31,7 @@ const TESTS = {
     "TestRightsOfAnotherLanguage|TestPasswords|TestTLS|TestASocket",
   losses: "TestAnEntryThatIsRemovedByHand|TestWhatAMemberKnows|TestATokenThatLivesTooLong|TestMembersAgree|TestEachPutLooksAtTheEpoch|" +
     "TestAnEndCoversWhatEachMemberKnows|TestAStoreThatWasMadeAnew|TestMembersCompareFirst|TestWhatIsOverIsNotKept|TestAClockThatIsADayOff",
-  ends: "TestFullMemory|TestFullDisk|TestLateAnswers|TestKilledOverAndOver|TestAClusterIsRefused",
+  ends: "TestFullMemory|TestFullDisk|TestLateAnswers|TestKilledOverAndOver",
   replicas: "TestAReplicaAlone|TestAReplicaUnderTheSameName|TestTooFewReplicas|TestTwoPrimaries|TestAPrimaryThatWasAReplica|TestEachPutLooksAtTheRun",
   takeovers: "TestATakeover|TestATakeoverWithReplicas",
   sentinels: "TestSentinel|TestAPrimaryThatHung|TestSentinelsThatDisagree",
@@ -58,9 +58,9 @@ const claim = (n, owner = OWNER) => ({ key: new Uint8Array(32).fill(n), owner, e
 let machines = 0;
 
 /** Does something with a server of its own. */
-async function withServer(act) {
+async function withServer(act, more = []) {
   const dir = join(room, String(++machines)), path = `${dir}/socket`;
-  const words = ["--port", "0", "--unixsocket", path, "--dir", dir, "--appendonly", "yes", "--appendfsync", "always", "--save", "", "--logfile", `${dir}/log`];
+  const words = ["--port", "0", "--unixsocket", path, "--dir", dir, "--appendonly", "yes", "--appendfsync", "always", "--save", "", "--logfile", `${dir}/log`, ...more];
   await mkdir(dir);
   const told = async (...command) => {
     const client = redis.createClient({ socket: { path, reconnectStrategy: () => new Error("it is gone") } }).on("error", () => {});
@@ -123,7 +123,9 @@ const isOf = async (store, n, owner, by = OWNER) => Buffer.compare((await put(st
 
 test("each test of a store in Go is run", async () => {
   const others = ["TestRights", "TestAKeyOfAnUnknownAlgorithm", "TestOptions", "TestRecords", "TestSlots", "TestNoTextIsAnID", "TestARecordThatChangedMeanwhile", "TestCluster",
-    "TestClusterWithoutOneServer", "TestClusterTakeover", "TestServersThatHang"];
+    "TestClusterWithoutOneServer", "TestClusterTakeover", "TestClusterTakeoverWithReplicas", "TestAMemberOfAnotherLanguageInACluster", "TestHowAClusterIsNamed",
+    "TestServersThatHang", "TestEachSearchForThePrimaryLeavesNothing", "TestABurstLeavesFewConnections", "TestAServerThatIsAwayIsAskedNowAndThen",
+    "TestMembersThatComeAndGoLeaveNoKey"];
   const { stdout } = await run(binary, ["-test.list", "^Test"]);
   assert.deepEqual([...Object.values(TESTS).join("|").split("|"), ...others].sort(), stdout.trim().split("\n").sort());
 });
@@ -137,6 +139,22 @@ test("one validator accepts a token", () =>
       assert.deepEqual([await said(a.check(shown)), await said(b.check(shown))], ["accepted", "Replayed"]);
       for (const it of [a, b]) it.close();
     })));
+
+test("a server of a Cluster is refused, and the reason says what to do", async () => {
+  const port = await new Promise((resolve) => {
+    const free = createServer().listen(0, "127.0.0.1", () => {
+      const { port } = free.address();
+      free.close(() => resolve(port));
+    });
+  });
+  const slots = ["--cluster-enabled", "yes", "--port", String(port), "--cluster-port", "0", "--bind", "127.0.0.1"];
+  await withServer((machine) => withStores(machine, [{}], async (store) => {
+    for (const isWhole of [false, true]) {
+      if (isWhole) await machine.told("CLUSTER", "ADDSLOTSRANGE", "0", "16383");
+      await until(() => store.state().then(() => false, (why) => why.reason === "cluster" && /let svidd check the tokens/.test(why.message)));
+    }
+  }), slots);
+});
 
 test("a withdrawal wins over a claim, and a server that lost its scripts gets them again", () =>
   withServer((machine) =>

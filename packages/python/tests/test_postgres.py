@@ -141,6 +141,10 @@ def test_every_test_of_a_store_is_run(binary):
         "TestOptions",
         "TestOptionsOfTheEnvironment",
         "TestTheEpochsRowStays",
+        "TestAFewMarksAreKept",
+        "TestAnOldLookDoesNotCount",
+        "TestLooksHavePauses",
+        "TestTheLaterTimelineCounts",
     }
     assert {it for names in TESTS.values() for it in names.split("|")} == {*listed} - others
 

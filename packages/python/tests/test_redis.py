@@ -52,6 +52,10 @@ OTHERS = {
     "TestNoTextIsAnID",
     "TestARecordThatChangedMeanwhile",
     "TestServersThatHang",
+    "TestEachSearchForThePrimaryLeavesNothing",
+    "TestABurstLeavesFewConnections",
+    "TestAServerThatIsAwayIsAskedNowAndThen",
+    "TestMembersThatComeAndGoLeaveNoKey",
 }
 
 

@@ -175,7 +175,8 @@ public class PostgresTest {
         TreeSet<String> run =
                 new TreeSet<>(List.of(String.join("|", MEMBER, ALONE, ENDS, LOSSES, CALLS, STANDBYS, PRIMARIES).split("\\|")));
         run.addAll(List.of(
-                "TestAServerOfAnotherLanguage", "TestStandbys", "TestOptions", "TestOptionsOfTheEnvironment", "TestTheEpochsRowStays"));
+                "TestAServerOfAnotherLanguage", "TestStandbys", "TestOptions", "TestOptionsOfTheEnvironment", "TestTheEpochsRowStays",
+                "TestAFewMarksAreKept", "TestAnOldLookDoesNotCount", "TestLooksHavePauses", "TestTheLaterTimelineCounts"));
         assertEquals(new TreeSet<>(listed), run);
     }
 
