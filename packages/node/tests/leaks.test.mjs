@@ -13,7 +13,7 @@ const { Bundles, Validator } = await imported(), { MemoryStore } = await importe
 // (each life starts the module nine times: SVID_TEST_LIVES says how many are to be lived)
 const LIVES = Number(process.env.SVID_TEST_LIVES ?? 12), WARMING = Math.ceil(LIVES / 4);
 const SHM = "/dev/shm"; // (a disk would be forced ten times in each life)
-const MOST = 65_536; // the most bytes that a life may add, of what its collector keeps for itself: a module of WebAssembly alone has more
+const MOST = 65_536; // the most bytes that a life may add, since the collector keeps some: a module of WebAssembly alone has more
 const away = async () => {
   throw new Error("the store is away");
 };
