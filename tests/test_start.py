@@ -37,6 +37,10 @@ def origin(session):
     return made
 
 
+# (what ./test says of proofs is not for the copies)
+ENVIRON = {name: value for name, value in os.environ.items() if name != "SVID_PROVE"}
+
+
 class Copy:
     """A copy of the checkout, in a folder with spaces in its name, and the commands of it that run there with no kit, from another folder."""
 
@@ -51,7 +55,7 @@ class Copy:
         ran = subprocess.run(
             [self / words[0], *words[1:]],
             cwd="/",
-            env={**os.environ, "PATH": path},
+            env={**ENVIRON, "PATH": path},
             stdin=subprocess.DEVNULL,
             capture_output=True,
             text=True,
@@ -210,7 +214,7 @@ def test_on_another_machine_its_program_is_taken(copy, other):
 
 
 def test_on_another_machine_its_files_are_installed(copy, other):
-    environment = {**os.environ, "PATH": other, "DESTDIR": f"{copy.room}/root"}
+    environment = {**ENVIRON, "PATH": other, "DESTDIR": f"{copy.room}/root"}
     subprocess.run([copy / "install", "/usr"], cwd="/", env=environment, stdout=subprocess.DEVNULL, check=True)
     for name, installed in {"svid": "bin/svid", "libsvid.a": "lib/libsvid.a", "libsvid.so": "lib/libsvid.so.3"}.items():
         assert (copy.room / "root/usr" / installed).read_bytes() == (copy / "dist/aarch64" / name).read_bytes()
@@ -245,6 +249,17 @@ def test_the_library(copy, what, name):
     assert copy.status and "rt is not on the PATH" in copy.err and not (copy.room / name).exists()
 
 
+@pytest.mark.parametrize("words", [["svid", "id", "spiffe://a"], ["tools/dist", "program"], ["tools/dist", "archive", "library"]])
+def test_nothing_is_proved_where_that_is_forbidden(copy, words):
+    """A test that would have to prove the sources first fails at once, and says what to do."""
+    copy.append(SOURCE)
+    ran = subprocess.run(
+        [copy / words[0], *words[1:]], cwd=copy.room, env={**ENVIRON, "PATH": BARE, "SVID_PROVE": "0"}, capture_output=True, text=True
+    )
+    assert ran.returncode and ran.stdout == "" and ran.stderr.count("\n") == 1
+    assert "dist/ was not built from these sources" in ran.stderr and "run ./prove --release, or set SVID_PROVE=1" in ran.stderr
+
+
 def test_a_checkout_that_nobody_may_write(copy):
     """The program runs, and nothing is kept."""
     needs("setpriv")
@@ -254,7 +269,7 @@ def test_a_checkout_that_nobody_may_write(copy):
         folder.chmod(folder.stat().st_mode | 0o055)
     as_nobody = ["setpriv", "--reuid=65534", "--regid=65534", "--clear-groups"] if os.geteuid() == 0 else []
     ran = subprocess.run(
-        [*as_nobody, copy / "svid", "id", "spiffe://a"], cwd="/", env={**os.environ, "PATH": BARE}, capture_output=True, text=True
+        [*as_nobody, copy / "svid", "id", "spiffe://a"], cwd="/", env={**ENVIRON, "PATH": BARE}, capture_output=True, text=True
     )
     assert (ran.returncode, ran.stdout, ran.stderr) == (0, "domain a\n", "")
     assert not (copy / "out").exists()

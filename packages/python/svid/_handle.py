@@ -290,7 +290,12 @@ def _bundles_fault(status: int, told: lib.Told) -> Exception:
     """The exception for a status of a call that has read bundles that is not OK."""
     if status == lib.TOO_MUCH:
         return BadBundles(said(status))
-    if status in (lib.BUNDLES_NOT_OBJECT, lib.BUNDLES_DOMAIN, lib.BUNDLES_KEYS, lib.BUNDLES_UNNAMED):
+    if status in (
+        lib.BUNDLES_NOT_OBJECT,
+        lib.BUNDLES_DOMAIN,
+        lib.BUNDLES_KEYS,
+        lib.BUNDLES_UNNAMED,
+    ):
         return BadBundles(bundle_words(status, told.offset))
     return fault(status, told)
 
