@@ -174,9 +174,9 @@ public class PostgresTest {
         assertEquals(0, listing.waitFor());
         TreeSet<String> run =
                 new TreeSet<>(List.of(String.join("|", MEMBER, ALONE, ENDS, LOSSES, CALLS, STANDBYS, PRIMARIES).split("\\|")));
-        run.addAll(List.of(
-                "TestAServerOfAnotherLanguage", "TestStandbys", "TestOptions", "TestOptionsOfTheEnvironment", "TestTheEpochsRowStays",
-                "TestAFewMarksAreKept", "TestAnOldLookDoesNotCount", "TestLooksHavePauses", "TestTheLaterTimelineCounts"));
+        run.addAll(List.of("TestAServerOfAnotherLanguage", "TestStandbys", "TestOptions", "TestOptionsOfTheEnvironment",
+                "TestTheEpochsRowStays", "TestAFewMarksAreKept", "TestAnOldLookDoesNotCount", "TestLooksHavePauses",
+                "TestTheLaterTimelineCounts"));
         assertEquals(new TreeSet<>(listed), run);
     }
 
