@@ -123,8 +123,8 @@ final class Member extends State {
     }
 
     /**
-     * Reads the record of the state folder. Tokens are judged from then on, or once the store is there. Waits for that, but at most as long as
-     * a request does.
+     * Reads the record of the state folder. Tokens are judged from then on, or once the store is there. Waits for that, but at most as long
+     * as a request does.
      */
     void begin(long now) throws IOException {
         if (journal != null) {

@@ -47,7 +47,8 @@ class State implements Runnable {
             terms.setLong(Library.Terms.STEP, options.step());
             terms.write(Library.Terms.VALIDATOR_ID, id, 0, id.length);
             Pointer text = lent.put(bundles);
-            told.must(Library.svid_validator_open_by_lengths(handle, terms, own, len, lens, audiences.size(), text, bundles.length, told.at));
+            told.must(
+                    Library.svid_validator_open_by_lengths(handle, terms, own, len, lens, audiences.size(), text, bundles.length, told.at));
         }
     }
 
