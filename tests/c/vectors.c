@@ -184,7 +184,7 @@ static void bundles(const json_t *it) {
     text given = at(it, "hex") ? hex(it, "hex") : chars(it, "text");
     uint32_t status = open_by(LEDGER, given, UINT64_MAX, UINT64_MAX, UINT64_MAX, NONE);
     const char *got = status == SVID_OK ? check(chars(it, "token"), number(at(file, "setting"), "now"))
-        : status == SVID_BUNDLES_NOT_OBJECT ? "NotObject" : said("%s %llu", named(status, "BUNDLES_"), told.offset, 0);
+        : status == SVID_BUNDLES_NOT_OBJECT || status == SVID_BUNDLES_UNNAMED ? named(status, "BUNDLES_") : said("%s %llu", named(status, "BUNDLES_"), told.offset, 0);
     expect(it, got, words(it, "answer"));
 }
 
