@@ -49,12 +49,12 @@ RUNS = {
     },
     # trust bundles that are kept
     "bundles": {
-        "wrapped": "refused",
+        "wrapped": "refused nameless",
         "bare": "guarded nulls listed exchanged threads stack",
         "musl": "threads",
-        "sanitized": "refused guarded nulls listed",
+        "sanitized": "refused nameless guarded nulls listed",
         "threads": "threads",
-        "valgrind": "refused nulls",
+        "valgrind": "refused nameless nulls",
     },
     # keys as a library of cryptography reads them
     "keys": {

@@ -52,7 +52,7 @@ NAMES = {
         "Node": "^export class PostgresStore",
         "Java": "^public final class PostgresStore",
     },
-    "store in Redis, also Sentinel and Cluster": dict.fromkeys(SOURCES, r"(class|struct) RedisStore|^package redis$"),
+    "store in Redis": dict.fromkeys(SOURCES, r"(class|struct) RedisStore|^package redis$"),
     "store in NATS": dict.fromkeys(SOURCES, r"(class|struct) NatsStore|^package nats$"),
     "a store of your own": {
         "Go": "^type Store interface",

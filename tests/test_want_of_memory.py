@@ -2,7 +2,7 @@
 
 Each public call of each library stands in a row, and each row names calls that are public. Each call of a row is named in a table of tests/cases/README.md,
 by a line of svid_script that makes it; and one such line stands in a case that tools/cases runs with each allocation refused, or, of a call that
-takes no memory, in any case. Laws, which do nothing, and calls of std's traits need no row."""
+takes no memory, in any case. Some are tested by the C library instead (BY_C). Laws, which do nothing, and calls of std's traits need no row."""
 
 import importlib.machinery
 import importlib.util
@@ -11,6 +11,7 @@ import sys
 
 import pytest
 from conftest import TOP
+from test_c_library import RUNS as PARTS
 
 NAMES = r"(`[\w:]+`(?:, `[\w:]+`)*)"
 ROW = re.compile(rf"\| `(\w+)` \| {NAMES} \| (yes|no) \| (\S.*?) \|$")
@@ -50,6 +51,10 @@ def calls(crate):
     return found
 
 
+# Calls that no case makes: the part of a program in tests/c that refuses each of their allocations.
+BY_C = {"is_unnamed": ("nameless", "bundles")}
+
+
 @pytest.fixture(scope="module")
 def words():
     """The words of the lines of all cases, and those of the cases that run with each allocation refused."""
@@ -82,6 +87,10 @@ def test_the_calls_of_a_row_are_tested(row, words, lines):
     _, names, takes, _ = read.groups()
     every, swept = words
     for call in re.findall(r"[\w:]+", names):
+        if call in BY_C:
+            part, program = BY_C[call]
+            assert part in PARTS[program]["wrapped"].split() and f'{{ "{part}", {part} }}' in text_of(f"tests/c/{program}.c")
+            continue
         made_by = lines.get(call.split("::")[-1], set())
         assert made_by, f"{call}: no line of tests/cases/README.md makes it"
         assert made_by & (swept if takes == "yes" else every), f"{call}: no case has a line that makes it: {', '.join(sorted(made_by))}"

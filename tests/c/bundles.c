@@ -1,6 +1,7 @@
 /* Calls trust bundles that C keeps (svid_bundles of svid.h). Runs in the folder examples/.
  *
  *   bundles refused    each call with each of its allocations refused in turn; linked with --wrap for malloc, realloc and free
+ *   bundles nameless   the bundle of one trust domain without its name, with each allocation refused in turn
  *   bundles guarded    all that a call is lent between pages that can't be touched, right before the one and right behind the other
  *   bundles nulls      NULL for each input of no bytes, and for a room of none: the answer is that of another pointer
  *   bundles listed     rows are those of svid_validator_ask_token, for each number of keys; each key has a question; and a closed handle does nothing
@@ -317,11 +318,47 @@ static void deepen(int depth) {
     bundles_len = len + 3;
 }
 
+static uint32_t read_nameless(int renews, svid_validator *v, svid_told *told) {
+    static const char one[] = "{\"A\":1,\"keys\":[]}";
+    svid_bundles b = SVID_BUNDLES_CLOSED;
+    if (renews) return svid_validator_bundles(v, (const uint8_t *)one, sizeof one - 1, told);
+    uint32_t status = svid_bundles_open(&b, (const uint8_t *)one, sizeof one - 1, told);
+    holds(b.word == 0 && b.held == NULL, "it opens");
+    return status;
+}
+
+static void nameless(void) {
+    long tried = 0;
+    for (int renews = 0; renews < 2; renews++) {
+        svid_validator v;
+        svid_told told;
+        at = renews ? "svid_validator_bundles" : "svid_bundles_open";
+        open_validator(&v, "{}");
+        asked = 0;
+        answered = read_nameless(renews, &v, &told);
+        long all = asked, refused_here = 0;
+        holds(answered == SVID_BUNDLES_UNNAMED && told.offset == 0, "a bundle without its name");
+        for (long n = 1; n <= all; n++, tried++) {
+            asked = 0, refused_at = n;
+            answered = read_nameless(renews, &v, &told);
+            refused_at = 0;
+            refused_here += answered == SVID_NO_MEMORY;
+            holds((answered == SVID_NO_MEMORY || answered == SVID_BUNDLES_UNNAMED) && told.offset == 0, "want of memory is another fault");
+            answered = read_nameless(renews, &v, &told);
+            holds(answered == SVID_BUNDLES_UNNAMED, "another answer afterwards");
+        }
+        holds(refused_here > 1, "memory was never wanted");
+        svid_validator_close(&v);
+        holds(standing == 0, "memory is held after close");
+    }
+    printf("%ld allocations refused", tried);
+}
+
 static void stack(void) { stack_with(deepen); }
 
 int main(int count, char **words) {
     static const part parts[] = {
-        { "refused", refused }, { "guarded", guarded }, { "nulls", nulls }, { "listed", listed }, { "exchanged", exchanged }, { "threads", threads }, { "stack", stack },
+        { "refused", refused }, { "nameless", nameless }, { "guarded", guarded }, { "nulls", nulls }, { "listed", listed }, { "exchanged", exchanged }, { "threads", threads }, { "stack", stack },
     };
     read_examples();
     return run_part(count, words, parts, COUNT(parts));

@@ -106,9 +106,14 @@ func TestGarbageInAList(t *testing.T) {
 	s := start(t)
 	a := opened(t, Options{URLs: []string{s.URL}})
 	const list = "svid:{svid}:withdrawn:1"
+	// (One of 256 that are cut off is whole again by the first byte of the next one, and then hides that.)
+	cut := withdrawalText(withdrawal())
+	for cut[47] == withdrawalMark[0] {
+		cut = withdrawalText(withdrawal())
+	}
 	var due []claims.Withdrawal
 	position := ""
-	for _, garbage := range []string{"", "x", "svw1", strings.Repeat("svw1", 11), strings.Repeat("x", 47), strings.Repeat("y", 200_000), string(withdrawalText(withdrawal())[:47])} {
+	for _, garbage := range []string{"", "x", "svw1", strings.Repeat("svw1", 11), strings.Repeat("x", 47), strings.Repeat("y", 200_000), string(cut[:47])} {
 		s.do(t, "APPEND", list, garbage)
 		w := withdrawal()
 		claimstest.Withdraw(t, a, w)

@@ -211,21 +211,21 @@ type recentCaller struct {
 	Caller
 }
 
-// place is where the caller of a text is kept.
-func (r *recentCallers) place(text string) *atomic.Pointer[recentCaller] {
+// slot is where the caller of a text is kept.
+func (r *recentCallers) slot(text string) *atomic.Pointer[recentCaller] {
 	return &r.known[maphash.String(r.seed, text)%uint64(len(r.known))]
 }
 
 // within is the caller of an address, or of its network.
 func (c *CallerRule) within(text string) Caller {
-	place := c.recent.place(text)
-	if one := place.Load(); one != nil && one.text == text {
+	slot := c.recent.slot(text)
+	if one := slot.Load(); one != nil && one.text == text {
 		return one.Caller
 	}
 	text = strings.Clone(text) // (It may be part of a longer one.)
 	from := c.networkOf(text)
 	if from.fault == nil {
-		place.Store(&recentCaller{text, from})
+		slot.Store(&recentCaller{text, from})
 	}
 	return from
 }

@@ -565,7 +565,7 @@ test("a request that did not come ends no process", async (t) => {
   const member = await memberOver({ due: fails, leave: fails });
   await assert.rejects(member.check("a", () => 1n), fault);
   member.fail(new Error("the end"));
-  await new Promise((resolve) => setImmediate(resolve)); // (Node tells of rejections that nobody handles before that)
+  await new Promise((resolve) => setImmediate(resolve)); // (before that, Node says which promises failed unhandled)
   assert.deepEqual(heard, []);
 });
 
