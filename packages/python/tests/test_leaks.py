@@ -32,7 +32,7 @@ def test_no_life_leaves_one_behind(held, kind):
 
 @pytest.mark.parametrize(("kind", "most"), [("objects", 1), ("bytes", 4096)])
 def test_lives_do_not_add_up(held, kind, most):
-    """A life that left an object of Python's, or a room of the library's, would take more each time.
+    """A life that left an object, or a room of the library, would take more each time.
 
     (What malloc keeps for a thread counts as held: some 70,000 bytes, in few lives or in many.)
     """
