@@ -332,7 +332,7 @@ func TestACancelledWait(t *testing.T) {
 			found := make(chan []claims.Found, 1)
 			go func() { found <- claimstest.Try(a, time.Second, these...) }() // (Then it looks, which waits too.)
 			logtest.Await(t, "the call to end", func() bool {
-				s.Do(`SELECT pg_cancel_backend(pid) FROM pg_stat_activity WHERE wait_event = 'SyncRep' AND query LIKE '%put(%'`)
+				s.Do(`SELECT pg_cancel_backend(pid) FROM pg_stat_activity WHERE wait_event = 'SyncRep'`)
 				return len(found) > 0
 			})
 			for _, f := range <-found {
