@@ -52,7 +52,7 @@ RULES = {
 }
 
 
-# What answers requests by a member of the library, and what hands requests to it. Stores are none of these: they keep what they get.
+# Files that answer requests through a member of the library, or hand requests to it. Stores are not among them: they keep what they get.
 SHELLS = re.compile(
     r"^(go/(internal/server|guard|svidhttp|cmd/svidd|svid)|packages/python/svid|packages/node/src|packages/rust/svid/src|packages/java/src/main)/"
     r"(?!(java/svid/)?[Pp]ostgres|_group|redis|answers|group-store)"

@@ -25,7 +25,7 @@ type yielding struct{}
 
 func (yielding) Write(line []byte) (int, error) { yields(); return len(line), nil }
 
-// Whatever is called at once, no token is accepted twice, and none behind its withdrawal. Others run at each look at a clock, at each call of the
+// Whatever is called at once, no token is accepted twice, and none after its withdrawal. Others run at each look at a clock, at each call of the
 // store, and at each line of the log. The race detector looks at what they share.
 func TestAllCallsAtOnce(t *testing.T) {
 	for _, mode := range []Mode{Once, Strict, Bound, Reuse} {

@@ -23,7 +23,7 @@ func TestMessagesOfAStream(t *testing.T) {
 			t.Errorf("%q %v, begun %d times", got, err, begun)
 		}
 	}
-	if _, err := Read(stream, 3, func() { t.Error("begun behind the end") }); err != io.EOF {
+	if _, err := Read(stream, 3, func() { t.Error("begun after the end") }); err != io.EOF {
 		t.Errorf("at the end: %v", err)
 	}
 	for text, want := range map[string]error{

@@ -1,4 +1,4 @@
-"""Many lives of validators, in a process of its own: prints what they hold at two moments.
+"""Opens and closes many validators in a process of its own, and prints twice what is still held.
 
     lives.py FOLDER LIVES       once after a tenth as many lives, and once more at the end of all
 
