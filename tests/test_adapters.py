@@ -10,7 +10,7 @@ from conftest import TOP
 ADAPTERS = ("go", "packages/python/svid", "packages/node/src", "packages/rust/svid/src", "packages/page/src", "packages/java/src/main")
 # Not ours, or not what a service runs: tests, and what only they use.
 OTHERS = re.compile(
-    r"^go/vendor/|_test\.go$|/tests?/|/tests\.rs$|/(issuer|testing|natstest|agenttest|logtest|sim|vectors|broker|refusing|cluster|svidbench|vendored)/|wrong/"
+    r"^go/vendor/|_test\.go$|/tests?/|/tests\.rs$|/(issuer|testing|natstest|agenttest|logtest|sim|vectors|broker|cluster|svidbench|vendored)/|wrong/"
     r"|cmd/svidd/(outside|member)\.py$|^packages/python/svid/testing\.py$"
 )
 COMMENT = re.compile(r"^\s*(//|/\*|\*|#|\"\"\")")

@@ -21,6 +21,7 @@ TYPES = {
     "[[u8; 32]; 256]": ("uint8_t {}[256][32]", "c_uint8 * 32 * 256", "[[u8; 32]; 256]"),
     "SvidUse": ("svid_use {}", "Use", "Use"),
     "SvidMark": ("svid_mark {}", "Mark", "Mark"),
+    "SvidFound": ("svid_found {}", "Found", "Found"),
 }
 # What the header puts before a name of these lists.
 PREFIXES = {

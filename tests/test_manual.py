@@ -4,6 +4,7 @@ import os
 import re
 import shutil
 import subprocess
+import tomllib
 
 import pytest
 from conftest import TOP, needs
@@ -152,7 +153,7 @@ def test_no_other_option_is_named(said):
 def test_refusals():
     assert REFUSALS
     assert MAN.of("REFUSALS") == REFUSALS
-    assert column("docs/FORMATS.md", "| refusal | where | standard |") == REFUSALS
+    assert column("docs/FORMATS.md", "| refusal | where |") == REFUSALS
 
 
 def test_faults_of_an_id():
@@ -175,7 +176,9 @@ def test_lines_on_standard_error():
 
 
 def test_statuses_of_these_lines():
-    rows = {re.sub(r"\b(I|J|P|N|NAME|REASON)\b", "{}", line): it for line, it in table("docs/FORMATS.md", "| line | status | where |")}
+    """They are those of the list."""
+    listed = tomllib.loads(text_of("lists/faults.toml"))["line"]
+    rows = {re.sub(r"\b(I|J|P|N|NAME|REASON)\b", "{}", it["line"]): str(it["status"]) for it in listed}
     of_bundles = rows.pop("svid: bundles: FAULT")
     rows |= {f"svid: bundles: {fault}": of_bundles for fault in ("NotObject", "Domain({})", "Keys({})", "Unnamed")}
     assert {tag: (re.match(r"Status (\d)\.\n", text) or " -")[1] for tag, text in MAN.tags["DIAGNOSTICS"]} == rows

@@ -45,22 +45,6 @@ NAMES = {
         "Node": "class LocalStore",
         "Java": "^final class LocalStore",
     },
-    "store in PostgreSQL": {
-        "Go": "^package postgres$",
-        "Python": "^class PostgresStore",
-        "Rust": "PostgresStore",
-        "Node": "^export class PostgresStore",
-        "Java": "^public final class PostgresStore",
-    },
-    "store in Redis": dict.fromkeys(SOURCES, r"(class|struct) RedisStore|^package redis$"),
-    "store in NATS": dict.fromkeys(SOURCES, r"(class|struct) NatsStore|^package nats$"),
-    "a store of your own": {
-        "Go": "^type Store interface",
-        "Python": r"^class Store\(Protocol\)",
-        "Rust": "^pub trait Store",
-        "Node": "^export interface Store",
-        "Java": "^public interface Store",
-    },
     "withdrawals of a store heard": {
         "Go": r"^\tWithdrawals\(ctx",
         "Python": r"^    def withdrawals\(",
@@ -82,6 +66,36 @@ NAMES = {
         "Node": r"^  folder\?:",
         "Java": r"^    public static Sources folder\(",
     },
+    "answers and challenge as `svidd`": {
+        "Go": "^func Protect",
+        "Python": "^class SvidMiddleware",
+        "Rust": r"^    pub fn body\(",
+        "Node": "^export function protect",
+        "Java": "^public final class ProtectedHandler",
+    },
+    "who may call": {
+        "Go": r"^\tAllow     \[\]string",
+        "Python": "^        callers: ",
+        "Rust": r"^    pub fn callers<",
+        "Node": r"^  callers\?:",
+        "Java": r"^    public Options callers\(",
+    },
+    "store in PostgreSQL": {
+        "Go": "^package postgres$",
+        "Python": "^class PostgresStore",
+        "Rust": "PostgresStore",
+        "Node": "^export class PostgresStore",
+        "Java": "^public final class PostgresStore",
+    },
+    "store in Redis": dict.fromkeys(SOURCES, r"(class|struct) RedisStore|^package redis$"),
+    "store in NATS": dict.fromkeys(SOURCES, r"(class|struct) NatsStore|^package nats$"),
+    "a store of your own": {
+        "Go": "^type Store interface",
+        "Python": r"^class Store\(Protocol\)",
+        "Rust": "^pub trait Store",
+        "Node": "^export interface Store",
+        "Java": "^public interface Store",
+    },
     "bundle endpoints, `https_web`": {
         "Go": "^\tAuthorities string$",
         "Python": "^class Endpoint",
@@ -101,7 +115,7 @@ NAMES = {
         "Python": "^class WorkloadApi",
         "Rust": "(?i)fn workload|WorkloadApi",
         "Node": "(?i)workloadApi",
-        "Java": r"Sources workload|WorkloadApi",
+        "Java": r"^    public static Sources workload\(",
     },
     "claims of an accepted token": {
         "Go": r"^func Payload\(",
@@ -124,26 +138,12 @@ NAMES = {
         "Node": r"^  onTwice\?:",
         "Java": r"^    public Options twice\(",
     },
-    "answers and challenge as `svidd`": {
-        "Go": "^func Protect",
-        "Python": "^class SvidMiddleware",
-        "Rust": r"^    pub fn body\(",
-        "Node": "^export function protect",
-        "Java": "^public final class ProtectedHandler",
-    },
     "open paths": {
         "Go": None,
         "Python": "^        open_paths: ",
         "Rust": r"^    pub fn open_paths<",
         "Node": r"^  openPaths\?:",
         "Java": r"^    public ProtectedHandler open\(",
-    },
-    "who may call": {
-        "Go": r"^\tAllow     \[\]string",
-        "Python": "^        callers: ",
-        "Rust": r"^    pub fn callers<",
-        "Node": r"^  callers\?:",
-        "Java": r"^    public Options callers\(",
     },
     "a wall clock for tests": {
         "Go": r"^\tNow       func\(\)",
@@ -165,10 +165,13 @@ DENIED = re.compile(r"no\b|\[no\]")
 
 
 def rows():
-    table = re.search(r"^\| +\| `svidd` .*?\n\n", (TOP / "docs/PACKAGES.md").read_text(), re.M | re.S)[0]
+    """What all have, and the table."""
+    text = (TOP / "docs/PACKAGES.md").read_text()
+    table = re.search(r"^\| +\| `svidd` .*?\n\n", text, re.M | re.S)[0]
     head, _, *lines = ([cell.strip() for cell in line.strip("|\n").split("|")] for line in table.strip().splitlines())
     assert head == ["", *COLUMNS]
-    return {name: dict(zip(COLUMNS, cells)) for name, *cells in lines}
+    everywhere = {name: dict.fromkeys(COLUMNS, "yes") for name in re.search(r"^All have: (.*)\.$", text, re.M)[1].split("; ")}
+    return everywhere | {name: dict(zip(COLUMNS, cells)) for name, *cells in lines}
 
 
 def text_of(language):

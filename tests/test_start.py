@@ -4,6 +4,7 @@ sources that are there, and ./prove finds one changed byte. So with what was bui
 All is tried on copies of this checkout. No kit is needed: where the command rt is asked for, a stand-in answers that only tells its version, so
 nothing is proved here."""
 
+import hashlib
 import os
 import platform
 import resource
@@ -20,7 +21,7 @@ SOURCE = "crates/svid_id/src/lib.rt"
 # What of the checkout the copies have: all that ./svid, ./prove and the tools look at.
 PARTS = "svid prove install tools tests dist packages/page packages/c crates.txt HANDLES examples/bundles.json examples/token.txt".split()
 # What the tests change, in place.
-EDITED = ["dist", "packages/page", "packages/c", "crates.txt", "crates/svid_id"]
+EDITED = ["dist", "packages/page", "packages/c", "crates.txt", "crates/svid_id", "tests/driver"]
 
 
 @pytest.fixture(scope="session")
@@ -103,16 +104,23 @@ class Copy:
     def script(self, path, text):
         (self / path).write_text(f"#!/bin/sh\n{text}\n")
 
-    def builds_here(self, crate):
-        """Its program stands in the copy as tools/build leaves it; that of dist/ plays it."""
-        out = self / f"crates/{crate}/out"
+    def digest(self, what):
+        return subprocess.run([self / "tools/dist", what], stdout=subprocess.PIPE, check=True).stdout
+
+    def builds_program(self):
+        """The program stands in the copy as tools/build leaves it; that of dist/ plays it."""
+        out = self / "crates/svid_tool/out"
         out.mkdir(parents=True)
-        shutil.copy(self / "dist/x86_64" / crate.replace("svid_tool", "svid"), out / crate)
-        self.run(
-            "tools/dist",
-            "mark",
-            subprocess.run([self / "tools/dist", "sources"], stdout=subprocess.PIPE, text=True, check=True).stdout.strip(),
-        )
+        shutil.copy(self / "dist/x86_64/svid", out / "svid_tool")
+        self.run("tools/dist", "mark", self.digest("sources").decode().strip())
+
+    def builds_driver(self):
+        """So does the test driver, as `tools/dist here script` leaves it."""
+        out = self / "out/driver"
+        out.mkdir(parents=True)
+        shutil.copy(self / "dist/x86_64/svid_script", out)
+        made = hashlib.sha256(self.digest("sources") + self.digest("driver-sources")).hexdigest()
+        (out / "built.stamp").write_text(f"{made}\n")
 
 
 @pytest.fixture
@@ -146,7 +154,7 @@ EDITS = {
     "a source is renamed": lambda copy: (copy / SOURCE).rename(copy / "crates/svid_id/src/other.rt"),
     "a folder of sources is renamed": lambda copy: (copy / "crates/svid_id/specs").rename(copy / "crates/svid_id/others"),
     "a crate is renamed": lambda copy: (copy / "crates/svid_id").rename(copy / "crates/svid_other"),
-    "a folder of sources is added": lambda copy: copy.make("crates/svid_script/proofs/More.antt"),
+    "a folder of sources is added": lambda copy: copy.make("crates/svid_tool/proofs/More.antt"),
     "a crate is added": lambda copy: copy.make("crates/svid_more/src/lib.rt"),
     "crates.txt is edited": lambda copy: copy.append("crates.txt"),
     "a byte of the program is changed": lambda copy: copy.flip("dist/x86_64/svid"),
@@ -188,7 +196,7 @@ def test_a_program_that_does_not_run_here(copy):
 )
 def test_no_old_program_runs_that_was_built_here_after(copy, edit):
     copy.append("crates.txt")
-    copy.builds_here("svid_tool")
+    copy.builds_program()
     assert copy.answers()
     assert copy.answers() and copy.err == "", "a later run says more than the program"
     EDITS[edit](copy)
@@ -226,12 +234,15 @@ def test_the_driver(copy):
         return copy.out.strip() if copy.status == 0 else copy.out or "build it by ./prove --release" in copy.err
 
     assert driver() == f"{copy.folder}/dist/x86_64/svid_script"
+    copy.append("tests/driver/main.rattle")
+    assert driver() is True, "after its own source is edited there is still a driver"
+    assert copy.answers(), "after a source of the driver is edited the program does not run"
     copy.append("crates.txt")
     assert driver() is True, "after a source is edited there is still a driver"
     copy.run("tools/cases", "uses")
     assert copy.status and "there is no program" in copy.out, "after a source is edited the cases run"
-    copy.builds_here("svid_script")
-    assert driver() == f"{copy.folder}/crates/svid_script/out/svid_script"
+    copy.builds_driver()
+    assert driver() == f"{copy.folder}/out/driver/svid_script"
     copy.append_quietly(SOURCE)
     assert driver() is True, "after a source is edited there is still the driver that was built here"
 

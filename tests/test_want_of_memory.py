@@ -24,10 +24,10 @@ def text_of(path):
 
 SECTION = text_of("crates/PROOFS.md").partition("## Out of memory, call by call")[2].split("\n## ")[0]
 ROWS = [line for line in SECTION.splitlines() if line.startswith("| `")]
-# The crates that are libraries, but for the parts of the test driver.
+# The crates that are libraries.
 LISTED = [line.split(":")[0].split()[0] for line in text_of("crates.txt").splitlines() if line.strip() and not line.startswith("#")]
-# (the parts of the driver are what makes the calls, and the program, which is svid_cli, is starved by test_starved.py)
-LIBRARIES = [name for name in LISTED if not name.startswith(("svid_script_", "svid_cli")) and (TOP / f"crates/{name}/src/lib.rt").is_file()]
+# (the program, which is svid_cli, is starved by test_starved.py)
+LIBRARIES = [name for name in LISTED if name != "svid_cli" and (TOP / f"crates/{name}/src/lib.rt").is_file()]
 
 
 def calls(crate):

@@ -119,6 +119,10 @@ class Found(c.Structure):
     _fields_ = [("time", c.c_uint64), ("deaf", c.c_uint64), ("owner", c.c_uint8 * 32)]
 
 
+class KnownClaim(c.Structure):
+    _fields_ = [("exp", c.c_uint64), ("key", c.c_uint8 * 32), ("found", Found)]
+
+
 class Deadline(c.Structure):
     _fields_ = [("at", c.c_uint64)]
 

@@ -70,6 +70,17 @@ func open(t testing.TB, o Options) *Guard {
 	return g
 }
 
+// Options that are corrected open the folder that those of before could not.
+func TestOptionsThatAreCorrected(t *testing.T) {
+	o := usual(t)
+	o.Bundles[0].Domain = "A"
+	if _, err := Open(o); err == nil {
+		t.Fatal("a misspelled trust domain")
+	}
+	o.Bundles[0].Domain = "example.org"
+	open(t, o)
+}
+
 // hello answers who calls.
 var hello = http.HandlerFunc(func(w http.ResponseWriter, r *http.Request) { fmt.Fprintln(w, "hello", Caller(r).ID) })
 

@@ -31,7 +31,7 @@ func growing(t *testing.T, id ValidatorID, oldest, newest uint64) *Folder {
 	return f
 }
 
-// The example of docs/FORMATS.md ("State folder"): the first frame of journal 3 with the payload `hi`, where the validator ID is bytes 07.
+// A frame of docs/FORMATS.md ("Frame"), by hashlib as in tests/cases/journal.case: the first of journal 3 with the payload `hi`, where the validator ID is bytes 07.
 func TestAFrameIsThatOfTheFormat(t *testing.T) {
 	id := ValidatorID{7, 7, 7, 7, 7, 7, 7, 7, 7, 7, 7, 7, 7, 7, 7, 7}
 	f := growing(t, id, 1, 2)

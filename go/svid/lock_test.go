@@ -119,7 +119,7 @@ func TestEachCallOfAValidatorHoldsItsLock(t *testing.T) {
 	if err != nil {
 		t.Fatal(err)
 	}
-	read := [4]Token{NewToken(token), NewToken(token), NewToken(token), NewToken(token)}
+	read := [5]Token{NewToken(token), NewToken(token), NewToken(token), NewToken(token), NewToken(token)}
 	for i := range read {
 		defer read[i].Close()
 		if _, err := k.VerifyToken(&read[i]); err != nil {
@@ -129,6 +129,7 @@ func TestEachCallOfAValidatorHoldsItsLock(t *testing.T) {
 	calls := map[string]func(){
 		"Accept":       func() { _, _ = v.Accept(k, now, token) },
 		"Answer":       func() { _, _ = v.Answer(now, summary) },
+		"Ask":          func() { _, _, _ = v.Ask(now, 1, new([32]byte), new(KnownClaim), &read[4]) },
 		"Check":        func() { _, _ = v.Check(now, token, yes) },
 		"CheckToken":   func() { _, _ = v.CheckToken(now, &read[0]) },
 		"Close":        v.Close,

@@ -17,6 +17,13 @@ static uint32_t found_request(uint64_t *v, uint64_t now, uint64_t up, uint64_t n
                              (const uint8_t *)_GoStringPtr(input), _GoStringLen(input), signature, signature_len,
                              (svid_token *)t, out, out_len, used, deed, told);
 }
+static uint32_t ask_request(uint64_t *v, uint64_t now, uint64_t up, const uint8_t *caller, const svid_known_claim *known, _GoString_ key, _GoString_ input,
+                            const uint8_t *signature, size_t signature_len, uint64_t *t, uint8_t *out, size_t out_len, svid_use *used, svid_deed *deed,
+                            svid_told *told) {
+    return svid_member_ask((svid_validator *)v, now, up, caller, known, (const uint8_t *)_GoStringPtr(key), _GoStringLen(key),
+                           (const uint8_t *)_GoStringPtr(input), _GoStringLen(input), signature, signature_len,
+                           (svid_token *)t, out, out_len, used, deed, told);
+}
 */
 import "C"
 
@@ -233,6 +240,40 @@ func (v *Validator) Found(now uint64, up time.Duration, number uint64, caller [3
 		start(f.signature), C.size_t(len(f.signature)), &t.handle.word, start(v.id[:]), C.size_t(len(v.id)), &v.used, &v.deed, &v.told)
 	deed := v.done()
 	if deed.Kind == DeedAnswer && deed.Err != nil {
+		return Accepted{}, deed, deed.Err
+	}
+	accepted, err := v.accepted(status, t)
+	return accepted, deed, err
+}
+
+// A KnownClaim is what a store answered before to a put of a claim.
+type KnownClaim struct {
+	Key     TokenKey
+	Expires uint64 // when the token expires; no claim has 0
+	Found   Found
+}
+
+// Ask lets a request come whose key Keyring.VerifyToken has found before, and judges its token: Come and JudgeRequest at one moment. If a claim is to be
+// put and known (zeros for none) is of that claim, the request hears that answer at once, as by Found. The Deed has the number of the request also if
+// there is nothing to do.
+//
+// The error is that of JudgeRequest or Found. With NoRequest as the number no request came: an error of Come or of Token.Read; ErrUnasked where no number
+// is left.
+func (v *Validator) Ask(now uint64, up time.Duration, caller *[32]byte, known *KnownClaim, t *Token) (Accepted, Deed, error) {
+	if err := t.prepare(); err != nil {
+		return Accepted{}, Deed{Number: NoRequest}, err
+	}
+	v.mu.Lock()
+	defer v.mu.Unlock()
+	v.deed.what, v.deed.number = C.SVID_DEED_NOTHING, C.uint64_t(NoRequest)
+	v.known.exp, v.known.found.time, v.known.found.deaf = C.uint64_t(known.Expires), C.uint64_t(known.Found.Time), C.uint64_t(known.Found.Deaf)
+	*(*TokenKey)(unsafe.Pointer(&v.known.key)) = known.Key
+	*(*Owner)(unsafe.Pointer(&v.known.found.owner)) = known.Found.Owner
+	f := &t.found
+	status := C.ask_request(&v.handle.word, C.uint64_t(now), C.uint64_t(up), start(caller[:]), &v.known, f.key(), f.text, start(f.signature),
+		C.size_t(len(f.signature)), &t.handle.word, start(v.id[:]), C.size_t(len(v.id)), &v.used, &v.deed, &v.told)
+	deed := v.done()
+	if deed.Number = uint64(v.deed.number); deed.Kind == DeedAnswer && deed.Err != nil {
 		return Accepted{}, deed, deed.Err
 	}
 	accepted, err := v.accepted(status, t)

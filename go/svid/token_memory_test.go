@@ -75,8 +75,11 @@ func TestOtherAudiencesLeaveNothing(t *testing.T) {
 
 // However many bad tokens strangers send, they hold up nobody: each handle and each thread is there for the next token.
 func TestBadTokensHoldUpNobody(t *testing.T) {
-	k, v := keyring(t, example.Bundles()), open(t, 1)
-	good := example.Token("ES256", claims("held up"))
+	k, err := svid.NewKeyring(example.Bundles())
+	if err != nil {
+		t.Fatal(err)
+	}
+	v, good := open(t, 1), example.Token("ES256", claims("held up"))
 	unsigned := good[:strings.LastIndexByte(good, '.')+1]
 	for name, bad := range map[string]string{"no token": "a", "cut": good[:40], "forged": unsigned + strings.Repeat("A", 86), "of an unknown domain": example.Token("ES256", stranger()), "long": strings.Repeat("a", svid.MaxToken+1)} {
 		done := make(chan struct{})
@@ -94,9 +97,10 @@ func TestBadTokensHoldUpNobody(t *testing.T) {
 		select {
 		case <-done:
 		case <-time.After(patience.Long):
-			t.Fatalf("%s: tokens hold up those behind them", name)
+			t.Fatalf("%s: tokens hold up those behind them", name) // (and so they would Close)
 		}
 	}
+	k.Close()
 }
 
 // stranger are claims of another trust domain.

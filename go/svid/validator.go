@@ -70,6 +70,7 @@ type Validator struct {
 	// And of a member.
 	deed       C.svid_deed
 	found      C.svid_found
+	known      C.svid_known_claim
 	caller     [32]byte
 	due        C.svid_deadline
 	withdrawal C.svid_withdrawal

@@ -9,15 +9,12 @@ import (
 	"testing"
 
 	"svid.example/go/v3/internal/issuer"
-	"svid.example/go/v3/internal/refusing"
+	"svid.example/go/v3/internal/scarce"
 )
 
 // Where OpenSSL is refused memory, no key is taken for one that can't be used, no good signature for a bad one, and no bad
 // one for a good one.
 func TestEachAllocationOfOpenSSLRefused(t *testing.T) {
-	if !refusing.Works() {
-		t.Fatal("OpenSSL does not take the allocations of this test")
-	}
 	one, err := issuer.New("example.org")
 	if err != nil {
 		t.Fatal(err)
@@ -41,7 +38,7 @@ func TestEachAllocationOfOpenSSLRefused(t *testing.T) {
 			parsed, verified := 0, 0
 			for n := 0; ; n++ {
 				var key *Key
-				if refusing.During(n, all, func() { key = parseKey(jwk, UsualRSABits) }) == 0 {
+				if scarce.During(n, all, func() { key = parseKey(jwk, UsualRSABits) }) == 0 {
 					break
 				}
 				if parsed++; key.fault != nil && !errors.Is(key.fault, ErrNoMemory) {
@@ -54,8 +51,8 @@ func TestEachAllocationOfOpenSSLRefused(t *testing.T) {
 					t.Fatal(key.fault)
 				}
 				var isGood, isBad error
-				refused := refusing.During(n, all, func() { isBad = key.Verify(algorithm, s.text, bad) })
-				if refused += refusing.During(n, all, func() { isGood = key.Verify(algorithm, s.text, good) }); refused == 0 {
+				refused := scarce.During(n, all, func() { isBad = key.Verify(algorithm, s.text, bad) })
+				if refused += scarce.During(n, all, func() { isGood = key.Verify(algorithm, s.text, good) }); refused == 0 {
 					break
 				}
 				if verified++; isGood != nil && isGood != ErrNoMemory || isBad != ErrSignature && isBad != ErrNoMemory {
@@ -97,7 +94,7 @@ func TestAKeyringIsRefusedMemory(t *testing.T) {
 				if known {
 					verify("at first", tokens[0])
 				}
-				refused = refusing.During(n, true, func() {
+				refused = scarce.During(n, true, func() {
 					if yes, err := keyring.Verify(tokens[1]); err == nil && len(yes) != 1 || err != nil && (err != ErrNoMemory || len(yes) != 0) {
 						t.Errorf("%s, known %v, allocation %d: %d questions, and %v", algorithm, known, n, len(yes), err)
 					}

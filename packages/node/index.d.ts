@@ -146,6 +146,11 @@ export interface Store {
    */
   put(claims: readonly Claim[], about: Asked): Promise<readonly Found[]>;
   /**
+   * Is `put`, with an Error in the place of each answer that is not there. A store whose claims are on several servers may have it: validators call it
+   * instead, and put again what has no answer.
+   */
+  putEach?(claims: readonly Claim[], about: Asked): Promise<readonly (Found | Error)[]>;
+  /**
    * From now on each put of this key finds an owner of 32 zeros, whoever claimed it before. The entry stays as one with this expiry does. What it
    * answers does not count.
    */

@@ -16,9 +16,10 @@ STANDS_AT(svid_known, caught_up, 40); STANDS_AT(svid_known, draining, 48); STAND
 STANDS_AT(svid_known, deaf, 80); STANDS_AT(svid_known, ended, 88);
 STANDS_AT(svid_deed, what, 0); STANDS_AT(svid_deed, number, 8); STANDS_AT(svid_deed, status, 16); STANDS_AT(svid_deed, next, 24); STANDS_AT(svid_deed, used, 32);
 STANDS_AT(svid_found, time, 0); STANDS_AT(svid_found, deaf, 8); STANDS_AT(svid_found, owner, 16); STANDS_AT(svid_deadline, at, 0);
+STANDS_AT(svid_known_claim, exp, 0); STANDS_AT(svid_known_claim, key, 8); STANDS_AT(svid_known_claim, found, 40);
 STANDS_AT(svid_withdrawal, number, 0); STANDS_AT(svid_withdrawal, disk, 8); STANDS_AT(svid_withdrawal, store, 16); STANDS_AT(svid_withdrawal, log, 24);
 STANDS_AT(svid_pacing, calls, 0); STANDS_AT(svid_pacing, at, 8); STANDS_AT(svid_pacing, pause, 16);
-_Static_assert(sizeof(svid_member_terms) == 72 && sizeof(svid_known) == 96 && sizeof(svid_deed) == 96 && sizeof(svid_found) == 48, "sizes");
+_Static_assert(sizeof(svid_member_terms) == 72 && sizeof(svid_known) == 96 && sizeof(svid_deed) == 96 && sizeof(svid_found) == 48 && sizeof(svid_known_claim) == 88, "sizes");
 _Static_assert(sizeof(svid_deadline) == 8 && sizeof(svid_withdrawal) == 32 && sizeof(svid_pacing) == 24, "sizes");
 
 /* When a request comes, by the clock of `up`, and how long it waits; and how far a store may be ahead, and how long past its time a token may expire. */
@@ -102,7 +103,7 @@ static void write_cards(void) {
 /* ---- Calls, by what they are lent ---- */
 
 enum {
-    OPEN, KNOW, JUDGES, READY, COME, JUDGE, WROTE, SEND, FOUND, LEAVE, OVERDUE, DUE, RULES, WITHDRAWAL_COME, WITHDRAWAL_TOLD, WITHDRAWAL_OVERDUE,
+    OPEN, KNOW, JUDGES, READY, COME, JUDGE, WROTE, SEND, FOUND, ASK, LEAVE, OVERDUE, DUE, RULES, WITHDRAWAL_COME, WITHDRAWAL_TOLD, WITHDRAWAL_OVERDUE,
     MAY_SEND, PACING_DUE, SENT, ANSWERED, UNANSWERED
 };
 
@@ -120,17 +121,19 @@ typedef struct {
     const svid_known *known;
     const uint8_t *caller;
     const svid_found *found;
+    const svid_known_claim *claim;
     svid_token *t;
     uint8_t *out; size_t room;
     svid_use *used; svid_deed *deed; svid_told *told; svid_deadline *due; svid_withdrawal *made; svid_pacing *pacing;
 } loan;
 
 static const svid_known GOOD = { 1, 1, 1, 1, 1, 1, 0, 0, 0, 0, 0, 0 };
+static const svid_known_claim NO_CLAIM;
 static const uint8_t OWNER_ONE[32] = { 1 }, OWNER_TWO[32] = { 2 };
 
 static loan lent(svid_validator *v, answer *a) {
     loan l = { v, NOW, UP, 0, 1, SVID_AT_DISK, 0, 1, { { jwk, jwk_len }, { NULL, 0 }, { "sig", 3 }, { "ledger\n\nthird", 13 }, { "spiffe://example.org\n\nspiffe://example.org/billing/" "*", 49 } },
-               NULL, &GOOD, OWNER_ONE, NULL, NULL, a->out, sizeof a->out, &a->used, &a->deed, &a->told, &a->due, &a->made, &a->pacing };
+               NULL, &GOOD, OWNER_ONE, NULL, &NO_CLAIM, NULL, a->out, sizeof a->out, &a->used, &a->deed, &a->told, &a->due, &a->made, &a->pacing };
     return l;
 }
 
@@ -148,6 +151,7 @@ static uint32_t call_with(int which, const loan *l) {
     case WROTE: return svid_member_wrote(l->v, l->up, l->number, l->ok, l->deed);
     case SEND: return svid_member_send(l->v, l->up, l->number, l->deed);
     case FOUND: return svid_member_found(l->v, l->now, l->up, l->number, l->caller, l->found, in[KEY].bytes, in[KEY].len, in[INPUT].bytes, in[INPUT].len, in[SIGNATURE].bytes, in[SIGNATURE].len, l->t, l->out, l->room, l->used, l->deed, l->told);
+    case ASK: return svid_member_ask(l->v, l->now, l->up, l->caller, l->claim, in[KEY].bytes, in[KEY].len, in[INPUT].bytes, in[INPUT].len, in[SIGNATURE].bytes, in[SIGNATURE].len, l->t, l->out, l->room, l->used, l->deed, l->told);
     case LEAVE: return svid_member_leave(l->v, l->up, l->number, l->deed);
     case OVERDUE: return svid_member_overdue(l->v, l->up, l->deed);
     case DUE: return svid_member_due(l->v, l->due);
@@ -616,9 +620,9 @@ static void threads(void) {
 /* ---- How long calls take ---- */
 
 enum { OPEN_REQUESTS = 1000, MEASURED = 20000 };
-static const char *const TIMED[] = { [COME] = "come", [JUDGE] = "judge", [WROTE] = "wrote", [SEND] = "send", [FOUND] = "found", [LEAVE] = "leave", [OVERDUE] = "overdue" };
-static uint64_t spent[FOUND + 3][2 * MEASURED], ran[FOUND + 3][2 * MEASURED];
-static size_t spent_count[FOUND + 3];
+static const char *const TIMED[] = { [COME] = "come", [JUDGE] = "judge", [WROTE] = "wrote", [SEND] = "send", [FOUND] = "found", [ASK] = "ask", [LEAVE] = "leave", [OVERDUE] = "overdue" };
+static uint64_t spent[OVERDUE + 1][2 * MEASURED], ran[OVERDUE + 1][2 * MEASURED];
+static size_t spent_count[OVERDUE + 1];
 
 static uint64_t nanoseconds(clockid_t clock) {
     struct timespec t;

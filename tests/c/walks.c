@@ -25,6 +25,13 @@ static void found_at(svid_validator *v, uint64_t now, uint64_t up, uint64_t numb
     make(FOUND, &l);
 }
 static void found(svid_validator *v, uint64_t up, uint64_t number, int which, const svid_found *f) { found_at(v, NOW, up, number, which, OWNER_ONE, f); }
+static void ask_at(svid_validator *v, uint64_t now, uint64_t up, int which, const uint8_t *caller, const svid_known_claim *claim) {
+    clear(&got);
+    loan l = lent(v, &got);
+    with_card(&l, &cards[which], &handles[which]);
+    l.now = now, l.up = up, l.caller = caller, l.claim = claim;
+    make(ASK, &l);
+}
 static void leave(svid_validator *v, uint64_t up, uint64_t number) { clear(&got); loan l = lent(v, &got); l.up = up, l.number = number; make(LEAVE, &l); }
 static void overdue(svid_validator *v, uint64_t up) { clear(&got); loan l = lent(v, &got); l.up = up; make(OVERDUE, &l); }
 static uint64_t due(svid_validator *v) { clear(&got); loan l = lent(v, &got); make(DUE, &l); holds(got.status == SVID_OK, "when it is due"); return got.due.at; }
@@ -631,14 +638,16 @@ static void nothing_happens(void) {
     holds(svid_member_judges(&v) == SVID_NO_MEMBER, "it has no member");
     svid_validator_close(&v);
     /* Of the calls that judge: a closed token, a jump, a small room, a log; in this order. */
-    for (int which = JUDGE; which <= FOUND; which += FOUND - JUDGE) {
+    static const struct { int which; const char *name; } judging[] = { { JUDGE, "svid_member_judge" }, { FOUND, "svid_member_found" }, { ASK, "svid_member_ask" } };
+    for (size_t i = 0; i < COUNT(judging); i++) {
+        int which = judging[i].which;
         for (unsigned bits = 1; bits < 16; bits++) {
             static const uint32_t statuses[] = { SVID_CLOSED, SVID_JUMP, SVID_TOO_SHORT, SVID_HAS_LOG };
             int first = bits & 1 ? 0 : bits & 2 ? 1 : bits & 4 ? 2 : 3;
-            at = which == JUDGE ? "svid_member_judge" : "svid_member_found";
+            at = judging[i].name;
             join(&v, 1, 1, SVID_STRICT, 0);
             holds(svid_validator_tick(&v, NOW, &told) == SVID_OK, "a tick");
-            come(&v, UP);
+            if (which != ASK) come(&v, UP);
             if (which == FOUND) judge(&v, UP, 0, FIRST);
             if (bits & 8) holds(svid_validator_log(&v, &from, 0, LASTS, NULL, 0, &told) == SVID_OK, "a log");
             store s = { .time = NOW };
@@ -654,7 +663,8 @@ static void nothing_happens(void) {
             got.told.len = 0;
             holds(writes_nothing() && moment_of(&v) == NOW && uses_of(&v) == 0, "nothing happens");
             if (!(bits & 8)) {
-                if (which == JUDGE) judge(&v, UP, 0, FIRST), accepts(FIRST, own, to_claim(0, &own), "the request still waits");
+                if (which == ASK) come(&v, UP), does(SVID_OK, to_judge(0), "no request came");
+                else if (which == JUDGE) judge(&v, UP, 0, FIRST), accepts(FIRST, own, to_claim(0, &own), "the request still waits");
                 else found(&v, UP, 0, FIRST, &f), accepts(FIRST, own, acceptance(0, NONE, &own), "the request still waits");
             }
             svid_validator_close(&v);
@@ -712,6 +722,59 @@ static void unasked_walk(void) {
     svid_validator_close(&v);
 }
 
+/* What a request does that comes, is judged, and hears of a claim, in three calls that write to the same room. */
+static void in_three_calls(svid_validator *v, uint64_t now, uint64_t up, int which, const uint8_t *caller, const svid_known_claim *claim) {
+    come(v, up);
+    loan l = lent(v, &got);
+    with_card(&l, &cards[which], &handles[which]);
+    l.now = now, l.up = up, l.number = got.deed.number, l.caller = caller, l.found = &claim->found;
+    if (got.status != SVID_OK) return;
+    make(JUDGE, &l);
+    if (got.deed.what == SVID_DEED_CLAIM && got.deed.used.exp == claim->exp && !memcmp(got.deed.used.key, claim->key, sizeof claim->key)) make(FOUND, &l);
+    if (got.deed.what == SVID_DEED_NOTHING) got.deed.number = l.number;
+}
+
+/* svid_member_ask does what these three do: in each mode, of each token, whatever is known of its claim, and whether it may be asked or not. */
+static void ask_walk(void) {
+    enum { IS_NONE, IS_OWN, IS_OF_ANOTHER, IS_WITHDRAWN, IS_FAR, IS_DEAF, IS_OF_ANOTHER_EXPIRY, IS_OF_ANOTHER_KEY, KINDS };
+    static answer three;
+    static uint8_t told_of[2][4096];
+    int heard = 0;
+    at = "svid_member_ask";
+    for (uint64_t mode = SVID_ONCE; mode <= SVID_REUSE; mode++) for (int which = 0; which < CARDS; which++) for (int kind = 0; kind < KINDS; kind++) for (int state = 0; state < 4; state++) {
+        svid_validator v[2];
+        svid_use own = use_of(which, NOW, 1);
+        svid_known_claim claim = { own.exp, { 0 }, { NOW, 0, { 0 } } };
+        memcpy(claim.key, own.key, sizeof claim.key);
+        store s = { .time = kind == IS_FAR ? NOW - LASTS : NOW, .deaf = kind == IS_DEAF ? own.exp : 0 };
+        if (kind == IS_OF_ANOTHER) put(&s, own.key, OWNER_TWO);
+        if (kind != IS_WITHDRAWN) claim.found = mode == SVID_STRICT ? put_of_life(&s, &own, 1) : put_of_caller(&s, &own, OWNER_ONE);
+        if (kind == IS_OF_ANOTHER_EXPIRY) claim.exp++;
+        if (kind == IS_OF_ANOTHER_KEY) claim.key[31] ^= 1;
+        for (int i = 0; i < 2; i++) {
+            static const svid_known none;
+            join(&v[i], 1, 1, mode, 1);
+            if (state == 1) rules(&v[i], "ledger", 0, "");
+            if (state == 2) holds(svid_member_know(&v[i], &none) == SVID_OK, "what it knows");
+            if (state == 3) come(&v[i], UP), judge(&v[i], UP, 0, which); /* (another request has the claim) */
+        }
+        for (int turn = 0; turn < 3; turn++) {
+            const uint8_t *caller = turn == 1 ? OWNER_TWO : OWNER_ONE;
+            in_three_calls(&v[0], NOW + (uint64_t)turn, UP, which, caller, kind == IS_NONE ? &NO_CLAIM : &claim);
+            memcpy(&three, &got, sizeof got);
+            ask_at(&v[1], NOW + (uint64_t)turn, UP, which, caller, kind == IS_NONE ? &NO_CLAIM : &claim);
+            if (memcmp(&got, &three, sizeof got)) printf("mode %d, card %d, kind %d, state %d, turn %d: %u and %u\n", (int)mode, which, kind, state, turn, got.status, three.status);
+            holds(!memcmp(&got, &three, sizeof got), "it does what three calls do");
+            heard += got.status == SVID_OK && got.deed.what == SVID_DEED_ANSWER && (mode == SVID_STRICT || mode == SVID_BOUND);
+            holds(due(&v[0]) == due(&v[1]), "when it is due");
+        }
+        size_t len = record(&v[0], told_of[0], sizeof told_of[0]);
+        holds(len == record(&v[1], told_of[1], sizeof told_of[1]) && !memcmp(told_of[0], told_of[1], len), "its record");
+        for (int i = 0; i < 2; i++) svid_validator_close(&v[i]);
+    }
+    holds(heard >= 9, "known claims are heard");
+}
+
 /* A call goes out at once if none is under way. Else it goes out after 20 ms, or if 32 claims wait and fewer than 4 calls are under way. No more than 64
  * are under way. The claims of a call without an answer wait 10 ms, and twice as long each time, up to 250 ms. */
 static void pacing_walk(void) {
@@ -761,6 +824,7 @@ static void answers(void) {
     readiness_walk();
     withdrawals_walk();
     nothing_happens();
+    ask_walk();
     pacing_walk();
     unasked_walk();
     close_cards();
@@ -780,7 +844,7 @@ static card random_cards[RANDOM_CARDS];
 static svid_token random_handles[RANDOM_CARDS];
 
 /* A member with its requests, what its disk has, and how often it accepted each token over its restarts. */
-typedef struct { svid_validator v; uint8_t life; request requests[MOST_REQUESTS]; uint64_t count; uint8_t disk[RANDOM_CARDS][SVID_BATCH_OF_LEN]; size_t written; int accepted[RANDOM_CARDS]; } peer;
+typedef struct { svid_validator v; uint8_t life; request requests[MOST_REQUESTS]; uint64_t count; uint8_t disk[RANDOM_CARDS][SVID_BATCH_OF_LEN]; size_t written; int accepted[RANDOM_CARDS]; svid_known_claim known[RANDOM_CARDS]; } peer;
 static peer peers[MEMBERS];
 static int accepted_in_all[RANDOM_CARDS], accepted_of[RANDOM_CARDS], accepted_ever;
 
@@ -854,7 +918,12 @@ static void event(peer *p, store *s, uint64_t mode, uint64_t up, uint64_t kind, 
         else {
             does(SVID_OK, to_claim(n, &r->used), "a claim goes out");
             /* (a put may be lost on its way to the store) */
-            if (below(4)) r->last = mode == SVID_BOUND ? put_of_caller(s, &r->used, r->caller) : put_of_life(s, &r->used, p->life), r->is_put = 1;
+            if (below(4)) {
+                svid_known_claim *known = &p->known[r->card];
+                r->last = mode == SVID_BOUND ? put_of_caller(s, &r->used, r->caller) : put_of_life(s, &r->used, p->life), r->is_put = 1;
+                known->exp = r->used.exp, known->found = r->last;
+                memcpy(known->key, r->used.key, sizeof known->key);
+            }
         }
     } else if (kind == 4 && r->is_put) {
         /* (an answer of the store may come twice, and late) */
@@ -868,6 +937,21 @@ static void event(peer *p, store *s, uint64_t mode, uint64_t up, uint64_t kind, 
     } else {
         got.deed = nothing();
     }
+}
+
+/* The last request of a member comes and is judged in one call, by what the store answered to the last put of its token here. */
+static void ask_in(peer *p, uint64_t mode, uint64_t up) {
+    uint64_t n = p->count - 1;
+    request *r = &p->requests[n];
+    clear(&got);
+    loan l = lent(&p->v, &got);
+    with_card(&l, &random_cards[r->card], &random_handles[r->card]);
+    l.up = up, l.caller = r->caller, l.claim = &p->known[r->card];
+    int is_free = first_of(p, r->card, 0) == NONE;
+    make(ASK, &l);
+    holds(got.deed.number == n, "a request comes");
+    if (got.status == SVID_OK && (mode == SVID_STRICT || mode == SVID_BOUND)) holds((got.deed.what != SVID_DEED_NOTHING) == is_free, "one claim of a token");
+    if (got.deed.what == SVID_DEED_NOTHING) r->stage = TO_WAIT;
 }
 
 static void random_walk(uint64_t mode) {
@@ -886,9 +970,9 @@ static void random_walk(uint64_t mode) {
             request r = { .card = (int)below(RANDOM_CARDS), .deadline = up + WAIT, .caller = { (uint8_t)(1 + below(2)) } };
             /* (every other one comes with the token of another that waits) */
             if (p->count && below(2)) r.card = p->requests[p->count - 1].card;
-            come(&p->v, up);
-            does(SVID_OK, to_judge(p->count), "a request comes");
             p->requests[p->count++] = r;
+            if (below(3)) come(&p->v, up), does(SVID_OK, to_judge(p->count - 1), "a request comes");
+            else ask_in(p, mode, up), follow(p, mode);
         } else if (kind == 6) {
             uint64_t first = 0;
             while (first < p->count && p->requests[first].stage == DONE) first++;

@@ -1,6 +1,7 @@
 pub mod Allowed
 pub mod Alone
 pub mod Answered
+pub mod Asks
 pub mod Bearer
 pub mod Buckets
 pub mod Checked

@@ -1,5 +1,5 @@
 -- What the calls on a member that C keeps do.
-use Rattle.std.specs.Prelude.{◌≡◌, ◌⊎◌, ℕ, min, Bool, true, false, not, ◌==◌, List, [], ◌∷◌, Option, Some, None, if◌then◌else◌}
+use Rattle.std.specs.Prelude.{◌≡◌, ◌⊎◌, ℕ, min, Bool, false, not, ◌==◌, List, [], ◌∷◌, Option, Some, None, if◌then◌else◌}
 use Rattle.svid_id.specs.Id.{IdParts}
 use Rattle.svid_allow.specs.Allows.{Allows}
 use Rattle.svid_allow.specs.Pattern.{PatternParts}

@@ -1,5 +1,5 @@
 -- What replacing the audiences of a validator and the callers of its member does.
-use Rattle.std.specs.Prelude.{◌≡◌, ◌⊎◌, ℕ, Bool, true, false, List, map, Option, Some, None}
+use Rattle.std.specs.Prelude.{◌≡◌, ◌⊎◌, ℕ, true, false, List, map, Option, Some, None}
 use Rattle.std.specs.List.{Contains}
 use Rattle.svid_id.specs.declared.id_fault.IdFault.{IdFault}
 use Rattle.svid_id.specs.declared.id_fault.IdFault.TheVariants.{OutOfMemory}

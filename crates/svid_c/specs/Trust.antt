@@ -13,11 +13,10 @@ use Rattle.svid_keys.specs.Question.{field, question_of}
 use Rattle.svid_check.specs.Said.{Said, reading_of}
 use Rattle.svid_check.specs.Setting.{with_bundles}
 use Rattle.svid_check.specs.Verdict.{keys_due}
-use Rattle.svid_share.specs.declared.tool_fault.ToolFault.{ToolFault}
 use Rattle.svid_c.specs.Checked.{RefusesAs, refusal_number}
 use Rattle.svid_c.specs.Inputs.{AreBundles, RefusesBundles}
 use Rattle.svid_c.specs.Live.{Kept}
-use Rattle.svid_c.specs.Status.{fault_number, told_fault, told_length, told_rows}
+use Rattle.svid_c.specs.Status.{told_length, told_rows}
 use Rattle.svid_c.specs.Written.{IsPut}
 use Rattle.svid_c.specs.declared.bundles_question.SvidQuestion.{SvidQuestion}
 use Rattle.svid_c.specs.declared.told.SvidTold.{SvidTold}

@@ -71,7 +71,7 @@ pub(crate) fn next_number(next: Option<u64>) -> u64
 }
 
 // A deed without a use.
-fn deed_by(what: u64, number: u64) -> SvidDeed
+pub(crate) fn deed_by(what: u64, number: u64) -> SvidDeed
     ensures { result ≡ deed_by what number }
 {
     SvidDeed {

@@ -45,6 +45,7 @@ mod key_spki;
 mod key_text;
 mod lent;
 mod live;
+mod member_ask;
 mod member_due;
 mod member_found;
 mod member_judge;

@@ -84,7 +84,7 @@ fn tell_claim(
 
 impl Peer {
     // Gives a request the store's answer to its claim.
-    fn find(
+    pub(crate) fn find(
         &mut self,
         validator: &mut Validator<Nobody, Store>,
         now: u64,

@@ -66,7 +66,7 @@ pub(crate) fn number_if_not_allowed(answer: &Result<Accepted, Refusal>) -> u8
 
 impl Peer {
     // Has a validator judge the token of a request.
-    fn judge(
+    pub(crate) fn judge(
         &mut self,
         validator: &mut Validator<Nobody, Store>,
         now: u64,

@@ -57,7 +57,7 @@ impl Peer {
         deed_seen(tell(&mut self.member, up, heard))
     }
 
-    fn come(&mut self, up: u64, deed: &mut SvidDeed) -> u32
+    pub(crate) fn come(&mut self, up: u64, deed: &mut SvidDeed) -> u32
         ensures { Arrival up result deed.old deed.new self.old self.new }
     {
         match self.member.come(up) {

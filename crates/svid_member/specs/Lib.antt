@@ -2,6 +2,7 @@ pub mod Claiming
 pub mod Judging
 pub mod Members
 pub mod Modes
+pub mod Owners
 pub mod Pacing
 pub mod Readiness
 pub mod Reasons

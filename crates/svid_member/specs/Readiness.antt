@@ -1,5 +1,5 @@
 -- When a member judges tokens, and when some are to be sent to it.
-use Rattle.std.specs.Prelude.{Bool, true, false, not, ◌&&◌, ◌||◌, List, [], ◌∷◌, ◌++◌, Option, Some, None, if◌then◌else◌}
+use Rattle.std.specs.Prelude.{Bool, true, false, not, ◌&&◌, ◌||◌, List, [], ◌∷◌, Option, Some, None, if◌then◌else◌}
 use Rattle.svid_member.specs.declared.mode.Mode.{Mode}
 use Rattle.svid_member.specs.declared.mode.Mode.TheVariants.{Once, Strict, Bound, Reuse}
 use Rattle.svid_member.specs.declared.readiness.Readiness.{Readiness}

@@ -56,19 +56,31 @@ impl Member {
         owner_by(self.mode.is_bound(), &self.life, used, caller)
     }
 
+    // The same, by what was digested before.
+    fn known_owner(&mut self, used: &Use, caller: &[u8; 32]) -> Owner
+        ensures owner { result.bytes ≡ owner_for self.old used.now caller.now }
+        ensures same { self.new ≡ self.old }
+    {
+        if self.mode.is_bound() {
+            return self.owners.of_caller(caller, used.exp);
+        }
+        self.owner(used, caller)
+    }
+
     // The outcome of a claim by its store's answer.
     fn outcome<V: Verifier, S: UseStore>(
-        &self,
+        &mut self,
         validator: &Validator<V, S>,
         now: u64,
         used: &Use,
         caller: &[u8; 32],
         found: &Found,
     ) -> Outcome
-        ensures { result ≡ outcome_of (claim_for self.now used.now caller.now) found.now self.now.lasts (look_at self.now (max validator.now.state.moment now) found.now) }
+        ensures outcome { result ≡ outcome_of (claim_for self.old used.now caller.now) found.now self.old.lasts (look_at self.old (max validator.now.state.moment now) found.now) }
+        ensures same { self.new ≡ self.old }
     {
         let claim = Claim {
-            owner: self.owner(used, caller),
+            owner: self.known_owner(used, caller),
             exp: used.exp,
         };
         let moment = validator.replay().moment().max(now);

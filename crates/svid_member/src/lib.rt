@@ -11,6 +11,7 @@ mod coming;
 mod judging;
 mod member;
 mod mode;
+mod owners;
 mod pacing;
 mod part;
 mod place;

@@ -8,6 +8,7 @@ ghost use Rattle.svid_member.specs.Readiness.{blocks, doubts};
 
 use crate::coming::Coming;
 use crate::mode::Mode;
+use crate::owners::Owners;
 use crate::readiness::Readiness;
 use crate::unready::Unready;
 use std::alloc::{AllocError, Global};
@@ -25,6 +26,7 @@ pub struct Member {
     pub(crate) lasts: u64,
     pub(crate) readiness: Readiness,
     pub(crate) requests: Requests,
+    pub(crate) owners: Owners,
 }
 
 impl Model for Member {
@@ -59,6 +61,7 @@ impl Member {
             lasts,
             readiness,
             requests: Requests::new(alloc, mode.needs(kept), wait),
+            owners: Owners::new(alloc),
         }
     }
 

@@ -13,14 +13,16 @@ import (
 )
 
 // A list is a string of withdrawals, one after the other. Each has withdrawalLength bytes: the letters svw1, the token's key,
-// when it expires, with the most significant byte first, and the CRC-32C of all these. A reader passes over bytes that are none. So
-// it can read a page of a list that anybody may have written to.
+// when it expires, with the most significant byte first, and the CRC-32C of all these. A reader passes over bytes that are none, and looks at each
+// byte for the beginning of one. So one that was cut off hides none, even where the first bytes of the next one make it whole.
 const (
 	withdrawalMark   = "svw1"
 	withdrawalLength = 4 + 32 + 8 + 4
 	listShare        = 4 // of the time that a withdrawal counts, in which one list takes them
 	mostLists        = 8 // that are read
 	mostPages        = 64
+	// A page has as many as one call returns, after the rest of the last one that was read.
+	mostPage = (claims.MostWithdrawals+1)*withdrawalLength - 1
 )
 
 var castagnoli = crc32.MakeTable(crc32.Castagnoli)
@@ -186,9 +188,8 @@ func (s *Store) Withdrawals(ctx context.Context, after string) (these []claims.W
 // read reads pages of lists.
 func (s *Store) read(ctx context.Context, c *conn, it *shard, p position) (these []claims.Withdrawal, _ position, err error) {
 	for pages := 0; pages < mostPages && len(these) < claims.MostWithdrawals; pages++ {
-		most := uint64((claims.MostWithdrawals - len(these)) * withdrawalLength)
 		answers, err := c.do(ctx, cmd("GETRANGE", it.prefix+"epoch", 0, mostRecord), cmd("STRLEN", it.listKey(p.list)),
-			cmd("GETRANGE", it.listKey(p.list), strconv.FormatUint(p.at, 10), strconv.FormatUint(p.at+most-1, 10)), cmd("TIME"))
+			cmd("GETRANGE", it.listKey(p.list), strconv.FormatUint(p.at, 10), strconv.FormatUint(p.at+mostPage-1, 10)), cmd("TIME"))
 		if err == nil {
 			err = firstFailure(answers)
 		}
@@ -205,12 +206,12 @@ func (s *Store) read(ctx context.Context, c *conn, it *shard, p position) (these
 		if r.list > mostLists {
 			first = r.list - mostLists
 		}
-		if p.epoch != r.id || p.list < first || p.list > r.list || p.at > uint64(length) && p.list == r.list {
-			if p.epoch == r.id && p.list >= first && p.list <= r.list {
-				p.at = 0 // (somebody removed it)
-				continue
-			}
+		switch {
+		case p.epoch != r.id || p.list < first || p.list > r.list:
 			p = position{r.id, first, 0}
+			continue
+		case p.list == r.list && p.at > uint64(length):
+			p.at = 0 // (somebody removed it)
 			continue
 		}
 		seconds, _, err := timeOf(answers[3])
@@ -218,21 +219,15 @@ func (s *Store) read(ctx context.Context, c *conn, it *shard, p position) (these
 			return nil, p, err
 		}
 		far := plus(plus(seconds, r.terms.Lasts), r.terms.Back) // No store takes a withdrawal of a token that lives for longer.
-		at := 0
-		for at+withdrawalLength <= len(text) {
-			w, ok := readWithdrawal(text[at:])
-			if !ok {
-				at++
-				continue
-			}
-			if w.Expires <= far {
+		more := len(text) == mostPage
+		for ; len(text) >= withdrawalLength && len(these) < claims.MostWithdrawals; text = text[1:] {
+			if w, ok := readWithdrawal(text); ok && w.Expires <= far {
 				these = append(these, w)
 			}
-			at += withdrawalLength
+			p.at++
 		}
-		p.at += uint64(at)
-		if len(text) == int(most) {
-			continue // (there may be more)
+		if more || len(text) >= withdrawalLength {
+			continue
 		}
 		if p.list == r.list {
 			break

@@ -1,6 +1,7 @@
 package redis
 
 import (
+	"encoding/binary"
 	"fmt"
 	"math"
 	"strconv"
@@ -106,14 +107,20 @@ func TestGarbageInAList(t *testing.T) {
 	s := start(t)
 	a := opened(t, Options{URLs: []string{s.URL}})
 	const list = "svid:{svid}:withdrawn:1"
-	// (One of 256 that are cut off is whole again by the first byte of the next one, and then hides that.)
-	cut := withdrawalText(withdrawal())
-	for cut[47] == withdrawalMark[0] {
-		cut = withdrawalText(withdrawal())
+	// The last bytes of these are the first ones of whatever follows them.
+	endsIn := func(text string) claims.Withdrawal {
+		w := withdrawal()
+		for n := uint64(0); ; n++ {
+			binary.BigEndian.PutUint64(w.Key[16:], n)
+			if strings.HasSuffix(string(withdrawalText(w)), text) {
+				return w
+			}
+		}
 	}
 	var due []claims.Withdrawal
 	position := ""
-	for _, garbage := range []string{"", "x", "svw1", strings.Repeat("svw1", 11), strings.Repeat("x", 47), strings.Repeat("y", 200_000), string(cut[:47])} {
+	for _, garbage := range []string{"", "x", "svw1", strings.Repeat("svw1", 11), strings.Repeat("x", 47), strings.Repeat("y", 200_000),
+		string(withdrawalText(endsIn("\x00"))[:47])} {
 		s.do(t, "APPEND", list, garbage)
 		w := withdrawal()
 		claimstest.Withdraw(t, a, w)
@@ -123,6 +130,15 @@ func TestGarbageInAList(t *testing.T) {
 		position = last
 	}
 	all, _ := claimstest.Withdrawals(t, a, "")
+	same(t, all, due)
+	for _, rest := range []string{"s", "sv"} { // (what is cut off here is whole by the next one)
+		cut := endsIn(rest)
+		s.do(t, "APPEND", list, strings.TrimSuffix(string(withdrawalText(cut)), rest))
+		w := withdrawal()
+		claimstest.Withdraw(t, a, w)
+		due = append(due, cut, w)
+	}
+	all, _ = claimstest.Withdrawals(t, a, "")
 	same(t, all, due)
 	s.do(t, "APPEND", list, strings.Repeat("z", mostPages*claims.MostWithdrawals*withdrawalLength+1)) // (one call does not read so much)
 	behind := withdrawal()
@@ -144,6 +160,21 @@ func TestGarbageInAList(t *testing.T) {
 	s.do(t, "SET", list, string(withdrawalText(due[0]))) // (who had read more reads all again)
 	more, _ := claimstest.Withdrawals(t, a, position)
 	same(t, more, due[:1])
+	// As many in a page as fit, and more than a call returns.
+	var text strings.Builder
+	due = nil
+	for len(due) < claims.MostWithdrawals+100 {
+		due = append(due, endsIn("s"))
+		text.Write(withdrawalText(due[len(due)-1])[:47])
+	}
+	s.do(t, "SET", list, text.String()+"s")
+	s.do(t, "CONFIG", "RESETSTAT")
+	all, _ = claimstest.Withdrawals(t, a, "")
+	same(t, all, due)
+	reads := s.do(t, "EVAL", "return tonumber(redis.call('INFO', 'commandstats'):match('cmdstat_getrange:calls=(%d+)'))", "0")
+	if n, err := strconv.Atoi(strings.TrimPrefix(reads, ":")); err != nil || n > 20 {
+		t.Errorf("%s reads of %d withdrawals, %v", reads, len(due), err)
+	}
 }
 
 // An epoch that another member names has an ID of digits, whatever that member writes: it stands in positions, logs and metrics.

@@ -23,7 +23,7 @@ import (
 const usual = "3.0.0"
 
 // left are the folders of the module that only its own tests and measurements have a use for.
-var left = regexp.MustCompile(`^(vendor|wrong|deploy|cmd/(cluster|module|svidbench|vendored)|internal/(agenttest|broker|envoytest|goroutines|natstest|refusing|scarce|vectors))(/|$)`)
+var left = regexp.MustCompile(`^(vendor|wrong|deploy|cmd/(cluster|module|svidbench|vendored)|internal/(agenttest|broker|envoytest|goroutines|natstest|scarce|vectors))(/|$)`)
 
 // taken are the files that are code, or part of it.
 var taken = regexp.MustCompile(`^go\.mod$|^README\.md$|\.go$|^internal/dev/page\.(css|html|js)$`)

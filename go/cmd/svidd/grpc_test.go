@@ -1,6 +1,7 @@
 package main
 
 import (
+	"context"
 	"errors"
 	"net"
 	"net/http"
@@ -60,7 +61,9 @@ func serveGRPC(t *testing.T, none int32) (s *grpcServer, connect func() *http2.C
 // wantAnswer wants one on a connection.
 func wantAnswer(t *testing.T, on *http2.ClientConn) {
 	t.Helper()
-	request, err := http.NewRequest(http.MethodPost, "http://a/", nil)
+	ctx, cancel := context.WithTimeout(context.Background(), patience.Long)
+	defer cancel()
+	request, err := http.NewRequestWithContext(ctx, http.MethodPost, "http://a/", nil)
 	if err != nil {
 		t.Fatal(err)
 	}

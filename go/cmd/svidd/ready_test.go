@@ -26,13 +26,48 @@ const rowWait = 2 * time.Second
 type row struct {
 	state, mode          string
 	check, reason        string // the status, and the word of a 503
-	ready, says          string // the status, and what the body begins with
+	ready, says, why     string // the status, what the body has, and what it has too
 	checkCell, readyCell string
+}
+
+// whys are the states that stand in one row of the table, each with what /readyz says of it beside what the row has.
+var whys = map[string]map[string]string{
+	"There is no trust bundle": {
+		"No bundle was read yet":                             "there is no trust bundle: example.org: no such file or directory",
+		"The file of the bundle is no JSON":                  "there is no trust bundle: example.org: it is no JSON object",
+		"The file has bundles of several trust domains":      `there is no trust bundle: example.org: it has no member "keys"`,
+		"The file of the bundle has more than 1 MiB":         "there is no trust bundle: example.org: it has more than 1048576 bytes",
+		"The server of the bundle does not answer":           "connection refused",
+		"The server of the bundle shows another certificate": "certificate signed by unknown authority",
+		"The Workload API does not answer":                   "there is no trust bundle: the Workload API: dial unix",
+		"The Workload API knows no such workload":            "there is no trust bundle: the Workload API: it has no identity for this process",
+		"The last bundle is gone from its folder":            "there is no trust bundle",
+	},
+	"No key of the bundles can be used": {
+		"The list of keys of the bundle is empty":                          "its list of keys is empty",
+		"The keys of the bundle have no `use`, as those of an OIDC issuer": `no entry of it has the use "jwt-svid": it has no use`,
+		"The keys of the bundle have a `use` that is another":              `no entry of it has the use "jwt-svid": its use is not "jwt-svid"`,
+		"The keys of the bundle are for X.509-SVIDs alone":                 `no entry of it has the use "jwt-svid": it is for X.509-SVIDs`,
+		"The keys of the bundle are of another type":                       "its kty is neither RSA nor EC",
+		"The RSA keys of the bundle are longer than `--rsa-bits`":          "the key's n has more than the 4096 bits that were chosen",
+		"The RSA keys of the bundle are too short":                         "the key's n has fewer than 2048 bits",
+		"The points of the keys are not on their curves":                   "no key of it can be used: unusable key: x509",
+	},
+	"The store does not answer for longer": {
+		"The store has been away for longer": "the group's store does not answer",
+		"The store hangs":                    "the group's store does not answer",
+		"Redis is full":                      "the group's store does not answer, so no token can be claimed: the server answered: OOM",
+		"Redis takes no writes":              "the group's store does not answer, so no token can be claimed: the server answered: NOREPLICAS",
+		"Redis has taken the rights":         "the group's store does not answer, so no token can be claimed: the server answered: NOPERM",
+		"PostgreSQL is away":                 "the group's store does not answer",
+		"PostgreSQL takes no writes":         "the group's store does not answer, so no token can be claimed: the server is a standby",
+		"NATS is away":                       "the group's store does not answer",
+	},
 }
 
 var tableCell = regexp.MustCompile("^(?:([0-9]{3})(?: `([^`]*)`)?|waits)")
 
-// readyRows reads the table: a row for each state and mode.
+// readyRows reads the table: a row for each state and mode. A row of it has several states by `; `, or by whys.
 func readyRows(t *testing.T) (all []row) {
 	t.Helper()
 	text, err := os.ReadFile("../../../docs/SIDECAR-REFERENCE.md")
@@ -59,8 +94,16 @@ func readyRows(t *testing.T) (all []row) {
 		if cells[1] == "all" {
 			modes = []string{"once", "strict", "bound", "reuse"}
 		}
-		for _, mode := range modes {
-			all = append(all, row{strings.TrimSpace(cells[0]), mode, check[1], check[2], ready[1], ready[2], cells[2], cells[3]})
+		for _, state := range strings.Split(strings.TrimSpace(cells[0]), "; ") {
+			states := whys[state]
+			if states == nil {
+				states = map[string]string{state: ""}
+			}
+			for state, why := range states {
+				for _, mode := range modes {
+					all = append(all, row{state, mode, check[1], check[2], ready[1], ready[2], why, cells[2], cells[3]})
+				}
+			}
 		}
 	}
 	return all
@@ -302,10 +345,10 @@ func TestReadyzTable(t *testing.T) {
 				var body string
 				isSo := func() bool {
 					status, body = s.get("/readyz")
-					return fmt.Sprint(status) == r.ready && strings.Contains(body, r.says)
+					return fmt.Sprint(status) == r.ready && strings.Contains(body, r.says) && strings.Contains(body, r.why)
 				}
 				from, h := time.Now(), hurry()
-				s.await("/readyz to say "+r.readyCell, isSo)
+				s.await("/readyz to say "+r.readyCell+": "+r.why, isSo)
 				within := soon
 				if !strings.Contains(r.reason, "NotReady") {
 					within += rowWait // So long a request waits for what is away.
@@ -350,7 +393,7 @@ func TestReadyzTable(t *testing.T) {
 	reasons := map[string]bool{}
 	for _, r := range rows {
 		if r.ready == "503" && r.check == "503" {
-			reasons[r.says] = true
+			reasons[r.says+r.why] = true
 		}
 	}
 	t.Logf("%d states of %d sidecars in which no token can be accepted, with %d reasons", len(plays), len(without), len(reasons))

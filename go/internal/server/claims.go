@@ -35,6 +35,7 @@ type claimQueue struct {
 	waiting []*Request // these wait for a call; some may be answered by then
 	later   []retry    // these had no answer
 	known   knownClaims
+	denied  uint64 // counts answers that denied a claim
 }
 
 // A retry is requests whose claims are put again at a time.
@@ -104,6 +105,26 @@ func (m *Machine) openClaim(r *Request, use svid.Use) {
 	m.claims.waiting = append(m.claims.waiting, r)
 }
 
+// knownClaim is what the store answered before to a claim of a token that is held, by the same caller, whose the token is; zeros where that is not known.
+// The held token keeps it until a claim is denied: that may be an answer to the same claim, after the store lost entries.
+func (m *Machine) knownClaim(r *Request) *svid.KnownClaim {
+	if m.Mode != Bound || !r.recalled.isHeld || !m.hears() {
+		return &noClaim
+	}
+	h := r.recalled.held
+	if h.known.Expires == 0 || h.caller != r.Caller || h.denied != m.claims.denied {
+		one, ok := m.claims.known.find(&h.claim)
+		if !ok || !one.mine || one.caller != r.Caller {
+			return &noClaim
+		}
+		h.known = svid.KnownClaim{Key: h.claim.Key, Expires: h.claim.Expires, Found: one.found}
+		h.caller, h.denied = r.Caller, m.claims.denied
+	}
+	return &h.known
+}
+
+var noClaim svid.KnownClaim
+
 // ownerOf is for whom the token of a request is claimed: for this life, and in mode bound for the caller.
 func (m *Machine) ownerOf(r *Request, expires uint64) claims.Owner {
 	if m.Mode == Bound {
@@ -169,7 +190,10 @@ func (m *Machine) found(r *Request, found svid.Found) {
 		r.Owner = found.Owner.ValidatorID()
 	}
 	if !r.isKept && (lost || m.Mode == Bound && (err == nil || err == svid.ErrClaimDeaf)) {
-		m.claims.known.add(m.now.Up, r, found)
+		m.claims.known.add(m.now.Up, svid.KnownClaim{Key: r.claim.Key, Expires: r.claim.Expires, Found: found}, r.Caller, !lost)
+	}
+	if !r.isKept && err != nil {
+		m.claims.denied++
 	}
 	m.judged(r, accepted, deed, err)
 }
@@ -214,11 +238,12 @@ func newKnownClaims(now time.Duration) knownClaims {
 	return knownClaims{young: map[svid.TokenKey]knownClaim{}, turned: now}
 }
 
-func (k *knownClaims) add(now time.Duration, r *Request, found svid.Found) {
+// add keeps what the store answered to this caller's claim. mine says that the token is the caller's.
+func (k *knownClaims) add(now time.Duration, one svid.KnownClaim, caller [32]byte, mine bool) {
 	if len(k.young) >= mostKnown || now-k.turned > knownFor && len(k.young) > 0 {
 		k.young, k.old, k.turned = map[svid.TokenKey]knownClaim{}, k.young, now
 	}
-	k.young[r.claim.Key] = knownClaim{expires: r.claim.Expires, found: found, caller: r.Caller, mine: found.Owner == r.claim.Owner}
+	k.young[one.Key] = knownClaim{expires: one.Expires, found: one.Found, caller: caller, mine: mine}
 }
 
 func (k *knownClaims) find(claim *claims.Claim) (one knownClaim, known bool) {

@@ -572,7 +572,7 @@ func (e *Engine) judge(ctx context.Context, from Caller, v *verdict) *Rules {
 		r = e.judgeOnce(ctx, from, v.token)
 	}
 	if e.Mode.comesAgain() && r.Err == nil {
-		e.verified.keep(r.recalled, v.token, r.Key)
+		e.verified.keep(r.recalled, v.token, r.Key, r.Accepted.Use)
 		e.noteCaller(from, r.Accepted.Use, v.token)
 	}
 	r.recalled.held.letGo()

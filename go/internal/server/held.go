@@ -4,6 +4,7 @@ import (
 	"strings"
 	"sync/atomic"
 
+	"svid.example/go/v3/claims"
 	"svid.example/go/v3/svid"
 )
 
@@ -13,8 +14,14 @@ import (
 type heldToken struct {
 	token svid.Token   // is given to calls under the engine's lock alone
 	key   *svid.Key    // that made its signature
+	claim claims.Claim // of it, without an owner
 	hash  uint64       // of its text
 	users atomic.Int32 // the requests that use it, and the table
+
+	// In mode bound, guarded by the engine's lock: what the store answered to the claim of this caller, whose the token is; zeros where that is not known.
+	known  svid.KnownClaim
+	caller [32]byte
+	denied uint64 // as claimQueue.denied was then
 
 	// Guarded by the mutex of the table.
 	at    int  // its place

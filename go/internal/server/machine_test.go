@@ -494,7 +494,7 @@ func TestALostClaimIsToldAgain(t *testing.T) {
 func TestAKnownTokenIsThatAlone(t *testing.T) {
 	k := newKnownClaims(0)
 	claim, of := claims.Claim{Key: svid.TokenKey{1}, Expires: moment + 10}, svid.Found{Owner: svid.Owner{7}, Time: moment}
-	k.add(0, &Request{claim: claim}, of)
+	k.add(0, svid.KnownClaim{Key: claim.Key, Expires: claim.Expires, Found: of}, [32]byte{}, true)
 	if one, known := k.find(&claim); !known || one.found != of {
 		t.Errorf("%v %v", one, known)
 	}
@@ -508,12 +508,12 @@ func TestAKnownTokenIsThatAlone(t *testing.T) {
 func TestKnownTokensHaveABound(t *testing.T) {
 	k := newKnownClaims(0)
 	one, of := claims.Claim{Expires: moment}, svid.Found{Owner: svid.Owner{7}}
-	k.add(0, &Request{claim: one}, of)
+	k.add(0, svid.KnownClaim{Expires: moment, Found: of}, [32]byte{}, true)
 	if _, known := k.find(&one); !known {
 		t.Error("it is not kept")
 	}
 	for i := 0; i < 3*mostKnown; i++ {
-		k.add(time.Duration(i), &Request{claim: claims.Claim{Key: svid.TokenKey{1, byte(i), byte(i >> 8), byte(i >> 16)}}}, of)
+		k.add(time.Duration(i), svid.KnownClaim{Key: svid.TokenKey{1, byte(i), byte(i >> 8), byte(i >> 16)}, Found: of}, [32]byte{}, true)
 	}
 	if n := len(k.young) + len(k.old); n > 2*mostKnown {
 		t.Errorf("%d are kept", n)
@@ -522,7 +522,7 @@ func TestKnownTokensHaveABound(t *testing.T) {
 		t.Error("one of long ago is kept")
 	}
 	for i := 1; i < 3; i++ { // and each for two minutes at the least, where few come
-		k.add(time.Duration(i)*2*knownFor, &Request{claim: claims.Claim{Key: svid.TokenKey{2, byte(i)}}}, of)
+		k.add(time.Duration(i)*2*knownFor, svid.KnownClaim{Key: svid.TokenKey{2, byte(i)}, Found: of}, [32]byte{}, true)
 	}
 	if n := len(k.young) + len(k.old); n > 2 {
 		t.Errorf("%d are kept though few come", n)

@@ -47,12 +47,12 @@ func TestAReusedTokenIsKnown(t *testing.T) {
 	}
 	late := before
 	late.key = nil // so it was the second acceptance
-	e.verified.keep(late, one, before.key)
+	e.verified.keep(late, one, before.key, svid.Use{})
 	if e.verified.recall(one).key != nil {
 		t.Error("a key of the old bundles was kept behind their end")
 	}
 	late.epoch++ // as if it had been
-	e.verified.keep(late, one, before.key)
+	e.verified.keep(late, one, before.key, svid.Use{})
 	if e.verified.recall(one).key != before.key {
 		t.Error("it is not kept")
 	}
@@ -72,7 +72,7 @@ func TestAReusedTokenIsKnown(t *testing.T) {
 		t.Fatal(err)
 	}
 	late.epoch++
-	e.verified.keep(late, one, again.key)
+	e.verified.keep(late, one, again.key, svid.Use{})
 	for i := 0; i < 3; i++ {
 		if err := check(e, one); err != svid.BadSignature {
 			t.Errorf("without its key: %v", err)
@@ -155,13 +155,13 @@ func TestATokenIsKnownByAllOfIt(t *testing.T) {
 	v, key := newVerified(), new(svid.Key)
 	for _, one := range []string{"a", "b"} {
 		m := recalled{again: true} // of the same hash, 0
-		v.keep(m, one, key)
+		v.keep(m, one, key, svid.Use{})
 		if v.look(&m) != digestOf(one) || m.key != key {
 			t.Errorf("%q: %+v", one, m)
 		}
 	}
 	one := token("a")
-	v.keep(recalled{hash: v.recall(one).hash, again: true}, one[:len(one)-1], key)
+	v.keep(recalled{hash: v.recall(one).hash, again: true}, one[:len(one)-1], key, svid.Use{})
 	if m := v.recall(one); m.key != nil || !m.again {
 		t.Errorf("a token is known by another one of its hash: %+v", m)
 	}
@@ -176,7 +176,7 @@ func TestATokenIsKnownByAllOfIt(t *testing.T) {
 func TestVerifiedTokensHaveABound(t *testing.T) {
 	v := newVerified()
 	keys := [3]*svid.Key{new(svid.Key), new(svid.Key), new(svid.Key)}
-	accept := func(one string, by *svid.Key) { v.keep(v.recall(one), one, by) }
+	accept := func(one string, by *svid.Key) { v.keep(v.recall(one), one, by, svid.Use{}) }
 	accept("stays", keys[2])
 	accept("stays", keys[2])
 	for i := 0; i < 3*mostInGeneration; i++ {

@@ -6,6 +6,7 @@ import (
 	"context"
 	"encoding/json"
 	"fmt"
+	"strings"
 	"testing"
 
 	"svid.example/go/v3/internal/scarce"
@@ -141,4 +142,32 @@ func TestTokensThatAreVerifiedTooLateLeaveNothing(t *testing.T) {
 			b.step(Verified{r})
 		}
 	})
+}
+
+// So is a known token that is too long to be held, also while the clock is wrong and nothing is judged.
+func TestLongTokensLeaveNothing(t *testing.T) {
+	now := uint64(moment)
+	e := newShop().use(t, ready(t, engine(t, inBound(t, "header:X-Caller", Options{Step: 600, Now: func() uint64 { return now }}))))
+	one := example.Token("ES256", map[string]any{"sub": "spiffe://example.org/web", "aud": "ledger", "exp": moment + 300, "jti": "long", "more": strings.Repeat("a", mostHeldLen)})
+	for i := 0; i < 3; i++ {
+		if err := by(e, "owner", one); err != nil {
+			t.Fatal(err)
+		}
+		if err := by(e, "thief", one); err != svid.Replayed {
+			t.Errorf("a thief: %v", err)
+		}
+	}
+	if m := e.verified.recall(one); m.key == nil || m.held != nil {
+		t.Fatalf("it is held, or not known: %+v", m)
+	}
+	for _, want := range []error{nil, svid.ErrJump} {
+		holdsNoMore(t, fmt.Sprintf("200 requests that are answered %v", want), func(int) {
+			for i := 0; i < 200; i++ {
+				if err := by(e, "owner", one); err != want {
+					t.Fatal(err)
+				}
+			}
+		})
+		now += 100_000
+	}
 }

@@ -92,7 +92,7 @@ func (m *Machine) sayTwice(own, other svid.Use) {
 	m.Log.Error("accepted twice", errTwice, "key", own.Key.String(), "validator_ids", strings.Join(ids, " "))
 }
 
-// isTwice says whether two uses accept one token, by the library's report (docs/FORMATS.md, "Report").
+// isTwice says whether two uses accept one token, by the library's report (docs/FORMATS.md, "Texts of the program").
 func isTwice(own, other svid.Use) (bool, error) {
 	messages, err := svid.Batches([]svid.Use{own, other})
 	if err != nil {

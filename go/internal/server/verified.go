@@ -5,6 +5,7 @@ import (
 	"hash/maphash"
 	"sync"
 
+	"svid.example/go/v3/claims"
 	"svid.example/go/v3/svid"
 )
 
@@ -86,8 +87,8 @@ func (v *verified) look(had *recalled) tokenDigest {
 	return one.digest
 }
 
-// keep keeps the key that made the signature of an accepted token, unless the bundles were renewed since recall.
-func (v *verified) keep(had recalled, token string, key *svid.Key) {
+// keep keeps the key that made the signature of a token, which was accepted with this use, unless the bundles were renewed since recall.
+func (v *verified) keep(had recalled, token string, key *svid.Key, use svid.Use) {
 	isKnown := had.key == key
 	if isKnown && (had.isHeld || had.held == nil) {
 		return
@@ -109,7 +110,7 @@ func (v *verified) keep(had recalled, token string, key *svid.Key) {
 		v.known.add(had.hash, knownToken{digest, v.number(key)})
 	}
 	if had.held != nil && !had.isHeld {
-		had.held.key = key
+		had.held.key, had.held.claim = key, claims.Claim{Key: use.Key, Expires: use.Expires}
 		v.held.add(had.held).letGo()
 	}
 }

@@ -91,8 +91,12 @@ type Gone struct {
 	Why error
 }
 
-// A request comes.
+// A request comes. If its key is known it is judged at once.
 func (r *Request) happen(m *Machine) {
+	if r.Key != nil {
+		m.ask(r)
+		return
+	}
 	deed, err := m.validator.Come(m.now.Up)
 	if err == nil && deed.Kind != svid.DeedJudge {
 		err = errNoNumber
@@ -101,14 +105,36 @@ func (r *Request) happen(m *Machine) {
 		m.answer(&r.Call, m.notReady(err))
 		return
 	}
-	r.number = deed.Number
-	m.requests[r.number] = r
-	if r.Key == nil {
-		m.comes()
-		m.do(Verify{r})
-	} else if m.verified(r); !r.answered {
-		m.comes()
+	m.take(r, deed.Number)
+	m.do(Verify{r})
+}
+
+// take takes a request that has come, and waits.
+func (m *Machine) take(r *Request, number uint64) {
+	r.number = number
+	m.requests[number] = r
+	m.comes()
+}
+
+// ask lets a request come whose key is known, and its token be judged, by what the store answered before to a put of its claim.
+func (m *Machine) ask(r *Request) {
+	r.stage = waiting
+	r.reading().VerifiedBy(r.Key)
+	accepted, deed, err := m.validator.Ask(m.now.Wall, m.now.Up, &r.Caller, m.knownClaim(r), r.reading())
+	switch {
+	case deed.Number == svid.NoRequest:
+		if err == svid.ErrUnasked {
+			err = errNoNumber
+		}
+		r.read.Close()
+		m.answer(&r.Call, m.notReady(err))
+		return
+	case deed.Kind == svid.DeedAnswer: // Nobody has to find it by its number.
+		r.number = deed.Number
+	default:
+		m.take(r, deed.Number)
 	}
+	m.judged(r, accepted, deed, err)
 }
 
 // Its signature was verified. A token that the keyring refuses is judged without a key, for the validator to say which refusal comes first.
@@ -147,7 +173,7 @@ func (m *Machine) judged(r *Request, accepted svid.Accepted, deed svid.Deed, err
 		m.leave(r, err)
 		return
 	}
-	m.carryOut(deed)
+	m.carryOutFor(r, deed)
 }
 
 // leave ends the walk of a request by this answer, unless its use is on its way to the disk.
@@ -168,8 +194,10 @@ func (g Gone) happen(m *Machine) {
 }
 
 // carryOut does what the member says of a request.
-func (m *Machine) carryOut(deed svid.Deed) {
-	r := m.requests[deed.Number]
+func (m *Machine) carryOut(deed svid.Deed) { m.carryOutFor(m.requests[deed.Number], deed) }
+
+// carryOutFor does what the member says of this request; nil is one that has its answer.
+func (m *Machine) carryOutFor(r *Request, deed svid.Deed) {
 	if deed.Kind == svid.DeedAnswer && deed.Next != svid.NoRequest {
 		m.again = append(m.again, deed.Next)
 	}

@@ -664,6 +664,7 @@ uint32_t svid_claim_outcome(const uint8_t owner[32], uint64_t exp, const uint8_t
  *   1. svid_token_open reads the token, outside of the lock. One that it refuses is answered so.
  *   2. svid_member_come: SVID_DEED_JUDGE has the number of the request.
  *   3. Find the key that made its signature (svid_bundles_*, or svid_validator_ask_token), outside of the lock, and call svid_member_judge.
+ *      If you found the key when the token came before, svid_member_ask does 2 and 3 in one call.
  *   4. Do what each deed says:
  *      - SVID_DEED_JUDGE: judge the request of `number` again, by the key that you found.
  *      - SVID_DEED_APPEND: bring `used` to the state folder, and call svid_member_wrote.
@@ -736,6 +737,13 @@ typedef struct {
     uint8_t owner[32];  /* what the key has after the put */
 } svid_found;
 
+/* What a store answered before to a put of a claim. */
+typedef struct {
+    uint64_t exp;       /* when the token expires; no claim has 0 */
+    uint8_t key[32];    /* its key, as in svid_use */
+    svid_found found;
+} svid_known_claim;
+
 /* A moment by the clock of `up`; UINT64_MAX for none. */
 typedef struct {
     uint64_t at;
@@ -771,6 +779,16 @@ uint32_t svid_member_come(svid_validator *v, uint64_t up, svid_deed *deed);
 uint32_t svid_member_judge(svid_validator *v, uint64_t now, uint64_t up, uint64_t number, const uint8_t *key, size_t key_len,
                            const uint8_t *input, size_t input_len, const uint8_t *signature, size_t signature_len,
                            svid_token *t, uint8_t *out, size_t out_len, svid_use *used, svid_deed *deed, svid_told *told);
+
+/* A request comes whose key was found before, and its token is judged: svid_member_come and svid_member_judge at one moment. If a claim is to be put and
+ * `known` is of that claim, the request hears that answer at once, as by svid_member_found. `deed` says what is to be done next, and has the number of
+ * the request also if that is nothing. For tokens that come again and again; give `caller` and `known` as zeros where there is none.
+ *
+ * As svid_member_judge, or as svid_member_found if the request heard the known answer. SVID_ENDED to SVID_GROUP_UNREAD and SVID_NO_MEMORY, with `deed`
+ * as it was: nothing came. SVID_UNASKED, with UINT64_MAX as the number: no number is left. */
+uint32_t svid_member_ask(svid_validator *v, uint64_t now, uint64_t up, const uint8_t caller[32], const svid_known_claim *known,
+                         const uint8_t *key, size_t key_len, const uint8_t *input, size_t input_len, const uint8_t *signature,
+                         size_t signature_len, svid_token *t, uint8_t *out, size_t out_len, svid_use *used, svid_deed *deed, svid_told *told);
 
 /* The use of the request `number` is on the disk, or could not be brought there if `ok` is 0. In mode once a member is not ready while the last one
  * could not: call it again once the disk took that use after all. */

@@ -9,13 +9,10 @@ export const CELL = 33;
 const ONE = 40; // bytes of a withdrawal
 const LONGEST_ERROR = 1024;
 
-// What this package alone says.
-const OWN = { cluster: "the server is one of a Cluster, for which this package has no client: let svidd check the tokens, or use a server with replicas" };
-
 /** Why a store has no answer. Nobody knows what it has. */
 export class StoreFault extends Error {
   constructor(reason, more = "", options) {
-    super((said.FAULTS[reason] ?? OWN[reason] ?? FAULTS[reason] ?? "") + more, options);
+    super((said.FAULTS[reason] ?? FAULTS[reason] ?? "") + more, options);
     this.name = "StoreFault";
     this.reason = reason;
   }

@@ -101,29 +101,34 @@ export class Claims {
   }
 
   async #put(deeds, claims) {
+    const put = typeof this.#store.putEach === "function" ? "putEach" : "put";
     let found;
     try {
       // (a store that sorted the list in place would give each answer to another request)
-      found = foundOf(await this.#store.put(Object.freeze(claims), { signal: this.#ending.signal }), claims.length);
+      found = foundOf(await this.#store[put](Object.freeze(claims), { signal: this.#ending.signal }), claims.length);
     } catch (why) {
       return this.#failed(deeds, why);
     }
     this.#answered(deeds, found);
   }
 
-  // The store has answered a call.
+  // The store has answered a call, or some claims of it: the others are put again.
   #answered(deeds, found) {
     if (this.#ending.signal.aborted) return;
+    const why = found.find((it) => it instanceof Error), others = deeds.filter((_, n) => found[n] instanceof Error);
+    if (why && others.length === deeds.length) return this.#failed(deeds, why);
     try {
       this.#pacing.answered();
-      this.#silent = this.why = undefined;
+      this.why = why;
+      if (!why) this.#silent = undefined;
+      else this.#later.push({ when: up() + this.#pacing.pause(), deeds: others });
       for (const { deaf } of found) if (deaf > this.deaf) this.deaf = deaf;
       if (!this.isThere) {
         this.isThere = true;
         this.#member.reached();
         this.#announce();
       }
-      deeds.forEach(({ number }, n) => this.#member.found(number, found[n]));
+      deeds.forEach(({ number }, n) => found[n] instanceof Error || this.#member.found(number, found[n]));
     } catch (why) {
       this.#member.fail(why);
     }

@@ -141,11 +141,10 @@ export async function callerOf(given) {
   return new Uint8Array(await (await webCrypto()).subtle.digest("SHA-256", caller));
 }
 
-/** What a store answers to so many claims. Throws TypeError for what is none. */
+/** What a store answers to so many claims, or, to each of them, why it does not. Throws TypeError for what is none. */
 export function foundOf(given, count) {
-  const found = Array.from(given, ({ owner, time, deaf = 0n }) => ({
-    owner: sized("owner", owner, OWNER), time: wholeOf("time", time), deaf: wholeOf("deaf", deaf),
-  }));
+  const one = ({ owner, time, deaf = 0n }) => ({ owner: sized("owner", owner, OWNER), time: wholeOf("time", time), deaf: wholeOf("deaf", deaf) });
+  const found = Array.from(given, (it) => (it instanceof Error ? it : one(it)));
   if (found.length !== count) throw new TypeError(`${count} claims have ${found.length} answers`);
   return found;
 }

@@ -45,14 +45,22 @@ export class GroupStore {
   }
 
   async put(claims) {
+    const found = await this.putEach(claims);
+    for (const it of found) if (it instanceof StoreFault) throw it;
+    return found;
+  }
+
+  async putEach(claims) {
     const end = this.#end();
     if (this.#member.epoch === undefined || !this.#heard || !claims.length) {
       if ((await this.#look(end)).wait) throw new StoreFault("run");
       await this.#hear(end);
     }
     const found = await this.#member.put(claims, end);
-    for (const it of found) if (it instanceof StoreFault) throw it;
-    return found.map((it, n) => (this.#withdrawn.has(nameOf(claims[n].key)) ? { ...it, owner: new Uint8Array(it.owner.length) } : it));
+    return found.map((it, n) => {
+      const isWithdrawn = !(it instanceof StoreFault) && this.#withdrawn.has(nameOf(claims[n].key));
+      return isWithdrawn ? { ...it, owner: new Uint8Array(it.owner.length) } : it;
+    });
   }
 
   async withdraw(key, expires) {
@@ -110,15 +118,13 @@ export class GroupStore {
   /** Looks at the store once a second until it is closed. */
   async #watch() {
     const begun = performance.now();
-    try {
-      const { time } = await this.#look(begun + said.STATE_WAIT);
-      await this.#hear(performance.now() + said.HEAR_WAIT);
-      for (const [key, expires] of this.#withdrawn) if (expires + this.#margin < time) this.#withdrawn.delete(key);
-      this.#why = "";
-    } catch (why) {
-      const isNew = why.reason === "run"; // (members compare)
-      if (!this.#why && !this.#ended && !isNew) this.#tell(`the group's store can't be looked at: ${why.message}`);
-      if (!isNew) this.#why = why.message || "unknown";
+    const { time, why: unseen } = await this.#look(begun + said.STATE_WAIT).catch((why) => ({ why }));
+    // (the server of a Cluster that has the withdrawals may be there though another one is not)
+    const unheard = await this.#hear(performance.now() + said.HEAR_WAIT).catch((why) => why), why = unseen ?? unheard;
+    if (!unseen) for (const [key, expires] of this.#withdrawn) if (expires + this.#margin < time) this.#withdrawn.delete(key);
+    if (why?.reason !== "run") { // (then members compare)
+      if (why && !this.#why && !this.#ended) this.#tell(`the group's store can't be looked at: ${why.message}`);
+      this.#why = why ? why.message || "unknown" : "";
     }
     if (!this.#ended) this.#timer = setTimeout(() => this.#watch(), Math.max(0, begun + said.STATE_EVERY - performance.now())).unref();
   }

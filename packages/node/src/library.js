@@ -29,7 +29,7 @@ export const VALIDATOR = "validator", BUNDLES = "bundles";
 /** The modes of a member, by their names. */
 export const MODES = { once: 0n, strict: 1n, bound: 2n, reuse: 3n };
 /** What is to be done for a request. */
-export const NOTHING = 0n, JUDGE = 1n, APPEND = 2n, CLAIM = 3n, ANSWER = 4n;
+export const NOTHING = 0, JUDGE = 1, APPEND = 2, CLAIM = 3, ANSWER = 4;
 /** No number of a request, and no moment. */
 export const NONE = 2n ** 64n - 1n;
 /** Who keeps a withdrawal, and that one of them may not have it. */
@@ -47,7 +47,10 @@ const FOLDER = 64, DUE = 16, READER = 24, FRAME = 24, BEARS = 40;
 export const TOKEN_ROOM = 65_544;
 const TOKEN = 0, TOLD_AT = 65_544, USED = 65_584, QUESTION = 65_648, SMALL = 65_680, DEED = 65_936, KEY = 66_032, SIGNATURE = 131_568;
 const OUT = 180_720, ROOM = 262_128;
-const OUT_ROOM = ROOM - OUT;
+const OUT_ROOM = BigInt(ROOM - OUT);
+const NO_KEY = [0n, 0n, 0n, 0n, 0n, 0n];
+// Of so many tokens' keys the rows are kept: most tokens have those of a few.
+const MOST_ROWS = 8;
 const PACING_FIRST = [0n, 0n, 10n];
 
 const NEEDS = [
@@ -105,7 +108,9 @@ export class Library {
   #calls; // the exports of the instance, or null once it is closed
   #bytes;
   #view;
-  #room; // where the room of every call stands
+  #base; // where the room of every call stands
+  #in; // what stands there, as calls take it
+  #rows = []; // those of keys that were read last
   #handle;
   #kind;
   #spare = []; // handles of tokens that are closed
@@ -131,7 +136,12 @@ export class Library {
 
   constructor(calls) {
     this.#calls = calls;
-    this.#room = this.#lend(ROOM);
+    const room = this.#lend(ROOM), at = (offset) => room + BigInt(offset);
+    this.#base = Number(room);
+    this.#in = {
+      token: at(TOKEN), told: at(TOLD_AT), used: at(USED), question: at(QUESTION), small: at(SMALL), deed: at(DEED), use: at(DEED + 32), key: at(KEY),
+      signature: at(SIGNATURE), out: at(OUT),
+    };
     this.#handle = this.#closed();
   }
 
@@ -228,21 +238,21 @@ export class Library {
    */
   ask(token) {
     const length = this.#lendToken(token);
-    const rows = this.#written("svid_bundles_ask", this.#handle, this.#at(TOKEN), length, MOST_CANDIDATES);
+    const rows = this.#written("svid_bundles_ask", this.#handle, this.#in.token, length, MOST_CANDIDATES);
     if (rows.status >= FIRST_REFUSAL) return null;
     if (rows.status !== OK) throw this.fault(rows.status);
-    const made = this.#written("svid_token_signature", this.#at(TOKEN), length, this.#at(SMALL));
+    const made = this.#written("svid_token_signature", this.#in.token, length, this.#in.small);
     if (made.status !== OK) throw this.fault(made.status);
-    const signed = this.#seen(this.#at(TOKEN), this.#word(this.#at(SMALL)));
-    return { rows: rowsOf(rows.bytes, 0), signed, signature: made.bytes };
+    const signed = this.#seen(this.#in.token, this.#word(this.#in.small));
+    return { rows: rowsOf(rows.bytes), signed, signature: made.bytes };
   }
 
   /** The question of a row of bundles. */
   question(token, number) {
     const length = this.#lendToken(token);
-    const status = this.#call("svid_bundles_question", this.#handle, this.#at(TOKEN), length, BigInt(number), this.#at(QUESTION));
+    const status = this.#call("svid_bundles_question", this.#handle, this.#in.token, length, BigInt(number), this.#in.question);
     if (status !== OK) throw this.fault(status);
-    return this.#seen(this.#at(QUESTION), DIGEST);
+    return this.#seen(this.#in.question, DIGEST);
   }
 
   /** Judges a token by bundles, at a time. `terms` has `now`, `longest` and `own`, the audiences. */
@@ -252,9 +262,9 @@ export class Library {
       const setting = room(SETTING);
       this.#setWords(setting, [now, longest]);
       this.#set(setting + 16n, new Uint8Array(VALIDATOR_ID));
-      if (yes) this.#set(this.#at(QUESTION), yes);
+      if (yes) this.#set(this.#in.question, yes);
       const audiences = this.#audiences(own, lend, room);
-      const lent = [this.#at(QUESTION), yes ? 1n : 0n, this.#at(TOKEN), length, this.#at(OUT), BigInt(OUT_ROOM), this.#at(USED)];
+      const lent = [this.#in.question, yes ? 1n : 0n, this.#in.token, length, this.#in.out, OUT_ROOM, this.#in.used];
       const status = this.#call("svid_bundles_judge", this.#handle, setting, ...audiences, ...lent);
       if (status !== OK) throw this.fault(status);
       return this.#accepted(token, own);
@@ -263,7 +273,7 @@ export class Library {
 
   // What an acceptance is: its ID stands in OUT, and its use in USED.
   #accepted(token, own) {
-    return this.acceptedOf(token, own, this.#subject(), this.#used(this.#at(USED)));
+    return this.acceptedOf(token, own, this.#subject(), this.#used(this.#in.used));
   }
 
   /** What an acceptance is, for callers. */
@@ -273,27 +283,29 @@ export class Library {
 
   // The ID in OUT, and its parts.
   #subject() {
-    const out = this.#at(OUT), begins = Number(out), length = this.#length(), spiffeId = textOf(this.#bytes.subarray(begins, begins + length));
-    this.#run("svid_id_parse", out, BigInt(length), this.#at(SMALL));
-    return { spiffeId, ...this.#parts(spiffeId) };
+    const begins = this.#base + OUT, length = this.#length(), spiffeId = textOf(this.#bytes.subarray(begins, begins + length));
+    this.#run("svid_id_parse", this.#in.out, BigInt(length), this.#in.small);
+    return this.#parts(spiffeId);
   }
 
-  // The parts of the ID that was parsed last.
+  // An ID that was parsed last, and its parts.
   #parts(spiffeId) {
-    const small = this.#at(SMALL), domain = Number(this.#word(small + 8n)), begins = spiffeId.length - Number(this.#word(small + 16n));
-    return { trustDomain: spiffeId.slice(begins - domain, begins), path: spiffeId.slice(begins) };
+    const small = this.#base + SMALL, domain = this.#number(small + 8), begins = spiffeId.length - this.#number(small + 16);
+    return { spiffeId, trustDomain: spiffeId.slice(begins - domain, begins), path: spiffeId.slice(begins) };
   }
 
   // A use with its message.
   #used(at, withdrawn = false) {
-    const use = this.#use(at);
+    const use = this.#use(at), message = this.#base + SMALL;
     if (withdrawn) return new Use(use, withdrawn, this.messageOf({ ...use, withdrawn }));
-    this.#run("svid_batch_of", at, this.#at(SMALL));
-    return new Use(use, withdrawn, this.#seen(this.#at(SMALL), BATCH));
+    this.#run("svid_batch_of", at, this.#in.small);
+    return new Use(use, withdrawn, this.#bytes.slice(message, message + BATCH));
   }
 
-  #use(at) {
-    return { expires: this.#word(at), at: this.#word(at + 8n), key: this.#seen(at + 16n, DIGEST), validatorId: this.#seen(at + 48n, VALIDATOR_ID) };
+  #use(pointer) {
+    const begins = Number(pointer), view = this.#view, key = begins + 16, validatorId = key + DIGEST;
+    const expires = view.getBigUint64(begins, true), at = view.getBigUint64(begins + WORD, true);
+    return { expires, at, key: this.#bytes.slice(key, validatorId), validatorId: this.#bytes.slice(validatorId, validatorId + VALIDATOR_ID) };
   }
 
   // -- Tokens that are read once
@@ -301,8 +313,8 @@ export class Library {
   /** Reads a token. Close it in the end. Throws Refusal for what is none, and then advances the record too. */
   read(now, token) {
     const length = this.#lendToken(token), at = this.#spare.pop() ?? this.#closed();
-    const status = this.#call("svid_token_open", at, this.#at(TOKEN), length);
-    if (status === OK) return { at, bytes: this.#seen(this.#at(TOKEN), length) };
+    const status = this.#call("svid_token_open", at, this.#in.token, length);
+    if (status === OK) return { at, bytes: this.#bytes.slice(this.#base + TOKEN, this.#base + TOKEN + Number(length)) };
     this.#spare.push(at);
     this.tick(now);
     throw this.fault(status);
@@ -320,11 +332,25 @@ export class Library {
    * where the token is refused already, for whatever reason comes first.
    */
   keysOf({ at, bytes }) {
-    const { status, bytes: all } = this.#written("svid_validator_ask_token", this.#handle, at, MOST_CANDIDATES);
+    const read = (all) => {
+      const begins = WORD + lengthAt(all, 4);
+      return { rows: this.#rowsOf(all.subarray(begins)), signed: bytes.subarray(0, lengthAt(all, 0)), signature: all.slice(WORD, begins) };
+    };
+    const { status, is } = this.#read(read, "svid_validator_ask_token", this.#handle, at, MOST_CANDIDATES);
     if (status >= FIRST_REFUSAL) return null;
     if (status !== OK) throw this.fault(status);
-    const view = viewOf(all), length = view.getUint32(0), begins = WORD + view.getUint32(4);
-    return { rows: rowsOf(all, begins), signed: bytes.subarray(0, length), signature: all.subarray(WORD, begins) };
+    return is;
+  }
+
+  // The rows that bytes are.
+  #rowsOf(bytes) {
+    let known = this.#rows.find(({ view }) => view.byteLength === bytes.length && isSame(view, this.#view, bytes.byteOffset));
+    if (!known) {
+      const kept = bytes.slice();
+      known = { view: new DataView(kept.buffer), rows: rowsOf(kept) };
+      this.#rows = [known, ...this.#rows].slice(0, MOST_ROWS);
+    }
+    return known.rows;
   }
 
   /** Says what a check would, and adds nothing. `shown` has the key, and what it signed, or is null where no key did. Throws Refusal. */
@@ -337,16 +363,16 @@ export class Library {
   // A key, and what it signed, as calls take them.
   #shown(shown) {
     this.#open();
-    if (!shown) return [0n, 0n, 0n, 0n, 0n, 0n];
-    const put = (offset, bytes) => {
-      this.#set(this.#at(offset), bytes);
-      return [this.#at(offset), BigInt(bytes.length)];
-    };
-    return [...put(KEY, shown.key), ...put(TOKEN, shown.signed), ...put(SIGNATURE, shown.signature)];
+    if (!shown) return NO_KEY;
+    const { key, signed, signature } = shown, base = this.#base;
+    this.#bytes.set(key, base + KEY);
+    this.#bytes.set(signed, base + TOKEN);
+    this.#bytes.set(signature, base + SIGNATURE);
+    return [this.#in.key, BigInt(key.length), this.#in.token, BigInt(signed.length), this.#in.signature, BigInt(signature.length)];
   }
 
   #outputs() {
-    return [this.#at(OUT), BigInt(OUT_ROOM), this.#at(USED)];
+    return [this.#in.out, OUT_ROOM, this.#in.used];
   }
 
   // -- The member of a validator: its requests, each by a number
@@ -354,9 +380,9 @@ export class Library {
   /** Lets a validator answer requests. `terms` has `mode`, `hasDisk`, `hasStore`, `wait` (in milliseconds), `ahead`, `lasts` and `life`. */
   openMember({ mode, hasDisk, hasStore, wait, ahead, lasts, life }) {
     this.#open();
-    this.#setWords(this.#at(SMALL), [MODES[mode], BigInt(hasDisk), BigInt(hasStore), 0n, wait, ahead, lasts]);
-    this.#set(this.#at(SMALL + 56), life);
-    this.#make("svid_member_open", this.#at(SMALL));
+    this.#setWords(this.#in.small, [MODES[mode], BigInt(hasDisk), BigInt(hasStore), 0n, wait, ahead, lasts]);
+    this.#set((this.#in.small + 56n), life);
+    this.#make("svid_member_open", this.#in.small);
   }
 
   /** Says who may call: each whom one of these patterns allows. */
@@ -368,8 +394,8 @@ export class Library {
   know({ isBundled, isOpened, isHeard, isJumped, isAway, isDeaf }) {
     this.#open();
     const [bundled, opened, heard, jumped, away, deaf] = [isBundled, isOpened, isHeard, isJumped, isAway, isDeaf].map(BigInt);
-    this.#setWords(this.#at(SMALL), [bundled, 1n, opened, heard, 1n, 1n, 0n, jumped, 0n, away, deaf, 0n]);
-    this.#make("svid_member_know", this.#at(SMALL));
+    this.#setWords(this.#in.small, [bundled, 1n, opened, heard, 1n, 1n, 0n, jumped, 0n, away, deaf, 0n]);
+    this.#make("svid_member_know", this.#in.small);
   }
 
   /** The status that says whether tokens are to be sent to a member. */
@@ -389,7 +415,7 @@ export class Library {
 
   /** The store has answered the claim of a request. `found` has `time`, `deaf` and `owner`. */
   found(now, up, { number, token, shown, caller }, { time, deaf, owner }) {
-    const small = this.#at(SMALL);
+    const small = this.#in.small;
     this.#open();
     this.#set(small, caller);
     this.#setWords(small + 32n, [time, deaf]);
@@ -398,7 +424,7 @@ export class Library {
   }
 
   #judged(name, given, token, shown) {
-    const status = this.#call(name, this.#handle, ...given, ...this.#shown(shown), token.at, ...this.#outputs(), this.#at(DEED));
+    const status = this.#call(name, this.#handle, ...given, ...this.#shown(shown), token.at, ...this.#outputs(), this.#in.deed);
     if (status === CLOSED || status === JUMP) throw this.fault(status); // (nothing happened)
     const subject = status === OK ? this.#subject() : null;
     return { deed: this.#deed(), subject };
@@ -426,8 +452,8 @@ export class Library {
 
   /** When a request or a withdrawal is due, or NONE. */
   due() {
-    this.#make("svid_member_due", this.#at(SMALL));
-    return this.#word(this.#at(SMALL));
+    this.#make("svid_member_due", this.#in.small);
+    return this.#word(this.#in.small);
   }
 
   /** A withdrawal is on its way: its number. */
@@ -447,7 +473,7 @@ export class Library {
 
   /** Whose the claim of a token is: that of a caller, if there is one, or else that of a life of a validator. */
   ownerOf({ expires, validatorId }, life, caller) {
-    const small = this.#at(SMALL), owner = this.#at(SMALL + 32);
+    const small = this.#in.small, owner = (this.#in.small + 32n);
     this.#open();
     this.#set(small, caller ?? joined([validatorId, life]));
     if (caller) this.#run("svid_claim_owner_of_caller", small, expires, owner);
@@ -457,21 +483,22 @@ export class Library {
 
   // Makes a call that says what is to be done.
   #deedOf(name, ...given) {
-    this.#make(name, ...given, this.#at(DEED));
+    this.#make(name, ...given, this.#in.deed);
     return this.#deed();
   }
 
   // What the last call says is to be done. `use` is that of a claim, and of an acceptance.
   #deed() {
-    const at = this.#at(DEED), what = this.#word(at), status = Number(this.#word(at + 16n)), isAccepted = what === ANSWER && status === OK;
-    const use = isAccepted || what === APPEND ? this.#used(at + 32n) : what === CLAIM ? this.#use(at + 32n) : null;
-    return { what, number: this.#word(at + 8n), status, next: this.#word(at + 24n), use };
+    const at = this.#base + DEED, what = this.#number(at), status = this.#number(at + 16), isAccepted = what === ANSWER && status === OK;
+    const number = this.#view.getBigUint64(at + 8, true), next = this.#view.getBigUint64(at + 24, true);
+    const use = isAccepted || what === APPEND ? this.#used(this.#in.use) : what === CLAIM ? this.#use(this.#in.use) : null;
+    return { what, number, status, next, use };
   }
 
   // Makes a call about withdrawals: the one that has ended, if one has.
   #withdrawal(name, ...given) {
-    this.#make(name, ...given, this.#at(SMALL));
-    const [number, disk, store] = this.#words(this.#at(SMALL), 3);
+    this.#make(name, ...given, this.#in.small);
+    const [number, disk, store] = this.#words(this.#in.small, 3);
     return { number, mayLack: disk === MAY_LACK || store === MAY_LACK };
   }
 
@@ -493,6 +520,7 @@ export class Library {
       sent: (up) => this.#run("svid_pacing_sent", at, up),
       answered: () => this.#run("svid_pacing_answered", at),
       unanswered: () => this.#time("svid_pacing_unanswered", at),
+      pause: () => this.#word(at + 16n),
     };
   }
 
@@ -581,30 +609,30 @@ export class Library {
   // The payload of a token.
   #payload(token) {
     const length = this.#lendToken(token);
-    return this.#text(() => this.#written("svid_token_payload", this.#at(TOKEN), length));
+    return this.#text(() => this.#written("svid_token_payload", this.#in.token, length));
   }
 
   /** What a token says: nobody has vouched for it. */
   says(token) {
-    const length = this.#lendToken(token), lens = this.#at(KEY), out = this.#at(OUT);
+    const length = this.#lendToken(token), lens = this.#in.key, out = this.#in.out;
     const said = this.#saidIn(length, lens, MOST_TEXTS, out, OUT_ROOM);
     if (said) return said;
-    const texts = Number(this.#word(this.#at(SMALL) + 40n)), size = this.#length();
+    const texts = Number(this.#word(this.#in.small + 40n)), size = this.#length();
     return this.#within(({ room }) => this.#saidIn(length, room(WORD * texts), texts, room(size), size));
   }
 
   // The same, with room for so many texts, and so many bytes: null where that is too little.
   #saidIn(length, lens, texts, out, size) {
-    const status = this.#call("svid_token_says", this.#at(TOKEN), length, this.#at(SMALL), lens, BigInt(texts), out, BigInt(size));
+    const status = this.#call("svid_token_says", this.#in.token, length, this.#in.small, lens, BigInt(texts), out, BigInt(size));
     if (status === TOO_SHORT) return null;
     if (status !== OK) throw this.fault(status);
-    const [expires, count] = this.#words(this.#at(SMALL) + 32n, 2);
+    const [expires, count] = this.#words(this.#in.small + 32n, 2);
     let at = out;
     const [alg, spiffeId, trustDomain, keyId, ...audiences] = this.#words(lens, Number(count)).map((it) => {
       at += it;
       return textOf(this.#seen(at - it, it));
     });
-    return { alg, spiffeId, trustDomain, keyId, audiences, key: this.#seen(this.#at(SMALL), DIGEST), expires };
+    return { alg, spiffeId, trustDomain, keyId, audiences, key: this.#seen(this.#in.small, DIGEST), expires };
   }
 
   /** A key as SubjectPublicKeyInfo; null where the algorithm can't use it. */
@@ -620,10 +648,10 @@ export class Library {
   /** The one bearer token of a request: `{ token }`, or `{ several, spelling }` where it has none: whether there are several fields, or one is misspelt. */
   bearer(count, value) {
     return this.#within(({ lend }) => {
-      const status = this.#run("svid_bearer_token", BigInt(count), ...lend(value), this.#at(SMALL));
+      const status = this.#run("svid_bearer_token", BigInt(count), ...lend(value), this.#in.small);
       if (status === TOO_LONG) throw ofStatus(status);
       if (status !== OK) return { several: status === BEARER_SEVERAL, spelling: status === BEARER_SPELLING };
-      const [at, length] = this.#words(this.#at(SMALL), 2).map(Number);
+      const [at, length] = this.#words(this.#in.small, 2).map(Number);
       return { token: value.slice(at, at + length) };
     });
   }
@@ -631,19 +659,19 @@ export class Library {
   /** The trust domain and the path of a SPIFFE ID. Throws RangeError for what is none. */
   partsOf(spiffeId) {
     return this.#within(({ lend }) => {
-      const status = this.#run("svid_id_parse", ...lend(utf8(spiffeId)), this.#at(SMALL));
+      const status = this.#run("svid_id_parse", ...lend(utf8(spiffeId)), this.#in.small);
       if (status === OK) return this.#parts(spiffeId);
-      throw new RangeError(`${JSON.stringify(spiffeId)} is no SPIFFE ID (byte ${this.#word(this.#at(SMALL))}): ${wordsOf(status)}`);
+      throw new RangeError(`${JSON.stringify(spiffeId)} is no SPIFFE ID (byte ${this.#word(this.#in.small)}): ${wordsOf(status)}`);
     });
   }
 
   /** Whether a pattern allows a SPIFFE ID. Throws RangeError for what is no pattern, or no ID. */
   allows(pattern, spiffeId) {
     return this.#within(({ lend }) => {
-      const status = this.#run("svid_id_allows", ...lend(utf8(pattern)), ...lend(utf8(spiffeId)), this.#at(SMALL));
+      const status = this.#run("svid_id_allows", ...lend(utf8(pattern)), ...lend(utf8(spiffeId)), this.#in.small);
       if (status === OK || status === NOT_ALLOWED) return status === OK;
       if (status === NO_MEMORY) throw new OutOfMemory();
-      const offset = this.#word(this.#at(SMALL));
+      const offset = this.#word(this.#in.small);
       if (status < NOT_ALLOWED) throw new RangeError(`${JSON.stringify(spiffeId)} is no SPIFFE ID (byte ${offset}): ${wordsOf(status)}`);
       throw new RangeError(`${JSON.stringify(pattern)} is no pattern of SPIFFE IDs (byte ${offset}): ${wordsOf(status)}`);
     });
@@ -654,10 +682,10 @@ export class Library {
   /** Withdraws the token of a key. Throws Gone. */
   withdraw(now, key, expires) {
     this.#open();
-    this.#set(this.#at(SMALL), key);
-    const status = this.#call("svid_validator_withdraw", this.#handle, now, this.#at(SMALL), expires, this.#at(USED));
+    this.#set(this.#in.small, key);
+    const status = this.#call("svid_validator_withdraw", this.#handle, now, this.#in.small, expires, this.#in.used);
     if (status !== OK) throw this.fault(status);
-    return this.#used(this.#at(USED), true);
+    return this.#used(this.#in.used, true);
   }
 
   /** Advances the record. */
@@ -692,9 +720,9 @@ export class Library {
 
   /** The moment of the record, and how many uses it has. */
   size() {
-    const status = this.#call("svid_validator_size", this.#handle, this.#at(SMALL));
+    const status = this.#call("svid_validator_size", this.#handle, this.#in.small);
     if (status !== OK) throw this.fault(status);
-    const [moment, uses] = this.#words(this.#at(SMALL), 2);
+    const [moment, uses] = this.#words(this.#in.small, 2);
     return { moment, uses: Number(uses) };
   }
 
@@ -732,7 +760,7 @@ export class Library {
 
   /** A use as a message. */
   messageOf({ withdrawn, expires, at, key, validatorId }) {
-    const small = this.#at(SMALL), entry = this.#at(SMALL + 128);
+    const small = this.#in.small, entry = (this.#in.small + 128n);
     this.#open();
     this.#setWords(entry, [BigInt(withdrawn), expires, at]);
     this.#set(entry + 24n, joined([key, validatorId]));
@@ -745,7 +773,7 @@ export class Library {
 
   // Makes a call that tells.
   #call(name, ...given) {
-    return this.#run(name, ...given, this.#at(TOLD_AT));
+    return this.#run(name, ...given, this.#in.told);
   }
 
   // Makes a call. An instance that has stopped makes none.
@@ -762,12 +790,18 @@ export class Library {
 
   // Makes a call that writes text, and makes it again where its room was too short: `{ status, bytes }`.
   #written(name, ...given) {
-    const status = this.#call(name, ...given, this.#at(OUT), BigInt(OUT_ROOM));
-    if (status !== TOO_SHORT) return { status, bytes: status === OK ? this.#seen(this.#at(OUT), this.#length()) : null };
+    const { status, is } = this.#read((bytes) => bytes.slice(), name, ...given);
+    return { status, bytes: is };
+  }
+
+  // The same: `is` is what `read` says of the bytes, which the next call may write over.
+  #read(read, name, ...given) {
+    const say = (status, at, length) => ({ status, is: status === OK ? read(this.#bytes.subarray(at, at + length)) : null });
+    const status = this.#call(name, ...given, this.#in.out, OUT_ROOM);
+    if (status !== TOO_SHORT) return say(status, this.#base + OUT, this.#length());
     return this.#within(({ room }) => {
       const size = this.#length(), out = room(size);
-      const again = this.#call(name, ...given, out, BigInt(size));
-      return { status: again, bytes: again === OK ? this.#seen(out, size) : null };
+      return say(this.#call(name, ...given, out, BigInt(size)), Number(out), size);
     });
   }
 
@@ -785,13 +819,13 @@ export class Library {
 
   // What a call told beside its status.
   #told() {
-    const [length, input, message, offset, more] = this.#words(this.#at(TOLD_AT), TOLD / WORD).map(Number);
+    const [length, input, message, offset, more] = this.#words(this.#in.told, TOLD / WORD).map(Number);
     return { length, input, message, offset, more };
   }
 
   // The length that a call told.
   #length() {
-    return Number(this.#word(this.#at(TOLD_AT)));
+    return this.#number(this.#base + TOLD_AT);
   }
 
   #open() {
@@ -801,10 +835,6 @@ export class Library {
   }
 
   // -- Memory
-
-  #at(offset) {
-    return this.#room + BigInt(offset);
-  }
 
   // Views of the memory as it is now: once it has grown, those of before have no bytes. (To ask for its buffer costs more.)
   #look() {
@@ -843,7 +873,7 @@ export class Library {
   // Lends the bytes of a token, and gives their length.
   #lendToken(token) {
     this.#open();
-    const begins = Number(this.#at(TOKEN)), room = this.#bytes.subarray(begins, begins + TOKEN_ROOM);
+    const begins = this.#base + TOKEN, room = this.#bytes.subarray(begins, begins + TOKEN_ROOM);
     if (typeof token === "string") return BigInt(encoder.encodeInto(token, room).written);
     room.set(token);
     return BigInt(token.length);
@@ -864,6 +894,11 @@ export class Library {
     return this.#bytes.slice(Number(at), Number(at) + Number(length));
   }
 
+  // The whole number of 64 bits there, if it is none too great. (To make a bigint of it first costs more.)
+  #number(at) {
+    return this.#view.getUint32(at, true) + this.#view.getUint32(at + 4, true) * 2 ** 32;
+  }
+
   #word(at) {
     return this.#view.getBigUint64(Number(at), true);
   }
@@ -877,13 +912,22 @@ export class Library {
   }
 }
 
-const viewOf = (bytes) => new DataView(bytes.buffer, bytes.byteOffset, bytes.length);
+// The number of 32 bits there, the highest byte first.
+const lengthAt = (bytes, at) => ((bytes[at] << 24) | (bytes[at + 1] << 16) | (bytes[at + 2] << 8) | bytes[at + 3]) >>> 0;
 
-// The rows of algorithms and keys from there on: `key` is the JSON of a key, and `spelt` its bytes.
-function rowsOf(bytes, at) {
-  const view = viewOf(bytes), rows = [];
+// Whether what a view has stands in another one from there on. (Four bytes at once, and last the last four: it takes time.)
+function isSame(one, other, at) {
+  const last = one.byteLength - 4;
+  for (let n = 0; n < last; n += 4) if (one.getUint32(n) !== other.getUint32(at + n)) return false;
+  return last < 0 || one.getUint32(last) === other.getUint32(at + last);
+}
+
+// The rows of algorithms and keys that bytes are: `key` is the JSON of a key, and `spelt` its bytes.
+function rowsOf(bytes) {
+  const rows = [];
+  let at = 0;
   const field = () => {
-    const length = view.getUint32(at);
+    const length = lengthAt(bytes, at);
     at += 4 + length;
     return bytes.subarray(at - length, at);
   };

@@ -18,6 +18,11 @@ const MAY_LACK_IT = "the token is withdrawn here, but the state folder or the gr
 // Those in which somebody waits: a timer alone does not keep them.
 const waiting = new Set();
 
+// A request for a token that was read. (All that it will have is here: it takes time to add to an object.)
+const requestOf = (token, clock, caller) => ({
+  token, clock, caller, number: undefined, edition: -1, shown: undefined, unverifiable: undefined, subject: undefined, isWriting: false, why: undefined,
+});
+
 const least = (one, other) => (one < other ? one : other);
 
 /** A validator that answers requests. */
@@ -93,11 +98,15 @@ export class Member {
 
   /** Answers a token. `clock` gives the time of each call, and `caller` are 32 bytes. Throws Refusal, NotAllowed, Unavailable and Unverifiable. */
   async check(text, clock, caller = NOBODY) {
-    const request = { token: this.#library.read(clock(), text), clock, caller, edition: -1 };
+    const request = requestOf(this.#library.read(clock(), text), clock, caller);
     const answered = new Promise((resolve, reject) => Object.assign(request, { resolve, reject }));
-    answered.catch(() => {}); // (where the request does not come, nobody hears how it ends)
     try {
-      this.#come(request);
+      try {
+        this.#come(request);
+      } catch (why) {
+        answered.catch(() => {}); // (the request did not come: nobody hears how it ends)
+        throw why;
+      }
       return await answered;
     } finally {
       this.#leave(request);
@@ -106,7 +115,7 @@ export class Member {
 
   /** Says what a check would, and adds nothing. */
   async judge(text, clock) {
-    const request = { token: this.#library.read(clock(), text), edition: -1 };
+    const request = requestOf(this.#library.read(clock(), text), clock);
     try {
       while (request.edition !== this.#editions) await this.#find(request);
       const accepted = this.#library.judge(clock(), request.token, this.#own, request.shown);
@@ -240,8 +249,8 @@ export class Member {
     try {
       while (request.edition !== this.#editions) await this.#find(request);
       // (where it was answered meanwhile, the library does nothing)
-      const moments = [request.clock(), up()], library = this.#library;
-      const { deed, subject } = found ? library.found(...moments, request, found) : library.judgeRequest(...moments, request);
+      const moment = request.clock(), library = this.#library;
+      const { deed, subject } = found ? library.found(moment, up(), request, found) : library.judgeRequest(moment, up(), request);
       request.subject = subject ?? request.subject;
       this.#hand(deed);
     } catch (why) {
@@ -253,8 +262,9 @@ export class Member {
   async #find(request) {
     const edition = this.#editions, { token } = request, asked = this.#library.keysOf(token);
     const { row, unverifiable } = asked ? await this.#verifier.first(asked) : {};
-    const shown = row ? { key: row.spelt, signed: asked.signed, signature: asked.signature } : null;
-    Object.assign(request, { edition, shown, unverifiable });
+    request.shown = row ? { key: row.spelt, signed: asked.signed, signature: asked.signature } : null;
+    request.unverifiable = unverifiable;
+    request.edition = edition;
   }
 
   // Does what the library says is to be done.

@@ -54,6 +54,8 @@ export class PostgresStore implements Store {
    * a withdrawn one within a second.
    */
   put(claims: readonly Claim[]): Promise<Found[]>;
+  /** Is that of `Store`. Throws StoreFault where the store can't be looked at. */
+  putEach(claims: readonly Claim[]): Promise<(Found | StoreFault)[]>;
   /** Is that of `Store`. Throws StoreFault. */
   withdraw(key: Uint8Array, expires: Seconds): Promise<void>;
   /**

@@ -17,7 +17,39 @@ const SCRIPTS = new Map(
     return [name, { text: whole, digest: createHash("sha1").update(whole).digest("hex") }];
   }),
 );
-const KNOWN = Object.freeze({ record: "", epoch: "", latest: 0n, life: [0, 0n], mark: "" }); // what a member knows of the store: scripts write it, and read it
+const SHARDS = 16; // of a Cluster
+const LOST = ["replica", "cluster"]; // (then the next call looks where the server is)
+const KNOWN = Object.freeze({ record: "", epoch: "", deaf: 0n, latest: 0n, life: [0, 0n], mark: "" }); // what a member knows of a shard: scripts write it, and read it
+
+/** The slot of a Cluster that has keys with a hash tag: CRC-16 of the tag, by the polynomial 0x1021. */
+function slotOf(tag) {
+  let sum = 0;
+  for (const byte of Buffer.from(tag)) {
+    sum ^= byte << 8;
+    for (let bit = 0; bit < 8; bit++) sum = ((sum << 1) ^ (sum & 0x8000 ? 0x1021 : 0)) & 0xffff;
+  }
+  return sum % 16384;
+}
+
+/** What a map has under a key: this, if there was nothing. */
+function grouped(map, key, first) {
+  if (!map.has(key)) map.set(key, first);
+  return map.get(key);
+}
+
+/** What one server has at a time: all of the store, or, in a Cluster, what has one hash tag. */
+class Shard {
+  turn = new Gate(1); // who looks at it
+  count = 0; // (it never goes back: an older copy must not have a greater one)
+  checked = ""; // the run of the server whose settings were seen
+  agreed = ""; // the name of the server that has what this member knows
+  known = KNOWN;
+
+  constructor(tag) {
+    this.key = `svid:{${tag}}:epoch`;
+    this.slot = slotOf(tag);
+  }
+}
 
 /** What a URL says. */
 class Server {
@@ -26,13 +58,19 @@ class Server {
   constructor(name, words) {
     this.name = name;
     this.#words = words;
-    for (const it of ["service", "isUnchecked", "replicas"]) this[it] = words[it];
+    for (const it of ["service", "isUnchecked", "replicas", "host"]) this[it] = words[it];
+    this.isPlain = !words.path && !Number(words.database); // (a Cluster has no sockets, and one database)
     this.options();
   }
 
   /** The server at another address that is spoken to in the same way. */
   at(host, port) {
     return new Server(`${host}:${port}`, { ...this.#words, host, port, service: undefined });
+  }
+
+  /** The server without a database, which no server of a Cluster lets a connection choose. */
+  whole() {
+    return new Server(this.name, { ...this.#words, database: "" });
   }
 
   /** What node-redis takes. Files are read for each connection. */
@@ -168,13 +206,16 @@ class Connection {
 
 /**
  * All addresses. Where there are several, or Sentinels, all are asked at each look: so a member does not go on with a primary whose place another server
- * has taken, and accepts nothing where two say that they are it.
+ * has taken, and accepts nothing where two say that they are it. Of a Cluster any of them says where the slots are.
  */
 class Servers {
   #all;
   #kept = new Map();
   #primary;
   #looking;
+  #ranges; // where the slots of a Cluster are
+  #locating;
+  #first = 0; // which server of a Cluster is asked first
   #ended = false;
 
   constructor(urls) {
@@ -188,9 +229,73 @@ class Servers {
     for (const one of this.#kept.values()) one.close();
   }
 
-  /** Lets the next call look where the primary is. */
+  /** Lets the next call look where the servers are. */
   lost() {
-    this.#primary = undefined;
+    this.#primary = this.#ranges = undefined;
+  }
+
+  /** Asks a server whether it is one of a Cluster. */
+  async isCluster(end) {
+    if (this.#all[0].service) return false; // (a server that is one all the same is found unfit)
+    const is = await this.#any(this.#all.map((it) => it.whole()), ["INFO", "server"], end, (text) => /redis_mode:cluster/.test(text));
+    if (is && !this.#all.every((it) => it.isPlain)) throw new StoreFault("unfit", said.FAULTS.named);
+    return is;
+  }
+
+  /** The server that has a slot of a Cluster. */
+  async holder(slot, end) {
+    let ranges = this.#ranges;
+    if (!ranges) {
+      this.#locating ??= this.#any(this.#all, ["CLUSTER", "SLOTS"], end, (answer, at) => this.#rangesOf(answer, at)).finally(() => (this.#locating = undefined));
+      this.#ranges = ranges = await until(end, this.#locating);
+    }
+    const found = ranges.find(({ first, last }) => first <= slot && slot <= last);
+    if (found) return found.at;
+    this.lost();
+    throw new StoreFault("slot");
+  }
+
+  /** Reads an answer to CLUSTER SLOTS. */
+  #rangesOf(answer, asked) {
+    const servers = new Map();
+    return answer.map(([first, last, [host, port]]) => {
+      const named = String(host ?? "") || asked.host, name = `${named}:${port}`; // (a server that does not know its own name says none)
+      if (!servers.has(name)) servers.set(name, this.#all[0].at(named, Number(port)));
+      return { first, last, at: servers.get(name) };
+    });
+  }
+
+  /** What the first server says that answers. The next time that one is asked first. */
+  async #any(servers, command, end, read) {
+    const faults = [];
+    for (let n = 0; n < servers.length; n++) {
+      const at = servers[(this.#first + n) % servers.length], soon = servers.length === 1 ? end : Math.min(end, now() + said.ASK_WAIT);
+      try {
+        const found = read(await this.#once(at, command, soon), at);
+        this.#first += n;
+        return found;
+      } catch (why) {
+        if (this.#ended) throw new StoreFault("closed");
+        faults.push(why instanceof StoreFault ? why : new StoreFault(why instanceof TypeError ? "answer" : "server", brief(String(why.message))));
+        if (now() < end) continue;
+        this.#first += n + 1; // (so that a call whose time is over leaves the next one a server that answers)
+        break;
+      }
+    }
+    throw faults.length === 1 ? faults[0] : new StoreFault("server", faults.map((it) => it.message).join("; "));
+  }
+
+  /** What a server answers to one command. */
+  async #once(at, command, end) {
+    const one = new Connection(at);
+    this.#kept.set(one, one);
+    try {
+      const [answer] = await (await one.connect(end)).checked([command], end);
+      return answer;
+    } finally {
+      this.#kept.delete(one);
+      one.close();
+    }
   }
 
   /** The primary, by the last look. */
@@ -242,26 +347,23 @@ class Servers {
 
 /** A member. It is to look at the store once a second, by `look`. */
 export class Member {
-  #key;
+  #group;
   #terms;
   #compare;
   #replicas;
   #servers;
+  #shards = []; // none before it is known if there is a Cluster
   #life = randomBytes(8).toString("hex");
-  #count = 0; // (it never goes back: an older copy must not have a greater one)
-  #checked = ""; // the run of the server whose settings were seen
-  #agreed = false; // the server has what this member knows
-  #known = KNOWN;
-  #turn = new Gate(1); // who looks at the store
-  #calls = new Gate(MOST_CALLS);
   #open = new Set();
-  #idle = [];
+  #pools = new Map(); // by the names of servers: the connections that wait for a call, and the calls
   #ended = false;
+  /** The epoch that the last look found. */
+  epoch;
 
   /** @param terms `lasts`, `margin` and `back`, in seconds @param compare for how many milliseconds members compare */
   constructor({ servers, group, replicas }, terms, compare = said.COMPARE_WAIT) {
     if (!NAME.test(group)) throw new TypeError("group is letters, digits, - and _ alone, at most 64 of them");
-    this.#key = `svid:{${group}}:epoch`;
+    this.#group = group;
     this.#terms = terms;
     this.#compare = compare;
     this.#servers = new Servers(servers);
@@ -269,48 +371,57 @@ export class Member {
     if (this.#replicas >= MOST_REPLICAS) throw new RangeError(`replicas is from 1 to ${MOST_REPLICAS}`);
   }
 
-  /** The epoch that this member knows. */
-  get epoch() {
-    return this.#known.epoch || undefined;
-  }
-
   close() {
     this.#ended = true;
     this.#servers.end();
     for (const one of this.#open) one.close();
-    this.#idle = [];
+    this.#pools.clear();
   }
 
   /** Looks at the store: `epoch`, `deaf`, `time`, and `wait`, which is 0. */
   async look(given) {
     const end = this.epoch === undefined ? given : Math.min(given, now() + STATE_WAIT); // (who hangs here must not hinder the next look)
-    this.#stays();
-    await this.#servers.look(end);
-    return this.#with(end, (one) => this.#agree(one, end));
+    const all = await this.#all(end);
+    if (!this.#isCluster) await this.#servers.look(end);
+    const parts = await this.#parts(new Map(all.map((it) => [it])), end);
+    const looked = await Promise.allSettled(parts.map((part) => this.#with(part, end, (one) => this.#agree(one, [...part.keys()], end))));
+    for (const { reason } of looked) if (reason) throw reason;
+    const known = all.map((it) => it.known), greatest = (these) => these.reduce((one, other) => (one > other ? one : other));
+    const epoch = known.map((it) => it.epoch).join();
+    this.epoch = this.#isCluster ? createHash("sha256").update(epoch).digest("hex").slice(0, 32) : epoch;
+    return { epoch: this.epoch, deaf: greatest(known.map((it) => it.deaf)), time: greatest(known.map((it) => it.life[1])), wait: 0 };
   }
 
   /** Puts claims. Each has an answer of its own, or a StoreFault. */
   async put(claims, end) {
-    if (!claims.length) return [];
+    const found = new Map(), of = new Map();
+    let parts;
     try {
-      const answer = await this.#decide("put", claims, end);
-      return claims.map((claim, n) => foundOf(answer, claim, n));
+      await this.#all(end);
+      for (const claim of claims) grouped(of, this.#shardOf(claim.key), []).push(claim);
+      parts = await this.#parts(of, end);
     } catch (why) {
       return claims.map(() => why);
     }
+    await Promise.all(parts.map(async (part) => {
+      const answers = await this.#decide("put", part, end).catch((why) => why);
+      [...part.values()].forEach((all, k) => all.forEach((claim, n) => found.set(claim, Array.isArray(answers) ? foundOf(answers[k], claim, n) : answers)));
+    }));
+    return claims.map((it) => found.get(it));
   }
 
   /** Withdraws a token, and returns the owner that is there: zeros if nobody claimed it. */
   async withdraw(key, expires, end) {
-    const one = { key, owner: Buffer.alloc(CELL - 1), expires };
-    const found = foundOf(await this.#decide("withdraw", [one], end), one, 0);
+    const one = { key, owner: Buffer.alloc(CELL - 1), expires }, [first] = await this.#all(end), its = this.#shardOf(key);
+    const [answer] = await this.#decide(its === first ? "withdraw" : "put", new Map([[its, [one]]]), end), found = foundOf(answer, one, 0);
     if (found instanceof StoreFault) throw found;
+    if (its !== first) await this.#decide("tell", new Map([[first, [one]]]), end); // (it has the list of withdrawals)
     return found.owner;
   }
 
   /** The withdrawals after a position, and the position up to which these are read. */
   async withdrawals(after, end) {
-    const { answer } = await this.#call("withdrawals", [after], end);
+    const [first] = await this.#all(end), [{ answer }] = await this.#call("withdrawals", new Map([[first, [after]]]), end);
     return { these: withdrawalsOf(answer[2]), last: String(answer[1]) };
   }
 
@@ -318,103 +429,170 @@ export class Member {
     if (this.#ended) throw new StoreFault("closed");
   }
 
-  /** Looks at the store, one call at a time, until claims may be put. */
-  async #agree(one, end) {
+  get #isCluster() {
+    return this.#shards.length > 1;
+  }
+
+  /** All shards. Looks at first whether there is a Cluster. */
+  async #all(end) {
+    this.#stays();
+    if (!this.#shards.length) {
+      const tags = (await this.#servers.isCluster(end)) ? Array.from({ length: SHARDS }, (_, n) => `${this.#group}:0${n.toString(16)}`) : [this.#group];
+      if (!this.#shards.length) this.#shards = tags.map((tag) => new Shard(tag)); // (another call may have looked meanwhile)
+    }
+    return this.#shards;
+  }
+
+  #shardOf(key) {
+    return this.#shards[this.#isCluster ? key[0] >> 4 : 0];
+  }
+
+  /** Shards, with what is theirs: those of one server together. */
+  async #parts(these, end) {
+    const parts = new Map();
+    for (const [it, what] of these) {
+      const name = this.#isCluster ? (await this.#servers.holder(it.slot, end)).name : ""; // (the primary is looked for by who makes a connection)
+      grouped(parts, name, new Map()).set(it, what);
+    }
+    return [...parts.values()];
+  }
+
+  /** Looks at shards of a server, one call at a time, until claims may be put. */
+  async #agree(one, shards, end) {
     for (;;) {
-      const soon = Math.min(end, now() + STATE_WAIT);
-      const is = await this.#turn.within(soon, () => this.#see(one, soon));
-      if (!is.pause) return is;
-      if (now() + is.pause > end) throw new StoreFault("run");
-      await new Promise((resolve) => setTimeout(resolve, is.pause));
+      const soon = Math.min(end, now() + STATE_WAIT), { left, pause } = await this.#turns(shards, soon, () => this.#see(one, shards, soon));
+      if (!left.length) return;
+      if (now() + pause > end) throw new StoreFault("run");
+      await new Promise((resolve) => setTimeout(resolve, pause));
       this.#stays();
+      shards = left;
     }
   }
 
-  /** Looks at the store once: what it is, or for how many milliseconds to wait where members compare. */
-  async #see(one, end) {
-    const { lasts, margin, back } = this.#terms, known = this.#known, count = ++this.#count;
-    const asked = [count, randomBytes(16).toString("hex"), lasts, margin, back, this.#compare, ...known.life, known.mark, this.#checked];
-    const [what, more, checked, ...rest] = await this.#run(one, "state", known, [...asked, ...(await one.settings(end))], end);
-    this.#checked = checked;
-    if (String(what) !== "ok") {
-      this.#agreed = false;
-      if (String(what) === "wait") return { pause: Math.min(more, said.PAUSE) };
-      if (String(more).startsWith("the server is one of a Cluster")) throw new StoreFault("cluster");
-      throw new StoreFault(String(what), String(more));
-    }
-    const [record, epoch, deaf, time, latest] = [rest[0], String(rest[1]), ...rest.slice(2).map(BigInt)];
-    const same = epoch === this.#known.epoch, seen = this.#known.latest;
-    this.#known = { record, epoch, latest: same && seen > latest ? seen : latest, life: [count, time], mark: same ? this.#known.mark : "" };
-    this.#agreed = true;
-    return { epoch, deaf, time, wait: 0 };
+  /** Does something while nobody else looks at some shards. (In one order, so that no two calls wait for each other.) */
+  #turns(shards, end, act) {
+    const inOrder = [...shards].sort((one, other) => (one.key < other.key ? -1 : 1));
+    return inOrder.reduceRight((next, it) => () => it.turn.within(end, next), act)();
   }
 
-  /** Calls a script that answers as put does. */
+  /** Looks at shards once: those that members compare, and for how many milliseconds to wait. */
+  async #see(one, shards, end) {
+    const { lasts, margin, back } = this.#terms, settings = await one.settings(end);
+    const calls = new Map(shards.map((it) => {
+      const { known } = it, asked = [++it.count, randomBytes(16).toString("hex"), lasts, margin, back, this.#compare, ...known.life, known.mark, it.checked];
+      return [it, { known, values: [...asked, ...settings] }];
+    }));
+    const answers = await this.#run(one, "state", calls, end), left = [];
+    let pause = 0, fault;
+    for (const [n, it] of shards.entries()) {
+      const [what, more, checked, ...rest] = answers[n];
+      it.checked = checked;
+      if (String(what) === "ok") {
+        const [record, epoch, deaf, time, latest] = [rest[0], String(rest[1]), ...rest.slice(2).map(BigInt)];
+        const same = epoch === it.known.epoch, seen = it.known.latest;
+        it.known = { record, epoch, deaf, latest: same && seen > latest ? seen : latest, life: [it.count, time], mark: same ? it.known.mark : "" };
+        it.agreed = one.at.name;
+        continue;
+      }
+      it.agreed = "";
+      if (String(what) === "wait") {
+        left.push(it);
+        pause = Math.max(pause, Math.min(more, said.PAUSE));
+      } else fault = new StoreFault(String(what), String(more));
+    }
+    if (fault) throw fault;
+    return { left, pause };
+  }
+
+  /** Calls a script that answers as put does, for the claims of shards of one server. */
   async #decide(name, claims, end) {
-    const values = claims.flatMap(({ key, owner, expires }) => [bytesOf(key), bytesOf(owner), expires]);
-    const { known, answer } = await this.#calls.within(end, () => this.#call(name, values, end));
-    const [, time, deaf, , least, mark, cells] = answer, is = this.#known;
-    if (cells.length && cells.length !== claims.length * CELL) throw new StoreFault("answer");
+    const values = new Map([...claims].map(([it, these]) => [it, these.flatMap(({ key, owner, expires }) => [bytesOf(key), bytesOf(owner), expires])]));
+    const { calls } = this.#pool(await this.#serverOf(claims, end));
+    const answers = await calls.within(end, () => this.#call(name, values, end));
+    return [...claims].map(([it, these], n) => this.#decided(it, these.length, answers[n]));
+  }
+
+  /** What is answered to so many claims of a shard, if it counts. */
+  #decided(it, count, { known, answer }) {
+    const [, time, deaf, , least, mark, cells] = answer, is = it.known;
+    if (cells.length && cells.length !== count * CELL) throw new StoreFault("answer");
     if (is.epoch !== known.epoch || BigInt(least) < is.latest) {
-      this.#agreed = false;
+      it.agreed = "";
       throw new StoreFault("epoch");
     }
-    this.#known = { ...is, latest: BigInt(time) > is.latest ? BigInt(time) : is.latest, mark: mark.length ? mark : is.mark };
+    it.known = { ...is, latest: BigInt(time) > is.latest ? BigInt(time) : is.latest, mark: mark.length ? mark : is.mark };
     return { time: BigInt(time), deaf: BigInt(deaf), cells };
   }
 
-  /** Calls a script once the server was looked at. Says what was known then, too. */
+  /** Calls a script for shards of one server, once these were looked at. Says what was known then, too. */
   #call(name, values, end) {
     this.#stays();
-    return this.#with(end, async (one) => {
+    return this.#with(values, end, async (one) => {
       for (;;) {
-        if (!this.#agreed) {
-          await this.#agree(one, end);
+        const others = [...values.keys()].filter((it) => it.agreed !== one.at.name);
+        if (others.length) {
+          await this.#agree(one, others, end);
           continue;
         }
-        const known = this.#known, answer = await this.#run(one, name, known, values, end), what = String(answer[0]);
-        if (what === "ok") return { known, answer };
-        this.#agreed = false;
-        if (what !== "look") throw new StoreFault(what);
+        const calls = new Map([...values].map(([it, its]) => [it, { known: it.known, values: its }])), answers = await this.#run(one, name, calls, end);
+        const what = answers.map((it) => String(it[0]));
+        [...values.keys()].forEach((it, n) => what[n] !== "ok" && (it.agreed = ""));
+        const fault = what.find((it) => it !== "ok" && it !== "look");
+        if (fault) throw new StoreFault(fault);
+        if (!what.includes("look")) return [...calls.values()].map(({ known }, n) => ({ known, answer: answers[n] }));
       }
     });
   }
 
-  /** Runs a script. What it writes counts once enough replicas have it. */
-  async #run(one, name, known, values, end) {
+  /** Runs a script for shards of one server. What it writes counts once enough replicas have it. */
+  async #run(one, name, calls, end) {
     const reads = name === "withdrawals", replicas = reads ? 0 : this.#replicas, { text, digest } = SCRIPTS.get(name);
-    const all = reads ? values : [known.record, known.latest, this.#life, replicas, ...values];
-    const wait = Math.round(Math.max(1, Math.min((end - now()) / 2, said.WAIT_MOST))); // (the server looks at it ten times a second)
-    const commands = [["EVALSHA", digest, 1, this.#key, ...all], ...(replicas ? [["WAIT", replicas, wait]] : [])];
+    const commands = [...calls].map(([it, { known, values }]) => {
+      const all = reads ? values : [known.record, known.latest, this.#life, replicas, ...values];
+      return ["EVALSHA", digest, 1, it.key, ...all];
+    });
+    // (the server looks at it ten times a second)
+    if (replicas) commands.push(["WAIT", replicas, Math.round(Math.max(1, Math.min((end - now()) / 2, said.WAIT_MOST)))]);
     let answers = await one.call(commands, end);
-    if (answers[0] instanceof Error && answers[0].message.startsWith("NOSCRIPT")) {
+    if (answers.some((it) => it instanceof Error && it.message.startsWith("NOSCRIPT"))) {
       await one.checked([["SCRIPT", "LOAD", text]], end);
       answers = await one.call(commands, end);
     }
-    const [answer, kept] = one.good(answers);
-    if (!Array.isArray(answer) || !answer.length) throw new StoreFault("answer");
+    const these = one.good(answers).slice(0, calls.size), kept = answers[calls.size];
+    if (!these.every((it) => Array.isArray(it) && it.length)) throw new StoreFault("answer");
     if (replicas && !(kept >= replicas)) throw new StoreFault("alone", `: ${kept} replicas have it, and ${replicas} must`);
-    return answer;
+    return these;
   }
 
-  /** Does something on a connection to the primary. After an error it ends, with all that wait. */
-  async #with(end, act) {
-    const one = await this.#taken(end);
+  /** Does something on a connection to the server of these shards. After an error it ends, with all that wait. */
+  async #with(shards, end, act) {
+    const one = await this.#taken(shards, end);
     let is;
     try {
       is = await act(one);
     } catch (why) {
-      this.#give(one, !one.isBroken && why.reason !== "replica" && why.reason !== "cluster");
+      this.#give(one, !one.isBroken && !LOST.includes(why.reason));
       throw this.#ended ? new StoreFault("closed") : why;
     }
     this.#give(one, true);
     return is;
   }
 
-  async #taken(end) {
-    const at = await this.#servers.primary(end);
-    for (let one; (one = this.#idle.pop()); ) {
-      if (one.at.name === at.name && !one.isBroken) {
+  /** The server of these shards. */
+  #serverOf(shards, end) {
+    const [first] = shards.keys();
+    return this.#isCluster ? this.#servers.holder(first.slot, end) : this.#servers.primary(end);
+  }
+
+  #pool({ name }) {
+    return grouped(this.#pools, name, { idle: [], calls: new Gate(MOST_CALLS) });
+  }
+
+  async #taken(shards, end) {
+    const at = await this.#serverOf(shards, end), { idle } = this.#pool(at);
+    if (!this.#isCluster) for (const [name, it] of this.#pools) if (name !== at.name) this.#empty(it.idle); // (those to another primary are of no use)
+    for (let one; (one = idle.pop()); ) {
+      if (!one.isBroken) {
         one.rest(false);
         return one;
       }
@@ -425,7 +603,7 @@ export class Member {
       throw why;
     });
     this.#open.add(one);
-    this.#agreed = false; // (a connection that is new may lead to a server that is)
+    for (const it of this.#shards) if (it.agreed === at.name) it.agreed = ""; // (a connection that is new may lead to a server that is)
     if (this.#ended) {
       this.#forget(one);
       throw new StoreFault("closed");
@@ -438,15 +616,20 @@ export class Member {
     one.close();
   }
 
+  #empty(idle) {
+    for (const it of idle.splice(0)) this.#forget(it);
+  }
+
   #give(one, keep) {
-    if (keep && !this.#ended && this.#idle.length <= MOST_CALLS) {
+    const { idle } = this.#pool(one.at);
+    if (keep && !this.#ended && idle.length <= MOST_CALLS) {
       one.rest(true);
-      this.#idle.push(one);
+      idle.push(one);
       return;
     }
     this.#forget(one);
     if (keep) return;
-    for (const it of this.#idle.splice(0)) this.#forget(it);
+    this.#empty(idle);
     this.#servers.lost();
   }
 }

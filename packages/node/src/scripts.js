@@ -230,25 +230,23 @@ export const SCRIPTS = {
     "if not s.primary then return {'replica'} end\n" +
     "if not r then return {'look'} end\n" +
     "local epoch, number, at = ARGV[1]:match('^(%x+)/(%d+)/(%d+)$')\n" +
-    "local first, room = math.max(1, r.list - 8), MOST * ONE\n" +
+    "local first, room = math.max(1, r.list - 8), (MOST + 1) * ONE - 1\n" +
     "number, at = tonumber(number), tonumber(at)\n" +
     "if epoch ~= r.id or number < first or number > r.list then number, at = first, 0 end\n" +
     "if number == r.list and at > redis.call('STRLEN', list(number)) then at = 0 end\n" +
     "while true do\n" +
     "local text = redis.call('GETRANGE', list(number), string.format('%.0f', at), string.format('%.0f', at + room - 1))\n" +
     "local next, last = 1, #text - ONE + 1\n" +
-    "while next <= last do\n" +
-    "local start = text:find('svw1', next, true)\n" +
-    "if not start or start > last then next = last + 1\n" +
-    "elseif text:sub(start + 44, start + 47) ~= sum(text:sub(start, start + 43)) then next = start + 1\n" +
-    "else\n" +
+    "while next <= last and #found < MOST do\n" +
+    "local start = text:find('svw1', next, true) or last + 1\n" +
+    "if start <= last and text:sub(start + 44, start + 47) == sum(text:sub(start, start + 43)) then\n" +
     "local high, low = struct.unpack('>I4I4', text, start + 36)\n" +
     "if high * 2 ^ 32 + low <= s.time + r.lasts + r.back then found[#found + 1] = text:sub(start + 4, start + 43) end\n" +
-    "next = start + ONE\n" +
     "end\n" +
+    "next = math.min(start, last) + 1\n" +
     "end\n" +
     "at, room = at + next - 1, room - #text\n" +
-    "if room <= 0 or number == r.list then break end\n" +
+    "if room <= 0 or next <= last or number == r.list then break end\n" +
     "number, at = number + 1, 0\n" +
     "end\n" +
     "return {'ok', string.format('%s/%.0f/%.0f', r.id, number, at), table.concat(found)}",

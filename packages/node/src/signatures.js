@@ -46,7 +46,8 @@ export class Verifier {
    */
   async first({ rows, signed, signature }) {
     let unverifiable;
-    for (const [number, row] of rows.entries()) {
+    for (let number = 0; number < rows.length; number++) {
+      const row = rows[number];
       try {
         // (what a verifier of the service's own answers counts as yes if it is `true`, and not if it is an object, say)
         if ((await this.#made(row, signed, signature)) === true) return { number, row };

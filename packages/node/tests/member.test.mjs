@@ -235,6 +235,37 @@ test("what is no answer counts as none: the claim is put again", async () => {
   validator.close();
 });
 
+test("a claim without an answer stops no other, and is put again", async (t) => {
+  let moment = performance.now(), away;
+  const clock = t.mock.method(performance, "now", () => moment);
+  const store = new Fickle(), why = new Error("its server is away"), names = (claims) => claims.map((it) => it.key.join());
+  store.putEach = async (claims, about) => {
+    const found = await store.put(claims, about);
+    if (claims.length === 2) away ??= names(claims)[0];
+    return names(claims).map((name, n) => (name === away ? why : found[n]));
+  };
+  const validator = await strict(store, { verify: () => true }), answers = [], all = times(3, () => said(validator.check(token(one))).then((it) => answers.push(it)));
+  // (the first call goes out at once, and the next one, which has both others, 20 ms later)
+  await new Promise((resolve) => setImmediate(resolve));
+  moment += 20;
+  await until(() => answers.length === 2);
+  clock.mock.restore();
+  await until(() => store.puts.filter((it) => names(it).includes(away)).length > 2);
+  assert.equal(answers.length, 2);
+  assert.equal(validator.ready, true);
+  away = "";
+  await Promise.all(all);
+  assert.deepEqual(answers, times(3, () => "accepted"));
+  // (a store that has put alone may say so too)
+  const other = new Fickle(), put = other.put.bind(other);
+  let wrongs = 0;
+  other.put = async (...given) => (await put(...given)).map((it) => (wrongs++ ? it : why));
+  const checks = await strict(other);
+  assert.equal(await said(checks.check(token(one))), "accepted");
+  assert.equal(other.puts.length, 2);
+  for (const it of [validator, checks]) it.close();
+});
+
 test("a store that changes the list of claims, or a claim, throws, and nothing is accepted", async () => {
   const changes = [(claims) => claims.push(claims.pop()), (claims) => (claims[0].owner = new Uint8Array(32).fill(7))];
   for (const change of changes) {

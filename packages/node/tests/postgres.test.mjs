@@ -130,6 +130,21 @@ test("a withdrawal wins over a claim", async () => {
   });
 });
 
+test("who withdraws a token again, with an earlier expiry, does not take that back", async () => {
+  const name = await group();
+  await withStores([{ group: name }, { group: name }], async (one, other) => {
+    for (const n of [1, 2, 3]) assert(await isOf(one, n, OWNER));
+    for (const expires of [claim(1).expires, BigInt(now() - 1000)]) await one.withdraw(claim(1).key, expires);
+    // (at each look it forgets what is over, and the second one of these is heard by a later look than the first one)
+    for (const n of [2, 3]) {
+      await other.withdraw(claim(n).key, claim(n).expires);
+      await until(() => isOf(one, n, WITHDRAWN));
+    }
+    assert(await isOf(one, 1, WITHDRAWN));
+    assert.deepEqual((await one.withdrawals()).these.map(({ key }) => key[0]), [1, 2, 3]);
+  });
+});
+
 test("a call ends though the server does not answer", async () => {
   const name = await group();
   await withStores([{ group: name, wait: 1.5 }], async (store) => {

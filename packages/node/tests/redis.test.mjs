@@ -18,6 +18,7 @@ const redis = createRequire(import.meta.url)("redis");
 const { Validator } = await imported();
 const { RedisStore, StoreFault } = await imported("src/redis.js");
 const { GroupStore } = await imported("src/group-store.js");
+const { Member } = await imported("src/redis-member.js");
 const LOUD = { maxBuffer: 1 << 26 };
 const room = await mkdtemp(join(tmpdir(), "svid-redis-"));
 const binary = join(room, "redis.test"), go = `${TOP}/go`;
@@ -35,6 +36,9 @@ const TESTS = {
   replicas: "TestAReplicaAlone|TestAReplicaUnderTheSameName|TestTooFewReplicas|TestTwoPrimaries|TestAPrimaryThatWasAReplica|TestEachPutLooksAtTheRun",
   takeovers: "TestATakeover|TestATakeoverWithReplicas",
   sentinels: "TestSentinel|TestAPrimaryThatHung|TestSentinelsThatDisagree",
+  cluster: "TestCluster|TestAMemberOfAnotherLanguageInACluster",
+  clusterServers: "TestClusterWithoutOneServer|TestHowAClusterIsNamed",
+  clusterReplicas: "TestClusterTakeover|TestClusterTakeoverWithReplicas",
 };
 async function runs(tests) {
   const env = { ...process.env, SVID_STORE_CLIENT: `${process.execPath} ${TOP}/packages/node/tests/store-client.mjs redis` };
@@ -51,6 +55,9 @@ test("go/claims/redis: a server that ends", () => runs(TESTS.ends));
 test("go/claims/redis: replicas", () => runs(TESTS.replicas));
 test("go/claims/redis: takeovers", () => runs(TESTS.takeovers));
 test("go/claims/redis: Sentinels", () => runs(TESTS.sentinels));
+test("go/claims/redis: a Cluster", () => runs(TESTS.cluster));
+test("go/claims/redis: servers of a Cluster", () => runs(TESTS.clusterServers));
+test("go/claims/redis: a Cluster with replicas", () => runs(TESTS.clusterReplicas));
 
 const OWNER = new Uint8Array(32).fill(111), WITHDRAWN = new Uint8Array(32);
 const claim = (n, owner = OWNER) => ({ key: new Uint8Array(32).fill(n), owner, expires: BigInt(now() + 300) });
@@ -72,9 +79,9 @@ async function withServer(act, more = []) {
     }
   };
   const machine = {
-    dir, url: `unix://${path}`, told,
+    dir, url: `unix://${path}`, told, words,
     async start() {
-      this.process = spawn("redis-server", words, { stdio: "ignore" });
+      this.process = spawn("redis-server", this.words, { stdio: "ignore" });
       await until(() => told("PING").catch(() => false));
     },
     async kill() {
@@ -122,8 +129,7 @@ async function put(store, ...claims) {
 const isOf = async (store, n, owner, by = OWNER) => Buffer.compare((await put(store, claim(n, by))).owner, owner) === 0;
 
 test("each test of a store in Go is run", async () => {
-  const others = ["TestRights", "TestAKeyOfAnUnknownAlgorithm", "TestOptions", "TestRecords", "TestSlots", "TestNoTextIsAnID", "TestARecordThatChangedMeanwhile", "TestCluster",
-    "TestClusterWithoutOneServer", "TestClusterTakeover", "TestClusterTakeoverWithReplicas", "TestAMemberOfAnotherLanguageInACluster", "TestHowAClusterIsNamed",
+  const others = ["TestRights", "TestAKeyOfAnUnknownAlgorithm", "TestOptions", "TestRecords", "TestSlots", "TestNoTextIsAnID", "TestARecordThatChangedMeanwhile",
     "TestServersThatHang", "TestEachSearchForThePrimaryLeavesNothing", "TestABurstLeavesFewConnections", "TestAServerThatIsAwayIsAskedNowAndThen",
     "TestMembersThatComeAndGoLeaveNoKey"];
   const { stdout } = await run(binary, ["-test.list", "^Test"]);
@@ -140,7 +146,7 @@ test("one validator accepts a token", () =>
       for (const it of [a, b]) it.close();
     })));
 
-test("a server of a Cluster is refused, and the reason says what to do", async () => {
+test("a server that took the place of a Cluster gets no claims, which other members would not see", async () => {
   const port = await new Promise((resolve) => {
     const free = createServer().listen(0, "127.0.0.1", () => {
       const { port } = free.address();
@@ -148,12 +154,51 @@ test("a server of a Cluster is refused, and the reason says what to do", async (
     });
   });
   const slots = ["--cluster-enabled", "yes", "--port", String(port), "--cluster-port", "0", "--bind", "127.0.0.1"];
-  await withServer((machine) => withStores(machine, [{}], async (store) => {
-    for (const isWhole of [false, true]) {
-      if (isWhole) await machine.told("CLUSTER", "ADDSLOTSRANGE", "0", "16383");
-      await until(() => store.state().then(() => false, (why) => why.reason === "cluster" && /let svidd check the tokens/.test(why.message)));
+  await withServer(async (machine) => {
+    // (nobody looks at it meanwhile)
+    const member = new Member({ servers: [`redis://127.0.0.1:${port}`], group: "svid", replicas: 1 }, { lasts: 7200n, margin: 120n, back: 60n }, 1);
+    const end = () => performance.now() + PATIENCE * 1000, looked = () => until(() => member.look(end()).catch(() => false));
+    await assert.rejects(member.look(end()), { reason: "slot" });
+    await machine.told("CLUSTER", "ADDSLOTSRANGE", "0", "16383");
+    await looked();
+    assert.deepEqual((await member.put([claim(1), claim(200)], end())).map((it) => it.owner), [OWNER, OWNER]);
+    await machine.kill();
+    machine.words.push("--cluster-enabled", "no");
+    await rm(`${machine.dir}/appendonlydir`, { recursive: true });
+    await machine.start();
+    for (const call of [() => member.look(end()), async () => Promise.reject((await member.put([claim(1)], end()))[0])]) {
+      await assert.rejects(call, { reason: "unfit", message: /^the server is none of a Cluster any more/ });
     }
-  }), slots);
+    assert.deepEqual(await machine.told("KEYS", "*"), []);
+    member.close();
+  }, slots);
+});
+
+test("the first server that answers says if there is a Cluster, though no look has time for all", async () => {
+  const hanging = await Promise.all(Array.from({ length: 4 }, () => silent(createServer)));
+  const urls = hanging.map(({ port }) => `redis://127.0.0.1:${port}`);
+  await withServer((machine) => withStores(machine, [{ servers: [...urls, machine.url], wait: 1.5 }], (store) => put(store, claim(1))));
+});
+
+test("withdrawals are heard though a server of a Cluster is away, and the claims of the others go on", async () => {
+  const fault = new StoreFault("silent"), key = claim(1).key;
+  let isAway = false;
+  const member = {
+    epoch: "e",
+    look: async () => {
+      if (isAway) throw fault;
+      return { epoch: "e", deaf: 0n, time: 1000n, wait: 0 };
+    },
+    put: async (claims) => claims.map(({ owner }, n) => (n ? fault : { owner, time: 1000n, deaf: 0n })),
+    withdrawals: async (after) => ({ these: isAway && !after ? [{ key, expires: 9000n }] : [], last: isAway ? "1" : "" }),
+    close() {},
+  };
+  const store = await new GroupStore().begin(() => member, { servers: "x", onWarning: () => {} }), both = [claim(1), claim(2)];
+  assert.deepEqual((await store.putEach(both)).map((it) => it.owner ?? it), [OWNER, fault]);
+  await assert.rejects(store.put(both), fault);
+  isAway = true;
+  await until(async () => Buffer.compare((await store.putEach(both))[0].owner, WITHDRAWN) === 0);
+  store.close();
 });
 
 test("a withdrawal wins over a claim, and a server that lost its scripts gets them again", () =>
@@ -197,6 +242,20 @@ test("a connection that breaks is not made again by itself", () =>
       await put(store, claim(10));
       await until(async () => (await machine.told("CLIENT", "LIST")).trim().split("\n").length < 6);
     })));
+
+test("calls look where the primary is after a server was away", () =>
+  withServer(async (machine) => {
+    const terms = { lasts: 7200n, margin: 120n, back: 60n }, end = () => performance.now() + PATIENCE * 1000;
+    const member = new Member({ servers: [machine.url, "unix:///nowhere"], group: "svid", replicas: 1 }, terms, 1);
+    await until(() => member.look(end()).catch(() => false));
+    await machine.kill();
+    await until(async () => /ECONNREFUSED|ENOENT/.test((await member.put([claim(1)], end()))[0].message));
+    await machine.start();
+    const found = [];
+    await until(async () => found.push((await member.put([claim(1)], end()))[0]) && found.at(-1).owner);
+    assert(found.every((it) => it.owner || it instanceof StoreFault), String(found)); // (members compare, or the server is not ready)
+    member.close();
+  }));
 
 /** A server that takes connections, and says nothing. */
 async function silent(make, ...given) {

@@ -128,7 +128,7 @@ class GroupStore(abc.ABC):
         """Is that of `Store`. Raises StoreFault."""
         self._withdraw(key, expires, self._until())
         with self._lock:
-            self._withdrawn[key] = max(expires, self._withdrawn.get(key, 0))
+            self._know([(key, expires)])
 
     def withdrawals(self, after: str = "") -> tuple[list[tuple[bytes, int]], str]:
         """The keys that were withdrawn after a position, and when their tokens expire.
@@ -166,11 +166,16 @@ class GroupStore(abc.ABC):
         while True:
             these, last = self._withdrawals(self._position, end)
             with self._lock:
-                self._withdrawn.update(these)
+                self._know(these)
                 done, self._position = self._position == last, last
             if done:
                 self._heard = True
                 return
+
+    def _know(self, these: Sequence[tuple[bytes, int]]) -> None:
+        """Keeps withdrawals in mind. One that ends earlier takes none back."""
+        for key, expires in these:
+            self._withdrawn[key] = max(expires, self._withdrawn.get(key, 0))
 
     def _forget(self, moment: int) -> None:
         """Forgets withdrawals that are over."""

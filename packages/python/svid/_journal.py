@@ -56,7 +56,7 @@ class Journal:
         ..
         journal.append(validator.check(token).use.message)
 
-    svidd writes the same files (docs/FORMATS.md, "The state folder"), so either can go on with the
+    svidd writes the same files (docs/FORMATS.md, "State folder"), so either can go on with the
     folder of the other one. One process holds a folder at a time, and any number of its threads
     may use the journal. Each method raises Closed after `close`, and Forked in a process that was
     forked from the one that opened the folder. Once somebody removes or moves the folder, or mounts

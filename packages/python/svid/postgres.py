@@ -7,7 +7,6 @@ this package and sidecars accept a token once together.
 from __future__ import annotations
 
 import contextlib
-import functools
 import os
 import re
 import select
@@ -250,7 +249,8 @@ class PostgresStore(GroupStore):
     ) -> list[list[Any]]:
         """Makes a call on a connection to the primary, whose answer counts.
 
-        confirm: other servers must have what it commits, where `replicas` says so.
+        confirm: other servers must have what it commits, where `replicas` says so. For the server
+            it is no error if somebody cancelled the wait for them.
         """
         self._same_process()
         with self._connection(end) as one:
@@ -390,7 +390,6 @@ class _Connection:
         self.at = at
         self._ends = ends
         self._prepared: dict[str, bytes] = {}
-        self._warned: list[str] = []
         self._pg = pq.PGconn.connect_start(at.conninfo())
         try:
             while (status := self._pg.connect_poll()) != pq.PollingStatus.OK:
@@ -402,14 +401,12 @@ class _Connection:
         except BaseException:
             self.close()
             raise
-        self._pg.notice_handler = functools.partial(_noticed, self._warned)
 
     def close(self) -> None:
         self._pg.finish()
 
     def call(self, text: str, values: Sequence[_Value], end: float) -> list[list[Any]]:
         """Returns the rows that a statement answers, which the connection prepares once."""
-        self._warned.clear()
         name = self._prepared.get(text, b"s%d" % len(self._prepared))
         if text not in self._prepared:
             self._run(lambda: self._pg.send_prepare(name, text.encode()), end)
@@ -418,8 +415,6 @@ class _Connection:
         formats = [_BINARY if isinstance(it, bytes) else pq.Format.TEXT for it in values]
         send = self._pg.send_query_prepared
         result = self._run(lambda: send(name, lent, formats, _BINARY), end)
-        if self._warned:  # (a commit that did not wait for standbys is no error for the server)
-            raise StoreFault("server", f"the server warns: {brief(self._warned[0])}")
         columns = range(result.nfields)
         return [[_read(result, row, it) for it in columns] for row in range(result.ntuples)]
 
@@ -456,14 +451,6 @@ class _Connection:
             raise StoreFault("closed")
         if not ready:
             raise StoreFault("silent")
-
-
-def _noticed(warned: list[str], result: pq.abc.PGresult) -> None:
-    """Takes a notice. (As a method it would keep the connection.)"""
-    code = result.error_field(pq.DiagnosticField.SQLSTATE) or b""
-    if not code.startswith(b"00"):  # (the class of notices that are no warnings)
-        message = result.error_field(pq.DiagnosticField.MESSAGE_PRIMARY) or b"?"
-        warned.append(message.decode(errors="replace"))
 
 
 def _lent(value: _Value) -> bytes | None:

@@ -91,7 +91,8 @@ class _Shard:
         self.count = 0  # (it never goes back: an older copy must not have a greater one)
         self.checked = b""  # the run of the server whose settings were seen
         # (the store's lock guards what follows)
-        self.agreed = ""  # the name of the server that has what this member knows
+        # the server that has what this member knows, since so many connections to it
+        self.agreed: tuple[str, int] | None = None
         self.known = _Known()
 
 
@@ -99,6 +100,7 @@ class _Pool:
     """The connections to a server that wait for a call."""
 
     def __init__(self) -> None:
+        self.made = 0  # how many there were
         self.idle: list[_Connection] = []
         self.calls = threading.BoundedSemaphore(MOST_CALLS)
 
@@ -254,6 +256,7 @@ class RedisStore(GroupStore):
         self, one: _Connection, shards: Sequence[_Shard], end: float
     ) -> tuple[list[_Shard], float]:
         """Looks at shards once. Returns those that members compare, and for how many seconds."""
+        at = one.at.name, self._pool(one.at).made
         settings: list[Any] = one.settings(end)
         terms = (self._lasts, self._margin, self._back, self._compare_wait)
         calls: dict[_Shard, tuple[_Known, list[Any]]] = {}
@@ -267,10 +270,10 @@ class RedisStore(GroupStore):
         fault: StoreFault | None = None
         for it, (what, more, it.checked, *rest) in zip(shards, self._run(one, "state", calls, end)):
             if what == b"ok":
-                self._adopt(it, one.at.name, *rest)
+                self._adopt(it, at, *rest)
                 continue
             with self._lock:
-                it.agreed = ""
+                it.agreed = None
             if what == b"wait":
                 waits.append(it)
                 pause = max(pause, min(more, said.PAUSE))
@@ -281,7 +284,14 @@ class RedisStore(GroupStore):
         return waits, pause / 1000
 
     def _adopt(
-        self, it: _Shard, at: str, record: bytes, epoch: bytes, deaf: int, moment: int, latest: int
+        self,
+        it: _Shard,
+        at: tuple[str, int],
+        record: bytes,
+        epoch: bytes,
+        deaf: int,
+        moment: int,
+        latest: int,
     ) -> None:
         """Takes what a server has of a shard."""
         with self._lock:
@@ -354,7 +364,7 @@ class RedisStore(GroupStore):
         with self._lock:
             now = it.known
             if now.epoch != known.epoch or least < now.latest:
-                it.agreed = ""
+                it.agreed = None
                 raise StoreFault("epoch")
             it.known = now._replace(latest=max(now.latest, moment), mark=mark or now.mark)
         return Answer(0, moment, deaf, epoch.decode(), cells)
@@ -370,7 +380,8 @@ class RedisStore(GroupStore):
         with self._connection(values, end) as one:
             while True:
                 with self._lock:
-                    others = [it for it in values if it.agreed != one.at.name]
+                    at = one.at.name, self._pools[one.at.name].made
+                    others = [it for it in values if it.agreed != at]
                     calls = {it: (it.known, its) for it, its in values.items()}
                 if others:
                     self._agree(one, others, end)
@@ -380,7 +391,7 @@ class RedisStore(GroupStore):
                     if answer[0] == b"ok":
                         continue
                     with self._lock:
-                        it.agreed = ""
+                        it.agreed = None
                     if answer[0] != b"look":
                         raise StoreFault(answer[0].decode())
                 if all(it[0] == b"ok" for it in answers):
@@ -451,14 +462,11 @@ class RedisStore(GroupStore):
         try:
             one = _Connection(at, self._end, end)
         except StoreFault:
-            if len(self._shards) > 1:
-                self._servers.lost()
+            self._servers.lost()  # (another one may be the primary, or have the slots)
             raise
         with self._lock:
             self._open.add(one)
-            for it in self._shards:  # (a connection that is new may lead to a server that is)
-                if it.agreed == at.name:
-                    it.agreed = ""
+            pool.made += 1  # (a connection that is new may lead to a server that is)
         if self._end.is_said:
             self._give(one, False)
             raise StoreFault("closed")
@@ -713,15 +721,12 @@ class _Servers:
         self._kept: list[_Connection | None] = [None] * len(self._all)
         self._asking: list[threading.Thread | None] = [None] * len(self._all)
         self._primary: _Server | None = None
-        self._fault: StoreFault | None = None  # why nothing may be put
         self._first = 0  # which server of a Cluster is asked first
         self._ranges: list[tuple[int, int, _Server]] | None = None  # where the slots are
 
     def primary(self, end: float) -> _Server:
         """The primary, by the last look."""
-        if (is_ := self._primary) is None or self._fault:
-            is_ = self.look(end)
-        return is_
+        return self._primary or self.look(end, fresh=False)
 
     def lost(self) -> None:
         """Lets the next call look where the servers are."""
@@ -804,20 +809,23 @@ class _Servers:
             raise faults[0]
         raise StoreFault("server", "; ".join(brief(str(it)) for it in faults))
 
-    def look(self, end: float) -> _Server:
-        """Asks all servers which one is the primary."""
+    def look(self, end: float, fresh: bool = True) -> _Server:
+        """Asks all servers which one is the primary.
+
+        Unless fresh, it takes what another thread has found meanwhile: else each of many calls
+        would wait for the looks of all others.
+        """
         if len(self._all) == 1 and not self._all[0].service:
             self._primary = self._all[0]
             return self._primary
         if not self._looking.acquire(timeout=max(0, end - time.monotonic())):
             raise StoreFault("silent")
         try:
-            self._primary, self._fault = None, None
-            self._primary = self._found(self._ask(end))
-            return self._primary
-        except StoreFault as why:
-            self._fault = why if why.name in ("primaries", "sentinels") else None
-            raise
+            found = None if fresh else self._primary
+            if found is None:
+                self._primary = None  # (until it is known, nobody puts anything)
+                self._primary = found = self._found(self._ask(end))
+            return found
         finally:
             self._looking.release()
 

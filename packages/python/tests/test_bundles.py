@@ -429,6 +429,14 @@ def told(caplog):
     return [it.getMessage() for it in caplog.records if it.levelno == logging.WARNING]
 
 
+def look_again(checks):
+    """Waits until what a look at the files found is used."""
+    followed, looks = checks._followed, []
+    read = followed._read
+    followed._read = lambda fault: looks.append(1) or read(fault)
+    until(lambda: len(looks) > 2)
+
+
 def test_a_file_that_gets_bad_is_told_once_and_not_used(tmp_path, caplog):
     path = tmp_path / "example.org.json"
     path.write_text(json.dumps(SPIRE))
@@ -438,12 +446,17 @@ def test_a_file_that_gets_bad_is_told_once_and_not_used(tmp_path, caplog):
         until(lambda: len(told(caplog)) == 1)
         path.unlink()
         until(lambda: len(told(caplog)) == 2)
+        look_again(checks)
         assert judged(checks, token()) == ACCEPTED
         rewrite(path, json.dumps({"keys": []}))
         soon(checks, "refused NoKey")
+        look_again(checks)
+        path.unlink()  # (the same fault again)
+        until(lambda: len(told(caplog)) == 3)
     said = [it for it in caplog.records if str(path) in it.getMessage()]
-    assert [it.name for it in said] == ["svid"] * 3
-    assert [it.levelno for it in said] == [logging.WARNING] * 2 + [logging.INFO]
+    assert [it.name for it in said] == ["svid"] * 4
+    warned, well = logging.WARNING, logging.INFO
+    assert [it.levelno for it in said] == [warned, warned, well, warned]
 
 
 def test_a_bad_file_of_a_folder_leaves_the_others(tmp_path, caplog):
@@ -471,11 +484,22 @@ def test_a_folder_that_is_away_changes_nothing(tmp_path, caplog):
     (folder / "example.org.json").write_text(json.dumps(SPIRE))
     with validator(folder, refresh=0.01) as checks:
         folder.rename(tmp_path / "away")
-        until(lambda: told(caplog))
-        assert judged(checks, token()) == ACCEPTED
+        look_again(checks)
+        assert told(caplog) and judged(checks, token()) == ACCEPTED
         (tmp_path / "away").rename(folder)
         rewrite(folder / "example.org.json", json.dumps({"keys": []}))
         soon(checks, "refused NoKey")
+
+
+def test_sources_that_were_replaced_change_nothing(tmp_path):
+    """Their last look may end after that."""
+    path = tmp_path / "example.org.json"
+    path.write_text(json.dumps(SPIRE))
+    with validator(path, refresh=0.01) as checks:
+        before = checks._followed
+        checks.renew({"example.org": {"keys": []}})
+        checks._take(before)
+        assert judged(checks, token()) == "refused NoKey"
 
 
 def test_bundles_that_are_not_taken_are_handed_on_again(tmp_path, caplog, monkeypatch):

@@ -418,6 +418,15 @@ def test_a_long_journal_becomes_a_snapshot(tmp_path, monkeypatch):
                 checks.check(it)
 
 
+def test_a_large_record_is_written_again_after_as_much(tmp_path):
+    with contextlib.closing(svid.Journal(tmp_path)) as journal:
+        journal.snapshot(lambda: [use(1).message])
+        keeper = journal._keeper
+        for kept, older, wants in [(100, 9, False), (100, 101, True), (1, 7, False), (1, 9, True)]:
+            keeper._kept, keeper._older = kept << 20, older << 20
+            assert journal.wants_snapshot == wants
+
+
 def test_starts_do_not_fill_the_folder(tmp_path):
     for number in range(20):
         with validator(state=tmp_path) as checks:
@@ -443,7 +452,20 @@ def test_a_snapshot_that_fails_is_told_and_loses_nothing(tmp_path, monkeypatch, 
             journal.snapshot_soon(fails)
             until(lambda: caplog.records)
         append(journal, 3)
+        assert "snapshot" not in names(tmp_path)
+        kept = [use(it).message for it in (1, 2, 3)]
+        until(lambda: journal.snapshot_soon(lambda: kept) or "snapshot" in names(tmp_path))
     assert found(tmp_path) == {1, 2, 3}
+
+
+def test_snapshots_leave_no_descriptor(tmp_path):
+    def taken():
+        journal.snapshot(lambda: [use(1).message])
+        return len(os.listdir("/proc/self/fd"))
+
+    with contextlib.closing(svid.Journal(tmp_path)) as journal:
+        before = taken()
+        assert [taken() for _ in range(9)][-1] <= before
 
 
 def test_a_snapshot_for_which_there_is_no_thread(tmp_path, monkeypatch, caplog):

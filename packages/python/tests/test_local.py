@@ -92,6 +92,19 @@ def test_a_clock_that_goes_back_ends_the_epoch(opened, clock, is_restarted, monk
     clock.at = NOW + 1
     assert store.put([Claim(b"x" * 32, b"1" * 32, NOW + 9)])[0].deaf == NOW + 1000 + LASTS
     assert put(opened(), b"k", b"2")[1] == NOW + 1000 + LASTS
+    clock.at = NOW + 1000  # (it shows no step back any more)
+    assert put(opened(), b"k", b"3")[1] == NOW + 1000 + LASTS
+
+
+def test_a_snapshot_keeps_the_end_of_an_epoch(opened, clock):
+    store = opened()
+    put(store, b"k", b"1")
+    clock.at = NOW + 1000  # the entry is over, and dropped
+    store.put([])
+    clock.at = NOW + 1
+    store.put([])
+    store._journal.snapshot(store._parts)
+    assert put(opened(), b"k", b"2")[1] == NOW + 1000 + LASTS
 
 
 def test_a_clock_may_step_back_by_a_minute(opened, clock):

@@ -367,6 +367,17 @@ def test_a_claim_without_an_answer_stops_no_other():
         assert [it.answer for it in both] == [SUBJECT, SUBJECT]
 
 
+def test_calls_one_after_the_other_share_some_threads():
+    def threads():
+        return {it for it in threading.enumerate() if it.name == "svid-claims"}
+
+    before = threads()
+    with strict(svid.testing.MemoryStore()) as checks:
+        for n in range(20):
+            assert answer(checks.check, fresh(jti=str(n))) == SUBJECT
+        assert len(threads() - before) < 10
+
+
 def test_a_store_that_sorts_its_claims(caplog):
     """That raises, so that no answer goes to another request."""
 
@@ -803,6 +814,21 @@ def test_a_store_that_goes_away():
         until(lambda: checks.ready)  # (each look asks the store)
 
 
+def test_claims_wait_for_a_store_without_a_turn(monkeypatch):
+    """A store that is away costs no processor, neither of the service nor of its own."""
+    store, asked, turns, taken = Fickle(), [], [], _claims.Claims._taken
+
+    def fails():
+        asked.append(time.monotonic())
+        away()
+
+    monkeypatch.setattr(_claims.Claims, "_taken", lambda own: turns.append(1) or taken(own))
+    store.before = fails
+    with strict(store, wait=0.01):
+        until(lambda: len(asked) > 5)
+        assert len(turns) < 20 * len(asked)
+
+
 def test_a_clock_that_jumps():
     now = int(time.time())
     with validator(step=3600) as checks:
@@ -891,14 +917,21 @@ def test_a_withdrawal_that_has_expired_is_passed_over(monkeypatch):
         assert [it.key for it in checks.report().uses] == [b"l" * 32]
 
 
-def test_a_store_that_tells_nothing_is_asked_after_a_pause(monkeypatch):
-    """A store that is away would else be asked thousands of times a second, by each member."""
+@pytest.mark.parametrize("told", [0, 1])
+def test_a_store_that_tells_nothing_is_asked_after_a_pause(monkeypatch, told):
+    """A store that is away would else be asked thousands of times a second, by each member.
+
+    It may go away after it has told some.
+    """
     monkeypatch.setattr(_claims, "_HEARS", 0.02)
     store, asked = Pages(), []
+    for n in range(2):
+        store.withdraw(bytes([n]) * 32, int(time.time()) + 1000)
 
     def fails():
-        asked.append(time.monotonic())
-        raise ConnectionError("the store is away")
+        if store.asked > told:
+            asked.append(time.monotonic())
+            away()
 
     store.before = fails
     with validator(mode="reuse", store=store, wait=0.01):

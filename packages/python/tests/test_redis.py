@@ -18,8 +18,8 @@ import redis
 import svid
 from making import PATIENCE, fresh, until, validator
 from svid import redis as store_of_redis
-from svid._group import GroupStore
-from svid.redis import RedisStore, StoreFault
+from svid._group import End, GroupStore
+from svid.redis import RedisStore, State, StoreFault
 
 TOP = pathlib.Path(os.environ["SVID"]).parent
 CLIENT = pathlib.Path(__file__).parent / "store_client.py"
@@ -272,6 +272,129 @@ def test_terms(machine):
             store.put([])
 
 
+def unwatched(*servers):
+    """A store that looks at its servers in calls alone."""
+    store = RedisStore.__new__(RedisStore)
+    store._begin(servers, "svid", 1, PATIENCE, (7200, 60, 60), 500)
+    return store
+
+
+@pytest.mark.parametrize("is_looked_at", [False, True])
+def test_a_connection_that_is_new_may_lead_to_another_server(machine, is_looked_at):
+    """A server that an older copy replaced, down to its memory, has the run and the record.
+
+    That may happen as a look at the server ends.
+    """
+    with unwatched(machine.url) as store:
+        adopt = store._adopt
+
+        def replaced():
+            machine.client().delete(b"svid:{svid}:" + claim(1).key)
+            machine.client().client_kill_filter(_type="normal", skipme=True)
+
+        def adopted(*known):
+            store._adopt = adopt
+            replaced()
+            with store._connection(store._shards, time.monotonic() + PATIENCE):
+                adopt(*known)
+
+        assert put(store, claim(1))[0].deaf == 0
+        if is_looked_at:
+            other = store._taken(store._shards, time.monotonic())
+            store._adopt = adopted
+            store._agree(other, store._shards, time.monotonic() + PATIENCE)
+        else:
+            replaced()
+        found = put(store, claim(1, b"x"))[0]
+        assert (found.owner, found.deaf > claim(1).expires) == (b"x" * 32, True)
+
+
+def test_who_does_not_reach_the_primary_looks_for_another_one(tmp_path):
+    """Also where it has no connection yet whose end would tell that."""
+    machines = []
+    try:
+        for n in "ab":
+            (tmp_path / n).mkdir()
+            machines.append(Machine(tmp_path / n))
+        one, two = machines
+        two.client().replicaof("127.0.0.1", "1")
+        with unwatched(one.url, two.url) as store:
+            put(store, claim(1))
+            one.kill()
+            with store._lock:
+                store._ended(store._pools[one.socket].idle)
+            two.client().replicaof("NO", "ONE")
+            assert put(store, claim(1, b"x"))[0].owner == b"x" * 32
+    finally:
+        for it in machines:
+            it.kill()
+
+
+def test_many_calls_share_a_look(monkeypatch):
+    servers = store_of_redis._Servers(["redis://h:1", "redis://h:2"], End())
+    asked, go, end = [], threading.Event(), time.monotonic() + PATIENCE
+
+    def ask(_):
+        asked.append(1)
+        go.wait(PATIENCE)
+        return servers._all[:1]
+
+    monkeypatch.setattr(servers, "_ask", ask)
+    calls = [threading.Thread(target=servers.primary, args=(end,)) for _ in range(8)]
+    for it in calls:
+        it.start()
+    until(lambda: asked)
+    go.set()
+    for it in calls:
+        it.join(PATIENCE)
+    assert len(asked) == 1
+
+
+def test_a_server_that_hangs_has_one_thread(monkeypatch):
+    servers, go = store_of_redis._Servers(["redis://h:1", "redis://h:2"], End()), threading.Event()
+    monkeypatch.setattr(servers, "_asked", lambda *_: go.wait(PATIENCE))
+    before = set(threading.enumerate())
+    for _ in range(5):
+        with pytest.raises(StoreFault):
+            servers.look(time.monotonic() + 0.02)
+    assert len(set(threading.enumerate()) - before) <= 2
+    go.set()
+
+
+def test_a_connection_whose_answer_is_late_ends(machine):
+    """The next call would read that answer."""
+    with unwatched(machine.url) as store:
+        put(store, claim(1))
+        store._wait = 0.2
+        with machine.paused(), pytest.raises(StoreFault):
+            store.put([claim(2)])
+        assert not any(it.idle for it in store._pools.values())
+
+
+def test_members_compare_with_pauses(machine):
+    with unwatched(machine.url) as store:
+        compare, compared = store._compare, []
+        store._compare = lambda *given: compared.append(1) or compare(*given)
+        put(store, claim(1))
+        assert len(compared) <= 500 / store_of_redis.said.PAUSE + 5
+
+
+def test_a_connection_that_is_made_while_it_closes_ends(machine, monkeypatch):
+    class Late(store_of_redis._Connection):
+        def __init__(self, *given):
+            super().__init__(*given)
+            store._end.say()
+
+    with unwatched(machine.url) as store:
+        put(store, claim(1))
+        (pool,) = store._pools.values()
+        store._ended(pool.idle)
+        monkeypatch.setattr(store_of_redis, "_Connection", Late)
+        with pytest.raises(StoreFault, match="closed"):
+            store.put([claim(1)])
+        assert not store._open
+
+
 def test_a_shard_of_no_cluster(machine, monkeypatch):
     """A server that took the place of a Cluster would get claims that other members don't see."""
     monkeypatch.setattr(store_of_redis._Servers, "is_cluster", lambda *_: True)
@@ -294,6 +417,69 @@ def test_servers_that_hang(machine, tmp_path):
             urls.append(f"unix://{tmp_path}/hangs{n}")
         with RedisStore(*urls, machine.url, wait=1.5) as store:
             put(store, claim(1))
+
+
+class Told(GroupStore):
+    """A store whose server says what a test wants."""
+
+    def __init__(self):
+        self._begin_group(["server"], 1, 2.0, (7200, 60, 60))
+        self.time, self.looks, self.told, self.is_away = 1000, [], [], False
+
+    def close(self):
+        self._end.say()
+
+    def _look(self, end):
+        self.looks.append(time.monotonic())
+        if self.is_away:
+            raise StoreFault("silent")
+        self._epoch = "e"
+        return State("e", 0, self.time), 0
+
+    def _put_each(self, claims, end):
+        return [svid.Found(it.owner, self.time, 0) for it in claims]
+
+    def _withdraw(self, key, expires, end):
+        return svid.WITHDRAWN
+
+    def _withdrawals(self, after, end):
+        return ([] if after else self.told), "last"
+
+    def look_again(self):
+        """Waits until what a look has seen is known."""
+        before = len(self.looks)
+        until(lambda: len(self.looks) > before + 1)
+
+
+def test_a_store_is_looked_at_once_a_second():
+    with Told() as store:
+        store._watch()
+        until(lambda: len(store.looks) > 2)
+    assert min(b - a for a, b in zip(store.looks, store.looks[1:])) > 0.9
+
+
+def test_each_outage_is_warned_of(monkeypatch, caplog):
+    monkeypatch.setattr("svid._group.said.STATE_EVERY", 10)
+    with Told() as store:
+        store._watch()
+        for is_away in (True, False, True, False):
+            store.is_away = is_away
+            store.look_again()
+    assert caplog.text.count("can't be looked at") == 2
+
+
+def test_who_withdraws_a_token_again_does_not_take_that_back():
+    """Neither by this member nor by another one."""
+    with Told() as store:
+        store.told = [(claim(1).key, 9000), (claim(1).key, 1001)]
+        for expires in 9000, 1001:
+            store.withdraw(claim(2).key, expires)
+        store._watch()
+        until(lambda: store.looks)
+        store.time = 5000  # (what expires by then is forgotten at a look)
+        store.look_again()
+        owners = [it.owner for it in store.put([claim(n) for n in (1, 2, 3)])]
+        assert owners == [svid.WITHDRAWN, svid.WITHDRAWN, b"o" * 32]
 
 
 def test_withdrawals_are_heard_though_a_server_is_away():

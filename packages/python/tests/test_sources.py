@@ -173,17 +173,19 @@ def test_pauses_grow_up_to_a_bound(monkeypatch):
     class Ended(threading.Event):
         def wait(self, timeout=None):
             waits.append(timeout)
-            return len(waits) == 10
+            return len(waits) == 13
 
-    def fails(*_):
+    def fetched(*_):
+        if len(waits) == 10:
+            return GOOD, 60
         raise OSError("it is away")
 
-    monkeypatch.setattr(_follow, "fetch", fails)
+    monkeypatch.setattr(_follow, "fetch", fetched)
     followed = _follow.Followed({"example.org": svid.Endpoint("https://127.0.0.1/bundle")})
     followed._ended = Ended()
-    followed.begin(lambda: None, None)
+    followed.begin(lambda: lambda _: None, None)
     followed.close()
-    assert waits == [0, 1, 2, 4, 8, 16, 30, 30, 30, 30]
+    assert waits == [0, 1, 2, 4, 8, 16, 30, 30, 30, 30, 60, 1, 2]
 
 
 def test_an_answer_without_an_end_is_not_read(authority, tmp_path, quick, caplog):
@@ -195,6 +197,15 @@ def test_an_answer_without_an_end_is_not_read(authority, tmp_path, quick, caplog
             until(lambda: [it for it in told(caplog) if "more than 1,048,576 bytes" in it])
             until(lambda: served.answered > 1)
         assert served.whole == 0
+
+
+def test_an_answer_leaves_nothing_to_end(authority, tmp_path, quick):
+    with Served(authority.server(tmp_path)) as served:
+        served.status = 500
+        endpoint = svid.Endpoint(served.url, authorities=authority.pem(tmp_path))
+        with following(endpoint) as checks:
+            until(lambda: served.answered > 3)
+            assert len(checks._followed._ends._open) < 2
 
 
 def test_a_bundle_that_did_not_come_is_no_unknown_domain(authority, tmp_path):

@@ -3,7 +3,7 @@
 from . import formats
 from .formats import OLD_MAGIC, batch, old_batch, report, summary, use
 
-BATCH = 'docs/FORMATS.md, "Batch"'
+BATCH = 'docs/FORMATS.md, "Messages"'
 OLD = 'docs/FORMATS.md, "Batches of version 1"'
 FAULT = 'docs/FORMATS.md, "What is wrong with bytes that are no messages"'
 RECORDS = 'docs/FORMATS.md, "Records"'
@@ -153,7 +153,7 @@ def faults():
 
 def summaries():
     """Summaries of records, and the answers to them."""
-    source = 'docs/FORMATS.md, "Summary"'
+    source = 'docs/FORMATS.md, "Messages"'
     for name, moment, uses in (
         ("no uses", 100, ()),
         ("two uses of one key", 100, (ONE, TWO)),
@@ -167,7 +167,7 @@ def summaries():
             "messages": batch(moment, *sorted(uses)).hex(),
             "summary": summary(moment, *uses).hex(),
         }
-    answers = 'docs/FORMATS.md, "Inputs and answers"'
+    answers = 'docs/FORMATS.md, "Records"'
 
     whole = batch(100, *sorted((ONE, TWO, THREE)))
     for name, asked, answer in (

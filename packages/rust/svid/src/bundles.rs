@@ -22,6 +22,16 @@ impl Bundles {
     }
 }
 
+/// What the text of a bundle is.
+#[derive(Debug, Clone, Copy, PartialEq, Eq)]
+pub(crate) enum Form {
+    /// As SPIRE prints it.
+    Bundle = 0,
+    /// Keys for JWT-SVIDs alone, which need no `use` (SPIFFE Workload API, section 6.2.2).
+    #[cfg(feature = "workload")]
+    Keys = 1,
+}
+
 impl Drop for Bundles {
     fn drop(&mut self) {
         // SAFETY: the handle is open, and this is its last call.
@@ -30,9 +40,9 @@ impl Drop for Bundles {
 }
 
 /// The text of several bundles, each with the name of its trust domain, and of objects from names to bundles, which have none.
-pub(crate) fn join<'a>(given: impl IntoIterator<Item = (Option<&'a str>, &'a [u8])>) -> Result<Vec<u8>, Error> {
+pub(crate) fn join<'a>(given: impl IntoIterator<Item = (Option<&'a str>, &'a [u8], Form)>) -> Result<Vec<u8>, Error> {
     let (mut bytes, mut documents) = (Vec::new(), Vec::new());
-    for (name, text) in given {
+    for (name, text, form) in given {
         // (to the library, a document with an empty name has none)
         let name = match name {
             Some("") => b"spiffe://",
@@ -40,7 +50,7 @@ pub(crate) fn join<'a>(given: impl IntoIterator<Item = (Option<&'a str>, &'a [u8
             None => b"",
         };
         documents.try_reserve(1).map_err(|_| Error::NoMemory)?;
-        documents.push(Document { name_len: name.len(), text_len: text.len(), keys: 0 });
+        documents.push(Document { name_len: name.len(), text_len: text.len(), keys: form as u64 });
         add(&mut bytes, name)?;
         add(&mut bytes, text)?;
     }

@@ -20,8 +20,9 @@ use tokio::net::TcpStream;
 use tokio::time::timeout;
 use tokio_openssl::SslStream;
 
+use crate::bundles::Form;
 use crate::error::SourceFault;
-use crate::follower::{read, Shared, MOST};
+use crate::follower::{read, told, Shared, Why, MOST};
 use crate::id::SpiffeId;
 
 /// How long one answer may take.
@@ -46,9 +47,6 @@ pub(crate) struct Endpoint {
     /// The file of those that vouch for the server: certificates as PEM, or with a SPIFFE ID a trust bundle.
     pub authorities: Option<PathBuf>,
 }
-
-/// Why an endpoint gave no bundle.
-type Why = Box<dyn std::error::Error + Send + Sync>;
 
 impl Endpoint {
     /// Whether what is said of it can be meant.
@@ -172,71 +170,28 @@ fn is_server(shown: &X509Ref, id: &str) -> Result<(), Why> {
     }
 }
 
-/// Asks an endpoint again and again, until the end.
-pub(crate) fn follow(shared: &Shared, number: usize) {
-    let endpoint = match shared.endpoint(number) {
-        Some(endpoint) => endpoint,
-        None => return,
-    };
-    let runtime = loop {
-        // (where the system has no room for it now, it may have later)
-        match tokio::runtime::Builder::new_current_thread().enable_all().build() {
-            Ok(runtime) => break runtime,
-            Err(why) => drop(shared.take(&endpoint.domain, &endpoint.url, Err(why.to_string()))),
-        }
-        if shared.ends_within(PAUSES.1) {
-            return;
-        }
-    };
-    let mut closing = shared.closing();
-    // (without who could say so, the end has come too)
-    let is_open = |it: &tokio::sync::watch::Receiver<bool>| !*it.borrow();
-    let end = async { while is_open(&closing) && closing.changed().await.is_ok() {} };
-    let follow = async {
-        let mut pause = PAUSES.0;
-        loop {
-            let asked = timeout(LIMIT, endpoint.ask(shared)).await;
-            let asked = asked.unwrap_or_else(|_| Err(io::Error::new(io::ErrorKind::TimedOut, "it does not answer in time").into()));
-            let refresh = asked.as_deref().ok().map(refresh);
-            let is_good = shared.take(&endpoint.domain, &endpoint.url, asked.map_err(|why| told(&*why)));
-            shared.tell_all();
-            let wait = match refresh {
-                Some(refresh) if is_good => {
-                    pause = PAUSES.0;
-                    refresh
-                }
-                _ => {
-                    let wait = pause;
-                    pause = (pause * 2).min(PAUSES.1);
-                    wait
-                }
-            };
-            tokio::time::sleep(wait).await;
-        }
-    };
-    runtime.block_on(async {
-        tokio::select! {
-            biased;
-            () = end => {}
-            () = follow => {}
-        }
-    });
-    // (the resolver of names may take longer than anybody waits)
-    runtime.shutdown_background();
-}
-
-/// An error, and what it comes from: what a library says first may be short.
-fn told(why: &(dyn std::error::Error + 'static)) -> String {
-    let mut text = why.to_string();
-    let mut source = why.source();
-    while let Some(it) = source {
-        let more = it.to_string();
-        if !text.contains(&more) {
-            text = format!("{text}: {more}");
-        }
-        source = it.source();
+/// Asks an endpoint again and again.
+pub(crate) async fn follow(shared: &Shared, endpoint: &Endpoint) {
+    let mut pause = PAUSES.0;
+    loop {
+        let asked = timeout(LIMIT, endpoint.ask(shared)).await;
+        let asked = asked.unwrap_or_else(|_| Err(io::Error::new(io::ErrorKind::TimedOut, "it does not answer in time").into()));
+        let refresh = asked.as_deref().ok().map(refresh);
+        let is_good = shared.take(&endpoint.domain, &endpoint.url, asked.map_err(|why| told(&*why)), Form::Bundle);
+        shared.tell_all();
+        let wait = match refresh {
+            Some(refresh) if is_good => {
+                pause = PAUSES.0;
+                refresh
+            }
+            _ => {
+                let wait = pause;
+                pause = (pause * 2).min(PAUSES.1);
+                wait
+            }
+        };
+        tokio::time::sleep(wait).await;
     }
-    text.chars().take(1024).collect()
 }
 
 /// How long a bundle is good before it is asked for again.

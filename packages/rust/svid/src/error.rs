@@ -227,7 +227,7 @@ pub enum SourceFault {
         /// Which source.
         number: usize,
     },
-    /// An earlier source has the same trust domain, or there are two folders.
+    /// An earlier source has the same trust domain, or there are two that name their trust domains themselves: folders, or a Workload API.
     Twice {
         /// Which source.
         number: usize,
@@ -247,6 +247,11 @@ pub enum SourceFault {
         /// Which source.
         number: usize,
     },
+    /// Its address is that of no Workload API.
+    Workload {
+        /// Which source.
+        number: usize,
+    },
 }
 
 impl fmt::Display for SourceFault {
@@ -256,10 +261,14 @@ impl fmt::Display for SourceFault {
             SourceFault::Domain { number } => {
                 (number, "its trust domain name is none: write 1 to 255 letters of a to z, digits, '.', '-' and '_'")
             }
-            SourceFault::Twice { number } => (number, "an earlier one is of the same trust domain, or a folder too: give each once"),
+            SourceFault::Twice { number } => (number, "an earlier one is of the same trust domain, or names its own too: give each once"),
             SourceFault::Address { number } => (number, "its address is none: write https://HOST/PATH"),
             SourceFault::ServerId { number } => (number, "the SPIFFE ID of its server is none: write spiffe://DOMAIN/PATH"),
             SourceFault::First { number } => (number, "its server is known by its own bundle: give a file with a first one"),
+            SourceFault::Workload { number } => (
+                number,
+                "its address is none: write unix:///run/spire/agent.sock or tcp://127.0.0.1:8081, or set SPIFFE_ENDPOINT_SOCKET to it",
+            ),
         };
         write!(f, "number {number} of the sources of bundles, counted from 0: {what}")
     }

@@ -8,13 +8,18 @@ use std::sync::{Arc, Condvar, Mutex, MutexGuard, PoisonError, Weak};
 use std::thread::{self, JoinHandle};
 use std::time::Duration;
 
-use crate::bundles::{self, Bundles};
+use crate::bundles::{self, Bundles, Form};
 use crate::error::{BundlesFault, Error};
+#[cfg(feature = "workload")]
+use crate::id::SpiffeId;
 use crate::requests::Requests;
 use crate::sources::{is_domain, Source, Sources};
 
 /// The time between two looks at files and folders.
 const EVERY: Duration = Duration::from_secs(1);
+/// How long a source that could not be asked waits at the most.
+#[cfg(any(feature = "https", feature = "workload"))]
+pub(crate) const LONGEST: Duration = Duration::from_secs(60);
 /// How many bytes a bundle has at the most.
 pub(crate) const MOST: usize = 1 << 20;
 
@@ -34,7 +39,7 @@ pub(crate) struct Shared {
     telling: Mutex<()>,
     /// The end has come.
     comes: Condvar,
-    #[cfg(feature = "https")]
+    #[cfg(any(feature = "https", feature = "workload"))]
     closing: tokio::sync::watch::Sender<bool>,
 }
 
@@ -52,6 +57,7 @@ struct State {
 #[derive(Debug, Clone)]
 struct Held {
     text: Vec<u8>,
+    form: Form,
     source: String,
 }
 
@@ -62,7 +68,7 @@ impl Follower {
         let mut state = State::default();
         if let Some(before) = before {
             state.held = before.shared.state().held.clone();
-            state.held.retain(|domain, _| sources.all.iter().any(|it| it.domain() == Some(domain)));
+            state.held.retain(|domain, held| sources.all.iter().any(|it| it.gives(domain, &held.source)));
         }
         let shared = Arc::new(Shared {
             requests: Arc::downgrade(requests),
@@ -70,7 +76,7 @@ impl Follower {
             state: Mutex::new(state),
             telling: Mutex::new(()),
             comes: Condvar::new(),
-            #[cfg(feature = "https")]
+            #[cfg(any(feature = "https", feature = "workload"))]
             closing: tokio::sync::watch::channel(false).0,
         });
         let has_files = shared.look();
@@ -80,10 +86,13 @@ impl Follower {
         if has_files {
             made.spawn(|shared| shared.watch())?;
         }
-        #[cfg(feature = "https")]
         for number in 0..made.shared.sources.all.len() {
-            if matches!(made.shared.sources.all[number], Source::Endpoint(_)) {
-                made.spawn(move |shared| crate::endpoint::follow(shared, number))?;
+            match made.shared.sources.all[number] {
+                #[cfg(feature = "https")]
+                Source::Endpoint(_) => made.spawn(move |shared| shared.ask(number))?,
+                #[cfg(feature = "workload")]
+                Source::Workload(_) => made.spawn(move |shared| shared.ask(number))?,
+                _ => {}
             }
         }
         drop(before.take());
@@ -109,7 +118,7 @@ impl Drop for Follower {
     fn drop(&mut self) {
         self.shared.state().is_closing = true;
         self.shared.comes.notify_all();
-        #[cfg(feature = "https")]
+        #[cfg(any(feature = "https", feature = "workload"))]
         self.shared.closing.send_replace(true);
         for it in self.threads.drain(..) {
             // (it panics nowhere; if it did, there would be nothing left to wait for)
@@ -132,7 +141,7 @@ impl Shared {
         let mut has_files = false;
         for it in &self.sources.all {
             match it {
-                Source::File(domain, path) => drop(self.take(domain, &path.display().to_string(), read(path))),
+                Source::File(domain, path) => drop(self.take(domain, &path.display().to_string(), read(path), Form::Bundle)),
                 Source::Folder(path) => self.look_in(path),
                 _ => continue,
             }
@@ -160,7 +169,7 @@ impl Shared {
             } else if self.sources.all.iter().any(|it| it.domain() == Some(domain)) {
                 self.fault(domain, &of_file, Some("another source has the bundle of this trust domain".to_owned()));
             } else {
-                self.take(domain, &of_file, read(&path));
+                self.take(domain, &of_file, read(&path), Form::Bundle);
             }
             there.push(of_file);
         }
@@ -174,17 +183,17 @@ impl Shared {
     }
 
     /// Takes what a source gave, if it is a good bundle, and says whether it is.
-    pub fn take(&self, domain: &str, source: &str, read: Result<Vec<u8>, String>) -> bool {
+    pub fn take(&self, domain: &str, source: &str, read: Result<Vec<u8>, String>, form: Form) -> bool {
         let is_held = |text: &[u8]| self.state().held.get(domain).map_or(false, |it| it.text == text && it.source == source);
         let judged = read.and_then(|text| match is_held(&text) {
             true => Ok(None),
-            false => judge(domain, &text).map(|()| Some(text)),
+            false => judge(domain, &text, form).map(|()| Some(text)),
         });
         let is_good = judged.is_ok();
         match judged {
             Ok(Some(text)) => {
                 let mut state = self.state();
-                state.held.insert(domain.to_owned(), Held { text, source: source.to_owned() });
+                state.held.insert(domain.to_owned(), Held { text, form, source: source.to_owned() });
                 state.is_due = true;
                 drop(state);
                 self.fault(domain, source, None);
@@ -217,12 +226,12 @@ impl Shared {
     /// The text of all bundles.
     fn joined(&self) -> Result<Vec<u8>, Error> {
         let state = self.state();
-        let held = state.held.iter().map(|(domain, it)| (Some(domain.as_str()), it.text.as_slice()));
+        let held = state.held.iter().map(|(domain, it)| (Some(domain.as_str()), it.text.as_slice(), it.form));
         bundles::join(self.sources.fixed().chain(held))
     }
 
     /// Warns of the fault of a source, if it is another one than before.
-    fn fault(&self, domain: &str, source: &str, why: Option<String>) {
+    pub fn fault(&self, domain: &str, source: &str, why: Option<String>) {
         let mut state = self.state();
         let stays = if state.held.contains_key(domain) { "; the last good one stays" } else { "" };
         match why {
@@ -255,26 +264,104 @@ impl Shared {
     }
 }
 
-#[cfg(feature = "https")]
+#[cfg(any(feature = "https", feature = "workload"))]
 impl Shared {
-    /// The endpoint of this number.
-    pub fn endpoint(&self, number: usize) -> Option<&crate::endpoint::Endpoint> {
+    /// Asks the source of this number again and again, until the end.
+    fn ask(&self, number: usize) {
         match self.sources.all.get(number) {
-            Some(Source::Endpoint(it)) => Some(it),
-            _ => None,
+            #[cfg(feature = "https")]
+            Some(Source::Endpoint(it)) => self.until_the_end(&it.domain, &it.url, crate::endpoint::follow(self, it)),
+            #[cfg(feature = "workload")]
+            Some(Source::Workload(it)) => self.until_the_end("", &it.address, crate::workload::follow(self, it)),
+            _ => {}
         }
     }
 
+    /// Does the work of a source, until the end.
+    fn until_the_end(&self, domain: &str, source: &str, work: impl std::future::Future<Output = ()>) {
+        let runtime = loop {
+            // (where the system has no room for it now, it may have later)
+            match tokio::runtime::Builder::new_current_thread().enable_all().build() {
+                Ok(runtime) => break runtime,
+                Err(why) => self.fault(domain, source, Some(why.to_string())),
+            }
+            if self.ends_within(LONGEST) {
+                return;
+            }
+        };
+        let mut closing = self.closing.subscribe();
+        // (without who could say so, the end has come too)
+        let is_open = |it: &tokio::sync::watch::Receiver<bool>| !*it.borrow();
+        let end = async { while is_open(&closing) && closing.changed().await.is_ok() {} };
+        runtime.block_on(async {
+            tokio::select! {
+                biased;
+                () = end => {}
+                () = work => {}
+            }
+        });
+        // (the resolver of names may take longer than anybody waits)
+        runtime.shutdown_background();
+    }
+
     /// The last good bundle of a trust domain, also one that never changes.
+    #[cfg(feature = "https")]
     pub fn last(&self, domain: &str) -> Option<Vec<u8>> {
-        let fixed = self.sources.fixed().find(|(name, _)| *name == Some(domain)).map(|(_, text)| text.to_vec());
+        let fixed = self.sources.fixed().find(|(name, ..)| *name == Some(domain)).map(|(_, text, _)| text.to_vec());
         fixed.or_else(|| self.state().held.get(domain).map(|it| it.text.clone()))
     }
 
-    /// What says that the end has come.
-    pub fn closing(&self) -> tokio::sync::watch::Receiver<bool> {
-        self.closing.subscribe()
+    /// Takes the bundles of all trust domains that a Workload API names, and drops those that it names no more.
+    #[cfg(feature = "workload")]
+    pub fn take_all(&self, api: &crate::workload::WorkloadApi, bundles: BTreeMap<String, Vec<u8>>) -> Result<(), Why> {
+        let is_none = bundles.is_empty();
+        self.fault("", &api.address, is_none.then(|| "it gives no bundle".to_owned()));
+        if is_none {
+            return Ok(()); // (it always has that of its own trust domain)
+        }
+        let mut there = std::collections::HashSet::new();
+        for (name, text) in bundles {
+            // (a name that is none is judged with its bundle)
+            let id = SpiffeId::parse(&name).ok().filter(|it| it.path().is_empty());
+            let domain = id.as_ref().map_or(name.as_str(), |it| it.trust_domain());
+            let source = api.of(domain);
+            if !self.sources.all.iter().any(|it| it.domain() == Some(domain)) {
+                self.take(domain, &source, Ok(text), Form::Keys);
+            }
+            there.insert(source);
+        }
+        let mut state = self.state();
+        let (before, own) = (state.held.len(), api.of(""));
+        let is_gone = |of: &str| of.ends_with(&own) && !there.contains(of);
+        state.held.retain(|_, it| !is_gone(&it.source));
+        state.is_due |= state.held.len() < before;
+        state.faults.retain(|of, _| !is_gone(of));
+        drop(state);
+        self.tell_all();
+        match self.state().is_due {
+            true => Err("the guard did not take the bundles".into()),
+            false => Ok(()),
+        }
     }
+}
+
+/// Why a source gave no bundle.
+#[cfg(any(feature = "https", feature = "workload"))]
+pub(crate) type Why = Box<dyn std::error::Error + Send + Sync>;
+
+/// An error, and what it comes from: what a library says first may be short.
+#[cfg(any(feature = "https", feature = "workload"))]
+pub(crate) fn told(why: &(dyn std::error::Error + 'static)) -> String {
+    let mut text = why.to_string();
+    let mut source = why.source();
+    while let Some(it) = source {
+        let more = it.to_string();
+        if !text.contains(&more) {
+            text = format!("{text}: {more}");
+        }
+        source = it.source();
+    }
+    text.chars().take(1024).collect()
 }
 
 impl std::fmt::Debug for Shared {
@@ -284,11 +371,11 @@ impl std::fmt::Debug for Shared {
 }
 
 /// Whether the library reads a bundle of this trust domain.
-fn judge(domain: &str, text: &[u8]) -> Result<(), String> {
+fn judge(domain: &str, text: &[u8], form: Form) -> Result<(), String> {
     if text.len() > MOST {
         return Err(format!("it has more than {MOST} bytes"));
     }
-    let read = bundles::join([(Some(domain), text)]).and_then(|text| Bundles::read(&text));
+    let read = bundles::join([(Some(domain), text, form)]).and_then(|text| Bundles::read(&text));
     read.map(drop).map_err(|why| match why {
         Error::Bundles(BundlesFault::Document { fault, .. }) => fault.to_string(),
         why => why.to_string(),

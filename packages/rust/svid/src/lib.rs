@@ -80,6 +80,8 @@ mod twice;
 mod unavailable;
 mod verify;
 mod words;
+#[cfg(feature = "workload")]
+mod workload;
 
 pub use crate::bearer::{bearer_token, BearerFault, Denied};
 pub use crate::caller::Caller;

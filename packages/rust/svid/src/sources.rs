@@ -2,7 +2,7 @@
 
 use std::path::PathBuf;
 
-use crate::bundles::{self, Bundles};
+use crate::bundles::{self, Bundles, Form};
 use crate::error::{Error, OptionsFault, SourceFault};
 use crate::id::SpiffeId;
 
@@ -36,6 +36,8 @@ pub(crate) enum Source {
     Folder(PathBuf),
     #[cfg(feature = "https")]
     Endpoint(crate::endpoint::Endpoint),
+    #[cfg(feature = "workload")]
+    Workload(crate::workload::WorkloadApi),
 }
 
 impl Source {
@@ -46,6 +48,17 @@ impl Source {
             Source::Bundle(domain, _) | Source::File(domain, _) => Some(domain),
             #[cfg(feature = "https")]
             Source::Endpoint(it) => Some(&it.domain),
+            #[cfg(feature = "workload")]
+            Source::Workload(_) => None,
+        }
+    }
+
+    /// Whether it may give the bundle that came from the source of this name.
+    pub fn gives(&self, domain: &str, _source: &str) -> bool {
+        match self {
+            #[cfg(feature = "workload")]
+            Source::Workload(it) => it.of(domain) == _source,
+            it => it.domain() == Some(domain),
         }
     }
 }
@@ -103,6 +116,19 @@ impl Sources {
         self.with(Source::Endpoint(endpoint))
     }
 
+    /// The bundles of all trust domains that a SPIFFE Workload API gives, as SPIRE's agent serves it at `unix:///run/spire/agent.sock`, or at
+    /// `tcp://127.0.0.1:8081`. Without an `address`, the environment variable `SPIFFE_ENDPOINT_SOCKET` has it. Other sources may have bundles
+    /// beside it, but no folder; a trust domain that one of them names has its bundle from there.
+    ///
+    /// The guard uses each change at once. A trust domain that the agent names no more is gone. While the agent is away, or knows no such
+    /// workload, the last good bundles stay, and the guard asks again in a second, and later each time, in 30 seconds at the latest. One that
+    /// refuses the call itself is not asked again. An agent has 15 seconds for its first message, which has at most 4,194,304 bytes.
+    #[cfg(feature = "workload")]
+    #[must_use]
+    pub fn workload_api(self, address: Option<&str>) -> Sources {
+        self.with(Source::Workload(crate::workload::WorkloadApi::new(address)))
+    }
+
     fn with(mut self, source: Source) -> Sources {
         self.all.push(source);
         self
@@ -115,12 +141,9 @@ impl Sources {
             return fault(SourceFault::None);
         }
         for (number, it) in self.all.iter().enumerate() {
-            let before = &self.all[..number];
-            let is_there_twice = match it {
-                Source::Text(_) => false,
-                Source::Folder(_) => before.iter().any(|other| matches!(other, Source::Folder(_))),
-                it => before.iter().any(|other| other.domain() == it.domain()),
-            };
+            let is_text = |it: &Source| matches!(it, Source::Text(_));
+            // (a folder and a Workload API name their trust domains themselves, so there is one of them at the most)
+            let is_there_twice = !is_text(it) && self.all[..number].iter().any(|other| !is_text(other) && other.domain() == it.domain());
             // (the library says of a bundle that never changes what is wrong with its name)
             let is_fixed = matches!(it, Source::Bundle(..));
             if !is_fixed && it.domain().map_or(false, |name| !is_domain(name)) {
@@ -133,15 +156,19 @@ impl Sources {
             if let Source::Endpoint(it) = it {
                 it.check(number).or_else(fault)?;
             }
+            #[cfg(feature = "workload")]
+            if matches!(it, Source::Workload(it) if !it.is_valid()) {
+                return fault(SourceFault::Workload { number });
+            }
         }
         Bundles::read(&bundles::join(self.fixed())?).map(drop)
     }
 
     /// The bundles that never change.
-    pub(crate) fn fixed(&self) -> impl Iterator<Item = (Option<&str>, &[u8])> {
+    pub(crate) fn fixed(&self) -> impl Iterator<Item = (Option<&str>, &[u8], Form)> {
         self.all.iter().filter_map(|it| match it {
-            Source::Text(text) => Some((None, text.as_slice())),
-            Source::Bundle(domain, text) => Some((Some(domain.as_str()), text.as_slice())),
+            Source::Text(text) => Some((None, text.as_slice(), Form::Bundle)),
+            Source::Bundle(domain, text) => Some((Some(domain.as_str()), text.as_slice(), Form::Bundle)),
             _ => None,
         })
     }

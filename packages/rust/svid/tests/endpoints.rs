@@ -3,7 +3,6 @@
 
 mod common;
 
-use std::fmt::Display;
 use std::io::{Read, Write};
 use std::net::{TcpListener, TcpStream};
 use std::path::PathBuf;
@@ -148,29 +147,9 @@ fn good(bundle: &str) -> String {
     format!("HTTP/1.1 200 OK\r\ncontent-length: {}\r\ncontent-type: application/json\r\n\r\n{bundle}", bundle.len())
 }
 
-/// What a guard warned of.
-#[derive(Clone, Default)]
-struct Heard(Arc<Mutex<Vec<String>>>);
-
-impl Heard {
-    fn all(&self) -> Vec<String> {
-        self.0.lock().unwrap().clone()
-    }
-}
-
 fn opened(sources: Sources) -> (Guard<OpenSsl>, Heard) {
     let heard = Heard::default();
-    let hears = Arc::clone(&heard.0);
-    let options = ledger().warns(move |what: &dyn Display| hears.lock().unwrap().push(what.to_string()));
-    (Guard::open(&options, sources, OpenSsl::new()).expect("it opens"), heard)
-}
-
-fn until(what: &str, mut holds: impl FnMut() -> bool) {
-    let begun = Instant::now();
-    while !holds() {
-        assert!(begun.elapsed() < patience(), "waited in vain for {what}");
-        thread::sleep(Duration::from_millis(5));
-    }
+    (Guard::open(&heard.options(), sources, OpenSsl::new()).expect("it opens"), heard)
 }
 
 fn is_good(guard: &Guard<OpenSsl>, issuer: &Issuer) -> bool {

@@ -3,43 +3,13 @@
 
 mod common;
 
-use std::fmt::Display;
 use std::fs;
 use std::path::Path;
-use std::sync::{Arc, Mutex};
 use std::time::{Duration, Instant};
 
 use common::*;
 use svid::testing::Issuer;
 use svid::{Error, Guard, OpenSsl, Options, OptionsFault, Refusal, SourceFault, Sources};
-
-/// What a guard warned of.
-#[derive(Clone, Default)]
-struct Heard(Arc<Mutex<Vec<String>>>);
-
-impl Heard {
-    fn options(&self) -> Options {
-        let heard = Arc::clone(&self.0);
-        ledger().warns(move |what: &dyn Display| heard.lock().unwrap().push(what.to_string()))
-    }
-
-    fn all(&self) -> Vec<String> {
-        self.0.lock().unwrap().clone()
-    }
-
-    fn count(&self, text: &str) -> usize {
-        self.all().iter().filter(|it| it.contains(text)).count()
-    }
-}
-
-/// Waits for something that must come.
-fn until(what: &str, mut holds: impl FnMut() -> bool) {
-    let begun = Instant::now();
-    while !holds() {
-        assert!(begun.elapsed() < patience(), "waited in vain for {what}");
-        std::thread::sleep(Duration::from_millis(5));
-    }
-}
 
 fn opened(options: &Options, sources: Sources) -> Guard<OpenSsl> {
     Guard::open(options, sources, OpenSsl::new()).expect("it opens")

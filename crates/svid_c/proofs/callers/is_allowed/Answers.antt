@@ -1,5 +1,5 @@
 use Rattle.std.proofs.Common.{refl, rules}
-use Rattle.svid_c.proofs.CallersLemmas.{is_among, left_out}
+use Rattle.svid_c.proofs.CallersLemmas.{is_among}
 use Rattle.svid_c.proofs.callers.is_allowed.Goals as goal
 
 pub returns-then-allows : goal.returns-then-allows

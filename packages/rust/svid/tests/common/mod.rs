@@ -203,6 +203,34 @@ impl Verifies for svid::Ring {
     }
 }
 
+/// Waits for something that must come.
+pub fn until(what: &str, mut holds: impl FnMut() -> bool) {
+    let begun = std::time::Instant::now();
+    while !holds() {
+        assert!(begun.elapsed() < patience(), "waited in vain for {what}");
+        std::thread::sleep(std::time::Duration::from_millis(5));
+    }
+}
+
+/// What a guard warned of.
+#[derive(Clone, Default)]
+pub struct Heard(Arc<Mutex<Vec<String>>>);
+
+impl Heard {
+    pub fn options(&self) -> Options {
+        let heard = Arc::clone(&self.0);
+        ledger().warns(move |what: &dyn std::fmt::Display| heard.lock().unwrap().push(what.to_string()))
+    }
+
+    pub fn all(&self) -> Vec<String> {
+        self.0.lock().unwrap().clone()
+    }
+
+    pub fn count(&self, text: &str) -> usize {
+        self.all().iter().filter(|it| it.contains(text)).count()
+    }
+}
+
 /// A folder that goes with its name.
 pub struct Room(pub PathBuf);
 

@@ -5,6 +5,7 @@ import java.io.ByteArrayOutputStream;
 import java.nio.charset.StandardCharsets;
 import java.util.List;
 import java.util.Map;
+import java.util.Set;
 
 /** Trust bundles as the one text that {@link Validator#open} and {@link Validator#renew} take. */
 public final class Bundles {
@@ -20,6 +21,11 @@ public final class Bundles {
      * @throws SvidException.OutOfMemory where there is no memory
      */
     public static byte[] join(Map<String, byte[]> bundles) {
+        return join(bundles, Set.of());
+    }
+
+    /** The same. All keys of these trust domains are for JWT-SVIDs, and need no `use` (SPIFFE Workload API, section 6.2.2). */
+    static byte[] join(Map<String, byte[]> bundles, Set<String> ofApi) {
         ByteArrayOutputStream bytes = new ByteArrayOutputStream();
         try (Room room = new Room()) {
             Told told = new Told(room);
@@ -30,7 +36,7 @@ public final class Bundles {
                 byte[] name = (it.getKey().isEmpty() ? "spiffe://" : it.getKey()).getBytes(StandardCharsets.UTF_8);
                 documents.setLong(at + Library.Document.NAME_LEN, name.length);
                 documents.setLong(at + Library.Document.TEXT_LEN, it.getValue().length);
-                documents.setLong(at + Library.Document.KEYS, 0);
+                documents.setLong(at + Library.Document.KEYS, ofApi.contains(it.getKey()) ? 1 : 0);
                 bytes.writeBytes(name);
                 bytes.writeBytes(it.getValue());
                 at += Library.Document.SIZE;

@@ -13,6 +13,7 @@ import java.util.Map;
 import java.util.Set;
 import java.util.TreeMap;
 import java.util.concurrent.TimeUnit;
+import java.util.function.LongUnaryOperator;
 import java.util.stream.Stream;
 
 /** Follows the sources of trust bundles, and hands on all bundles whenever one has changed. */
@@ -20,6 +21,8 @@ final class Follower {
     static final String THREAD = "svid-bundles";
     /** How many bytes a bundle has at the most. */
     static final int MOST = 1 << 20;
+    /** How many objects and lists it begins at the most: each takes memory to read. */
+    static final int MOST_BRACKETS = 1 << 15;
 
     private static final System.Logger LOGGER = System.getLogger("svid");
     private static final String SUFFIX = ".json";
@@ -28,6 +31,8 @@ final class Follower {
     /** For how many milliseconds an address is left alone after a fault, at first and at most. */
     private static final long FIRST_PAUSE = 1000;
     private static final long LONGEST_PAUSE = 60_000;
+    /** The longest one of a Workload API. */
+    private static final long LONGEST_OF_API = 30_000;
     /** For how many milliseconds a close waits for a thread. */
     private static final long CLOSING = 5000;
 
@@ -36,6 +41,8 @@ final class Follower {
 
     /** How many milliseconds one answer of an address may take. */
     volatile int limit = 15_000;
+    /** For how many milliseconds it leaves a Workload API alone that it is to leave alone for so many. (A test says so.) */
+    volatile LongUnaryOperator pausing = it -> it;
 
     private final Sources sources;
     private final Taker taker;
@@ -53,7 +60,7 @@ final class Follower {
     private volatile boolean isUntaken;
 
     /** The last good bundle of a trust domain, and its source. */
-    private record Held(byte[] text, String source) {}
+    private record Held(byte[] text, String source, boolean isOfApi) {}
 
     /** Takes all bundles. */
     interface Taker {
@@ -78,6 +85,8 @@ final class Follower {
         for (Sources.Source it : sources.all) {
             if (it.address() != null) {
                 start(() -> ask(it));
+            } else if (it.api() != null) {
+                start(() -> attend(it));
             }
         }
     }
@@ -198,7 +207,7 @@ final class Follower {
 
     private boolean readFile(String domain, Path file) {
         try {
-            return adopt(domain, file.toString(), Disk.read(file, MOST + 1));
+            return adopt(domain, new Held(Disk.read(file, MOST + 1), file.toString(), false));
         } catch (IOException why) {
             fault(file.toString(), why);
             return false;
@@ -256,7 +265,7 @@ final class Follower {
         do {
             try {
                 byte[] text = endpoint.fetched();
-                if (adopt(source.domain(), source.name(), text)) {
+                if (adopt(source.domain(), new Held(text, source.name(), false))) {
                     tell();
                 }
                 wait = TimeUnit.SECONDS.toMillis(Endpoint.refreshOf(bundleOf(source.domain())));
@@ -269,42 +278,137 @@ final class Follower {
         } while (pause(wait));
     }
 
+    // -- A Workload API
+
+    /** Takes what a Workload API gives, again and again, until it refuses the call itself. Where it fails, the pauses grow. */
+    private void attend(Sources.Source source) {
+        long pause = FIRST_PAUSE;
+        long wait;
+        do {
+            try {
+                Workload stream = new Workload(source.api(), limit);
+                try {
+                    opened(stream);
+                    while (true) {
+                        adoptAll(source, stream.next());
+                        pause = FIRST_PAUSE;
+                    }
+                } finally {
+                    ended(stream);
+                }
+            } catch (Workload.ForGood why) {
+                fault(source.name(), why);
+                return;
+            } catch (IOException | RuntimeException | OutOfMemoryError | LinkageError why) {
+                // (jars of versions that do not fit each other lack a method)
+                fault(source.name(), why);
+            }
+            wait = pause;
+            pause = Math.min(2 * pause, LONGEST_OF_API);
+        } while (pause(pausing.applyAsLong(wait)));
+    }
+
+    /** Takes all bundles of a Workload API, by what it calls their trust domains. Those that it has not given any more go. */
+    private void adoptAll(Sources.Source source, Map<String, byte[]> bundles) {
+        // (it always has the bundle of its own trust domain)
+        IOException fault = bundles.isEmpty() ? new IOException("it gives no bundle") : null;
+        Set<String> there = new HashSet<>();
+        boolean isChanged = false;
+        for (Map.Entry<String, byte[]> it : bundles.entrySet()) {
+            String domain = Sources.domainOf(it.getKey());
+            if (domain == null) {
+                fault = new IOException("it gives a bundle of what is no trust domain: " + it.getKey());
+            } else if (!sources.name(domain)) {
+                String name = domain + ofApi(source.name());
+                there.add(name);
+                try {
+                    isChanged |= adopt(domain, new Held(it.getValue(), name, true));
+                } catch (IOException why) {
+                    fault(name, why);
+                }
+            }
+        }
+        if (!bundles.isEmpty()) {
+            isChanged |= dropOthers(source, there);
+        }
+        if (isChanged || isUntaken) {
+            tell();
+        }
+        fault(source.name(), fault);
+    }
+
+    private boolean dropOthers(Sources.Source source, Set<String> there) {
+        synchronized (gate) {
+            faults.keySet().removeIf(it -> it.endsWith(ofApi(source.name())) && !there.contains(it));
+            return held.values().removeIf(it -> it.source.endsWith(ofApi(source.name())) && !there.contains(it.source));
+        }
+    }
+
+    /** What a source is called behind the name of a trust domain whose bundle it gives. */
+    private static String ofApi(String source) {
+        return " of " + source;
+    }
+
     // -- Bundles
 
     /** Puts a bundle in the place of the last good one, if it is one. Whether that is another one than before. */
-    private boolean adopt(String domain, String source, byte[] text) throws IOException {
+    private boolean adopt(String domain, Held given) throws IOException {
         synchronized (gate) {
             Held last = held.get(domain);
-            if (last != null && last.source.equals(source) && Arrays.equals(last.text, text)) {
-                fault(source, null);
+            if (last != null && last.source.equals(given.source) && Arrays.equals(last.text, given.text)) {
+                fault(given.source, null);
                 return false;
             }
         }
-        if (text.length > MOST) {
+        if (given.text.length > MOST) {
             throw new IOException("it has more than " + MOST + " bytes");
         }
+        if (brackets(given.text) > MOST_BRACKETS) {
+            throw new IOException("it has more than " + MOST_BRACKETS + " of the brackets { and [");
+        }
         try {
-            Bundles.join(Map.of(domain, text));
+            joined(Map.of(domain, given));
         } catch (SvidException.BadBundles why) {
             throw new IOException(why.getMessage(), why);
         }
         synchronized (gate) {
-            held.put(domain, new Held(text, source));
+            held.put(domain, given);
         }
-        fault(source, null);
+        fault(given.source, null);
         return true;
+    }
+
+    private static int brackets(byte[] text) {
+        int count = 0;
+        for (byte it : text) {
+            count += it == '{' || it == '[' ? 1 : 0;
+        }
+        return count;
+    }
+
+    /** All of these as one text. */
+    private static byte[] joined(Map<String, Held> all) {
+        Map<String, byte[]> texts = new TreeMap<>();
+        Set<String> ofApi = new HashSet<>();
+        all.forEach((domain, it) -> {
+            texts.put(domain, it.text);
+            if (it.isOfApi) {
+                ofApi.add(domain);
+            }
+        });
+        return Bundles.join(texts, ofApi);
     }
 
     /** Hands on all bundles. Where they are not taken, the next look at the files hands them on again. */
     private void tell() {
         synchronized (telling) {
-            Map<String, byte[]> all = new TreeMap<>();
+            Map<String, Held> all;
             synchronized (gate) {
-                held.forEach((domain, it) -> all.put(domain, it.text));
+                all = new TreeMap<>(held);
             }
             isUntaken = true;
             try {
-                taker.take(Bundles.join(all), all.size());
+                taker.take(joined(all), all.size());
                 isUntaken = false;
                 fault("the validator", null);
             } catch (SvidException.Closed ended) {
@@ -317,12 +421,14 @@ final class Follower {
 
     /** Logs what is wrong with a source, or null, if that is something else than before. */
     private void fault(String source, Throwable why) {
-        String said = why == null ? null : why.toString().substring(0, Math.min(SAID, why.toString().length()));
+        String all = why == null ? null : why.toString();
+        // (a server may have said it: it must not begin another line)
+        String said = all == null ? null : all.substring(0, Math.min(SAID, all.length())).replaceAll("\\p{C}", " ");
         String before;
         boolean stays;
         synchronized (gate) {
             before = said == null ? faults.remove(source) : faults.put(source, said);
-            stays = held.values().stream().anyMatch(it -> it.source.equals(source));
+            stays = held.values().stream().anyMatch(it -> it.source.equals(source) || it.source.endsWith(ofApi(source)));
             if (isClosing) {
                 return;
             }

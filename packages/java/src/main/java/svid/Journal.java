@@ -14,7 +14,7 @@ import java.util.function.Consumer;
  *
  * <p>The library decides what the bytes of a file are, which call of the system comes next, and what is read of a file that a crash left
  * (include/svid.h, "A state folder"). This makes the calls, and tells the library how they went. svidd and the packages of other languages
- * write the same files (docs/FORMATS.md, "The state folder").
+ * write the same files (docs/FORMATS.md, "State folder").
  */
 final class Journal implements AutoCloseable {
     static final String THREAD = "svid-journal";

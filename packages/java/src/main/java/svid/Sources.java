@@ -5,6 +5,7 @@ import java.nio.file.Path;
 import java.util.ArrayList;
 import java.util.HashSet;
 import java.util.List;
+import java.util.Map;
 import java.util.Objects;
 import java.util.Set;
 
@@ -20,6 +21,9 @@ import java.util.Set;
  * folder counts only if no other source names its trust domain.
  */
 public final class Sources {
+    private static final String SCHEME = "spiffe://";
+    private static final String ENDPOINT_SOCKET = "SPIFFE_ENDPOINT_SOCKET";
+
     final List<Source> all;
 
     private Sources(List<Source> all) {
@@ -29,16 +33,21 @@ public final class Sources {
     /**
      * A source.
      *
-     * @param domain its trust domain; "" of a folder
-     * @param where the path of a file or of a folder; null of an address
-     * @param address null of files
+     * @param domain its trust domain; "" of a folder and a Workload API
+     * @param where the path of a file or of a folder, or null
+     * @param address that of a bundle endpoint, or null
      * @param server the SPIFFE ID of the server, for https_spiffe, or null
      * @param authorities a file with those by which the server is known, or null
+     * @param api the address of a Workload API, or null
      */
-    record Source(String domain, Path where, URI address, SpiffeId server, Path authorities) {
+    record Source(String domain, Path where, URI address, SpiffeId server, Path authorities, String api) {
+        private static Source endpoint(String domain, URI address, SpiffeId server, Path authorities) {
+            return new Source(named(domain), null, https(address), server, authorities, null);
+        }
+
         /** What it is called in warnings. */
         String name() {
-            return where == null ? address.toString() : where.toString();
+            return api != null ? api : where == null ? address.toString() : where.toString();
         }
     }
 
@@ -48,7 +57,7 @@ public final class Sources {
 
     /** The bundle of one trust domain, in a file. A change is used within two seconds. */
     public static Sources file(String trustDomain, Path file) {
-        return of(new Source(named(trustDomain), Objects.requireNonNull(file), null, null, null));
+        return of(new Source(named(trustDomain), Objects.requireNonNull(file), null, null, null, null));
     }
 
     /**
@@ -56,7 +65,7 @@ public final class Sources {
      * comes or goes.
      */
     public static Sources folder(Path folder) {
-        return of(new Source("", Objects.requireNonNull(folder), null, null, null));
+        return of(new Source("", Objects.requireNonNull(folder), null, null, null, null));
     }
 
     /**
@@ -67,7 +76,7 @@ public final class Sources {
      * @throws IllegalArgumentException where the address is none of https
      */
     public static Sources web(String trustDomain, URI address) {
-        return of(new Source(named(trustDomain), null, https(address), null, null));
+        return of(Source.endpoint(trustDomain, address, null, null));
     }
 
     /**
@@ -76,7 +85,7 @@ public final class Sources {
      * @param authorities a file of certificates as PEM, which is read for each request
      */
     public static Sources web(String trustDomain, URI address, Path authorities) {
-        return of(new Source(named(trustDomain), null, https(address), null, Objects.requireNonNull(authorities)));
+        return of(Source.endpoint(trustDomain, address, null, Objects.requireNonNull(authorities)));
     }
 
     /**
@@ -86,7 +95,7 @@ public final class Sources {
      * @throws IllegalArgumentException where the address is none of https
      */
     public static Sources spiffe(String trustDomain, URI address, SpiffeId server) {
-        return of(new Source(named(trustDomain), null, https(address), Objects.requireNonNull(server), null));
+        return of(Source.endpoint(trustDomain, address, Objects.requireNonNull(server), null));
     }
 
     /**
@@ -95,13 +104,49 @@ public final class Sources {
      * @param first a file with a bundle of the ID's trust domain, which counts until a good bundle of it was read
      */
     public static Sources spiffe(String trustDomain, URI address, SpiffeId server, Path first) {
-        return of(new Source(named(trustDomain), null, https(address), Objects.requireNonNull(server), Objects.requireNonNull(first)));
+        return of(Source.endpoint(trustDomain, address, Objects.requireNonNull(server), Objects.requireNonNull(first)));
+    }
+
+    /**
+     * The bundles of all trust domains that a SPIFFE Workload API gives, as SPIRE's agent serves it. A change is used at once. It needs
+     * grpc-netty, grpc-stub and protobuf-java on the class path.
+     *
+     * @param address as unix:///run/spire/agent.sock or tcp://127.0.0.1:8081
+     * @throws IllegalArgumentException where the address is another one
+     * @throws IllegalStateException where a package that it needs is not there
+     */
+    public static Sources workload(String address) {
+        try {
+            Workload.addressOf(address);
+        } catch (NoClassDefFoundError why) {
+            throw new IllegalStateException("a Workload API needs grpc-netty, grpc-stub and protobuf-java on the class path", why);
+        }
+        return of(new Source("", null, null, null, null, address));
+    }
+
+    /**
+     * The same, at the address that the variable SPIFFE_ENDPOINT_SOCKET of the environment has.
+     *
+     * @throws IllegalArgumentException where it has none
+     * @throws IllegalStateException where a package that it needs is not there
+     */
+    public static Sources workload() {
+        return workload(System.getenv());
+    }
+
+    static Sources workload(Map<String, String> environment) {
+        String address = environment.get(ENDPOINT_SOCKET);
+        if (address == null) {
+            throw new IllegalArgumentException(ENDPOINT_SOCKET + " is not set: give the address of the Workload API");
+        }
+        return workload(address);
     }
 
     /**
      * These sources and others.
      *
-     * @throws IllegalArgumentException where both name a trust domain
+     * @throws IllegalArgumentException where both name a trust domain, or both may give bundles of the same ones: a Workload API and a
+     *         folder, or two Workload APIs
      */
     public Sources and(Sources others) {
         List<Source> both = new ArrayList<>(all);
@@ -112,6 +157,9 @@ public final class Sources {
                 throw new IllegalArgumentException("the bundle of " + it.domain + " has two sources: give one");
             }
         }
+        if (both.stream().anyMatch(it -> it.api != null) && both.stream().filter(it -> it.domain.isEmpty()).count() > 1) {
+            throw new IllegalArgumentException("one trust domain could have two sources: give one Workload API, and no folder");
+        }
         return new Sources(List.copyOf(both));
     }
 
@@ -120,9 +168,19 @@ public final class Sources {
         return all.stream().anyMatch(it -> it.domain.equals(domain));
     }
 
+    /** The trust domain that a Workload API calls so, by its SPIFFE ID or its name. Null where there is none. */
+    static String domainOf(String name) {
+        try {
+            SpiffeId id = SpiffeId.parse(name.startsWith(SCHEME) ? name : SCHEME + name);
+            return id.path().isEmpty() ? id.trustDomain() : null;
+        } catch (SvidException.BadId none) {
+            return null;
+        }
+    }
+
     /** The library says what the name of a trust domain is. */
     private static String named(String domain) {
-        SpiffeId id = SpiffeId.parse("spiffe://" + domain);
+        SpiffeId id = SpiffeId.parse(SCHEME + domain);
         if (!id.trustDomain().equals(domain)) {
             throw new IllegalArgumentException('"' + domain + "\" is no name of a trust domain");
         }

@@ -39,7 +39,7 @@ record Twice(List<Entry> before, List<Entry> told) {
     private static final int LEAST = 64;
     private static final long USUAL = 8192;
 
-    /** Reads what messages tell, and what the record has beside that. Bytes that are no messages tell nothing. */
+    /** Reads what messages tell, and what the record has beside that. Throws as {@link #entries} does. */
     static Twice of(byte[] messages, IntFunction<byte[]> bucket) {
         List<Entry> told = messages.length > LONGEST ? List.of() : entries(messages);
         Set<TokenKey> keys = told.stream().map(Twice::keyOf).collect(Collectors.toSet());
@@ -64,18 +64,14 @@ record Twice(List<Entry> before, List<Entry> told) {
         return TokenKey.of(entry.key);
     }
 
-    /** The entries of messages; none if the bytes are no messages. */
+    /** The entries of messages. Throws {@link SvidException.BadMessages} if the bytes are no messages. */
     static List<Entry> entries(byte[] messages) {
         try (Room room = new Room()) {
             Told told = new Told(room);
             long most = messages.length / LEAST;
             Pointer out = room.take(most * Library.Entry.SIZE);
-            int status = Library.svid_entries_read(room.put(messages), messages.length, out, most, told.at);
-            if (status == Status.NO_MEMORY.number()) {
-                throw SvidException.of(status, told);
-            }
-            int count = status == 0 ? (int) told.len() : 0;
-            return IntStream.range(0, count).mapToObj(it -> Entry.read(out.share((long) it * Library.Entry.SIZE))).toList();
+            told.must(Library.svid_entries_read(room.put(messages), messages.length, out, most, told.at));
+            return IntStream.range(0, (int) told.len()).mapToObj(it -> Entry.read(out.share((long) it * Library.Entry.SIZE))).toList();
         }
     }
 

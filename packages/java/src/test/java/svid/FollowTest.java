@@ -27,13 +27,8 @@ import java.util.concurrent.CopyOnWriteArrayList;
 import java.util.concurrent.ExecutorService;
 import java.util.concurrent.Executors;
 import java.util.concurrent.TimeUnit;
-import java.util.logging.Handler;
-import java.util.logging.LogRecord;
-import java.util.logging.Logger;
 import javax.net.ssl.KeyManagerFactory;
 import javax.net.ssl.SSLContext;
-import org.junit.After;
-import org.junit.Before;
 import org.junit.BeforeClass;
 import org.junit.ClassRule;
 import org.junit.Rule;
@@ -46,40 +41,12 @@ import svid.testing.Issuer;
 public class FollowTest {
     @ClassRule public static final TemporaryFolder SECRETS = new TemporaryFolder();
     @Rule public final TemporaryFolder room = new TemporaryFolder();
+    @Rule public final Said logger = new Said();
 
     private static final String SERVER = "spiffe://example.org/server";
-    private static final Logger LOGGER = Logger.getLogger("svid");
 
-    private final List<String> said = new CopyOnWriteArrayList<>();
-    private final Handler handler = new Handler() {
-        @Override
-        public void publish(LogRecord line) {
-            said.add(line.getMessage());
-        }
-
-        @Override
-        public void flush() {}
-
-        @Override
-        public void close() {}
-    };
+    private final List<String> said = logger.lines;
     private final Issuer issuer = new Issuer("example.org");
-
-    @Before
-    public void listen() {
-        LOGGER.addHandler(handler);
-    }
-
-    /** Nothing of a validator stays that is closed. */
-    @After
-    public void nothingStays() throws Exception {
-        LOGGER.removeHandler(handler);
-        until(() -> !isFollowing());
-    }
-
-    private static boolean isFollowing() {
-        return Thread.getAllStackTraces().keySet().stream().anyMatch(it -> it.getName().equals(Follower.THREAD));
-    }
 
     private Path path(String name) {
         return room.getRoot().toPath().resolve(name);
@@ -145,7 +112,10 @@ public class FollowTest {
         Path file = path("a.json");
         write(file, issuer.bundle());
         try (Validator validator = Validator.open(Vectors.ledger(), Sources.file("example.org", file))) {
-            List<byte[]> bads = List.of("[]".getBytes(), "{\"keys\":1}".getBytes(), padded(issuer.bundle()));
+            List<byte[]> bads = List.of("[]".getBytes(), "{\"keys\":1}".getBytes(), padded(issuer.bundle()),
+                    ("{\"keys\":[],\"x\":["
+                            + "[],".repeat(Follower.MOST_BRACKETS - 3) + "[]]}")
+                            .getBytes());
             for (byte[] bad : bads) {
                 said.clear();
                 write(file, bad);
@@ -295,7 +265,7 @@ public class FollowTest {
     }
 
     private boolean isSaid(String part) {
-        return said.stream().anyMatch(it -> it.contains(part));
+        return logger.has(part);
     }
 
     @Test
@@ -464,8 +434,10 @@ public class FollowTest {
             try (Validator validator = Validator.open(Vectors.ledger(), sources); Socket first = silent.accept()) {
                 // (the client has sent its first bytes, and waits)
                 assertTrue(first.getInputStream().read() >= 0);
+                long begun = System.nanoTime();
                 validator.close();
-                assertFalse(isFollowing());
+                until(() -> Said.threads() == 0);
+                assertTrue("it waits for the server", System.nanoTime() - begun < TimeUnit.SECONDS.toNanos(8));
             }
         }
     }

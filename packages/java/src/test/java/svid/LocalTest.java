@@ -8,6 +8,7 @@ import static svid.Making.until;
 
 import java.nio.file.Files;
 import java.nio.file.Path;
+import java.nio.file.StandardCopyOption;
 import java.time.Clock;
 import java.time.Duration;
 import java.time.Instant;
@@ -15,6 +16,8 @@ import java.time.ZoneId;
 import java.time.ZoneOffset;
 import java.util.Arrays;
 import java.util.List;
+import java.util.concurrent.CompletableFuture;
+import java.util.concurrent.TimeUnit;
 import java.util.stream.IntStream;
 import org.junit.After;
 import org.junit.Rule;
@@ -67,6 +70,20 @@ public class LocalTest {
         }
     }
 
+    /** The process is killed, and starts again: it writes no last snapshot. */
+    private void killed() throws Exception {
+        Path copy = folder().resolveSibling("copy");
+        Files.copy(folder(), copy, StandardCopyOption.COPY_ATTRIBUTES);
+        for (String name : folder().toFile().list()) {
+            Files.copy(folder().resolve(name), copy.resolve(name), StandardCopyOption.COPY_ATTRIBUTES);
+        }
+        close();
+        open = null;
+        Files.move(folder(), folder().resolveSibling("ended"));
+        Files.move(copy, folder());
+        again();
+    }
+
     private static TokenKey key(int number) {
         byte[] bytes = new byte[TokenKey.LEN];
         Arrays.fill(bytes, (byte) 1);
@@ -92,6 +109,26 @@ public class LocalTest {
         Store.Found found = put(key, owner(by), expiry);
         assertEquals(owner(due), found.owner());
         assertEquals(Instant.EPOCH, found.deaf());
+    }
+
+    /** What is no row of messages is not read as a folder without claims. */
+    @Test
+    public void claimsThatCanNotBeRead() throws Exception {
+        again();
+        has(7, 1, 1, NOW + 600);
+        close();
+        Journal journal = new Journal(folder(), new Disk());
+        journal.load(messages -> {});
+        CompletableFuture<Boolean> kept = new CompletableFuture<>();
+        journal.keep("no messages".getBytes(), why -> kept.complete(why == null));
+        assertTrue(kept.get(PATIENCE, TimeUnit.SECONDS));
+        journal.close();
+        SvidException.BadMessages why = assertThrows(SvidException.BadMessages.class, this::again);
+        assertEquals("Magic", why.reason());
+        byte[] whole = Twice.written(List.of(new Twice.Entry(false, NOW + 600, NOW, new byte[TokenKey.LEN], new byte[Options.ID_LEN])));
+        assertEquals(1, Twice.entries(whole).size());
+        why = assertThrows(SvidException.BadMessages.class, () -> Twice.entries(Arrays.copyOf(whole, whole.length - 1)));
+        assertEquals("Truncated", why.reason());
     }
 
     @Test
@@ -134,7 +171,7 @@ public class LocalTest {
             now = NOW + 20_000;
             open.put(List.of());
             if (isRestarted) {
-                again();
+                killed();
             }
             // (by a minute it may)
             now = NOW + 20_000 - 60;

@@ -15,6 +15,8 @@ import java.io.IOException;
 import java.nio.charset.StandardCharsets;
 import java.nio.file.Path;
 import java.time.Duration;
+import java.time.Instant;
+import java.util.Arrays;
 import java.util.List;
 import java.util.Map;
 import java.util.function.Supplier;
@@ -104,6 +106,42 @@ public class MemoryTest {
         assertTrue(refused(MemoryTest::nothing, it -> it.judge(token).audience()) > 0);
         assertTrue(refused(MemoryTest::nothing, it -> it.admit(List.of("Bearer " + token)).key()) > 0);
         assertTrue(refused(it -> it.check(token), it -> assertThrows(Refusal.class, () -> rethrown(it, token)).reason()) > 0);
+    }
+
+    private static Owner claimed(LocalStore store, int by) throws Exception {
+        byte[] key = new byte[TokenKey.LEN];
+        byte[] owner = new byte[Owner.LEN];
+        Arrays.fill(key, (byte) 7);
+        Arrays.fill(owner, (byte) by);
+        return store.put(List.of(new Store.Claim(TokenKey.of(key), Owner.of(owner), Instant.ofEpochSecond(NOW + 600)))).get(0).owner();
+    }
+
+    /** The claims of a folder are read whole, or not at all. */
+    @Test
+    public void claims() throws Exception {
+        Path folder = room.getRoot().toPath().resolve("claims");
+        Options options = ledgerAt(NOW).wait(Duration.ofSeconds(Making.PATIENCE));
+        LocalStore store = new LocalStore(folder, options);
+        Owner first = claimed(store, 1);
+        store.close();
+        int count = 0;
+        for (boolean isOver = false; !isOver; count++) {
+            store = null;
+            REFUSE.invokeInt(new Object[] {count});
+            try {
+                store = new LocalStore(folder, options);
+            } catch (SvidException.OutOfMemory why) {
+                // (it opens later)
+            } finally {
+                isOver = LEFT.invokeInt(new Object[0]) >= 0;
+                REFUSE.invokeInt(new Object[] {-1});
+            }
+            if (store != null) {
+                assertEquals("behind allocation " + count, first, claimed(store, 2));
+                store.close();
+            }
+        }
+        assertTrue(count > 1);
     }
 
     /** A check in each mode, where some may call. */

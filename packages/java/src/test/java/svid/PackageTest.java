@@ -37,6 +37,7 @@ import org.w3c.dom.Element;
 /** The jar by itself, and what README.md shows. */
 public class PackageTest {
     private static final int MOST_LINES = 15;
+    /** What each service has beside the jar. */
     private static final String JARS = "/usr/share/java/jna.jar:/usr/share/java/gson.jar";
 
     @ClassRule public static final TemporaryFolder ROOM = new TemporaryFolder();
@@ -139,10 +140,11 @@ public class PackageTest {
         for (int n = 0; n < project.getElementsByTagName("dependency").getLength(); n++) {
             Element it = (Element) project.getElementsByTagName("dependency").item(n);
             if (it.getElementsByTagName("scope").getLength() == 0) {
-                needs.add(it.getElementsByTagName("artifactId").item(0).getTextContent());
+                boolean isOptional = it.getElementsByTagName("optional").getLength() > 0;
+                needs.add(it.getElementsByTagName("artifactId").item(0).getTextContent() + (isOptional ? ", optional" : ""));
             }
         }
-        assertEquals(List.of("jna", "gson"), needs);
+        assertEquals(List.of("jna", "gson", "grpc-netty, optional", "grpc-stub, optional", "protobuf-java, optional"), needs);
         assertEquals(0, project.getElementsByTagName("build").getLength());
     }
 
@@ -162,16 +164,28 @@ public class PackageTest {
     public void theTestOfReadme() throws Exception {
         String lines = blocks("java").stream().filter(it -> it.startsWith("TestClock clock")).findFirst().orElseThrow();
         assertTrue(lines.lines().count() <= 6);
-        Path folder = ROOM.newFolder("own").toPath();
+        assertEquals("passed\n", said(lines + "System.out.println(\"passed\");"));
+    }
+
+    /** What these lines print. */
+    private static String said(String lines) throws Exception {
+        Path folder = ROOM.newFolder().toPath();
         Files.writeString(folder.resolve("Own.java"),
                 "import static org.junit.Assert.*;\nimport svid.*;\nimport svid.testing.*;\npublic class Own {\n"
-                        + "public static void main(String[] args) throws Exception {\n" + lines
-                        + "System.out.println(\"passed\");\n}\n}\n");
+                        + "public static void main(String[] args) throws Exception {\n" + lines + "\n}\n}\n");
         String path = jar + ":" + JARS + ":/usr/share/java/junit4.jar:/usr/share/java/hamcrest.jar:" + folder;
         String[] words = {"-Xlint:all", "-Werror", "-cp", path, "-d", folder.toString(), folder.resolve("Own.java").toString()};
         assertEquals(0, ToolProvider.getSystemJavaCompiler().run(null, null, null, words));
         String java = System.getProperty("java.home") + "/bin/java";
-        assertEquals("passed\n", HeaderTest.ran(java, "-XX:TieredStopAtLevel=1", "-XX:+UseSerialGC", "-cp", path, "Own"));
+        return HeaderTest.ran(java, "-XX:TieredStopAtLevel=1", "-XX:+UseSerialGC", "-cp", path, "Own");
+    }
+
+    /** Only a Workload API needs gRPC, and says so. */
+    @Test
+    public void withoutGrpc() throws Exception {
+        assertEquals("a Workload API needs grpc-netty, grpc-stub and protobuf-java on the class path\n",
+                said("try {\nSources.workload(\"unix:///run/agent.sock\");\n} catch (Throwable why) {\n"
+                        + "System.out.println(why instanceof IllegalStateException ? why.getMessage() : \"another one\");\n}"));
     }
 
     /** The service accepts a token once, and refuses it the second time, also while others send half of a request. */

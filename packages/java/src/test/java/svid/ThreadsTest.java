@@ -1,6 +1,7 @@
 package svid;
 
 import static org.junit.Assert.assertEquals;
+import static org.junit.Assert.assertFalse;
 import static org.junit.Assert.assertNotEquals;
 import static org.junit.Assert.assertThrows;
 import static org.junit.Assert.assertTrue;
@@ -16,6 +17,7 @@ import java.lang.management.ManagementFactory;
 import java.lang.management.ThreadInfo;
 import java.lang.ref.WeakReference;
 import java.lang.reflect.Field;
+import java.nio.charset.StandardCharsets;
 import java.security.InvalidKeyException;
 import java.security.NoSuchAlgorithmException;
 import java.security.PrivateKey;
@@ -25,22 +27,35 @@ import java.security.Security;
 import java.security.Signature;
 import java.security.SignatureException;
 import java.security.SignatureSpi;
+import java.time.Clock;
+import java.time.Duration;
 import java.time.Instant;
+import java.time.ZoneId;
+import java.time.ZoneOffset;
 import java.util.ArrayList;
 import java.util.List;
+import java.util.Map;
+import java.util.Queue;
+import java.util.Set;
 import java.util.concurrent.Callable;
+import java.util.concurrent.ConcurrentHashMap;
+import java.util.concurrent.ConcurrentLinkedQueue;
 import java.util.concurrent.CountDownLatch;
 import java.util.concurrent.CyclicBarrier;
 import java.util.concurrent.ExecutorService;
 import java.util.concurrent.Executors;
 import java.util.concurrent.Future;
+import java.util.concurrent.Semaphore;
+import java.util.concurrent.ThreadLocalRandom;
 import java.util.concurrent.TimeUnit;
 import java.util.concurrent.atomic.AtomicBoolean;
 import java.util.concurrent.atomic.AtomicInteger;
 import java.util.function.Supplier;
 import java.util.function.UnaryOperator;
+import java.util.stream.IntStream;
 import org.junit.After;
 import org.junit.Test;
+import svid.testing.Issuer;
 
 /** Threads that share a validator. */
 public class ThreadsTest {
@@ -440,5 +455,196 @@ public class ThreadsTest {
             System.gc();
         }
         assertTrue("each can be collected", all.stream().allMatch(it -> it.get() == null));
+    }
+
+    // -- Threads that are made to switch, in several numbers
+
+    private static void yields() {
+        for (int n = ThreadLocalRandom.current().nextInt(4); n > 0; n--) {
+            Thread.yield();
+        }
+    }
+
+    /** Lets one thread do something, and some others something else, while others run during each verification. */
+    private static void beside(int number, Callable<?> one, Callable<?> others) throws Exception {
+        Provider provider = new Meanwhile(() -> {
+            yields();
+            return null;
+        });
+        Security.insertProviderAt(provider, 1);
+        ExecutorService threads = Executors.newFixedThreadPool(number + 1);
+        try {
+            List<Future<?>> all = new ArrayList<>();
+            all.add(threads.submit(one));
+            for (int n = 0; n < number; n++) {
+                all.add(threads.submit(others));
+            }
+            for (Future<?> it : all) {
+                it.get();
+            }
+        } finally {
+            threads.shutdownNow();
+            Security.removeProvider(provider.getName());
+        }
+    }
+
+    private static Options yielding(Mode mode) {
+        Clock clock = new Clock() {
+            @Override
+            public Instant instant() {
+                yields();
+                return Instant.now();
+            }
+
+            @Override
+            public ZoneId getZone() {
+                return ZoneOffset.UTC;
+            }
+
+            @Override
+            public Clock withZone(ZoneId zone) {
+                return this;
+            }
+        };
+        return Options.audiences("ledger").mode(mode).clock(clock).wait(Duration.ofSeconds(Making.PATIENCE));
+    }
+
+    /** Once a renewal has ended, the new keys count, and no others; and a token that was refused by others is good once. */
+    @Test
+    public void checksBesideRenewals() throws Exception {
+        Issuer issuer = new Issuer("example.org");
+        Issuer stranger = new Issuer("example.org");
+        String good = new String(issuer.bundles(), StandardCharsets.UTF_8);
+        // (the keys of a stranger, by the names of the good ones)
+        String bad = new String(stranger.bundles(), StandardCharsets.UTF_8).replace(nameIn(stranger), nameIn(issuer));
+        for (int number : List.of(2, 5, 16)) {
+            List<String> tokens = IntStream.range(0, 40).mapToObj(it -> issuer.token("/a", "ledger")).toList();
+            Queue<String> shown = new ConcurrentLinkedQueue<>();
+            for (int n = 0; n < 4; n++) {
+                shown.addAll(tokens);
+            }
+            Map<String, Integer> accepted = new ConcurrentHashMap<>();
+            Set<String> settled = ConcurrentHashMap.newKeySet();
+            AtomicInteger begun = new AtomicInteger();
+            AtomicInteger done = new AtomicInteger();
+            Semaphore checks = new Semaphore(0);
+            try (Validator validator = Validator.open(yielding(Mode.ONCE), good)) {
+                beside(number,
+                        ()
+                                -> {
+                            while (!shown.isEmpty()) {
+                                checks.tryAcquire(number, 1, TimeUnit.SECONDS);
+                                validator.renew(begun.incrementAndGet() % 2 == 0 ? good : bad);
+                                done.incrementAndGet();
+                            }
+                            return null;
+                        },
+                        () -> {
+                            for (String it = shown.poll(); it != null; it = shown.poll()) {
+                                int before = done.get();
+                                String said = checked(validator, it);
+                                boolean isSettled = begun.get() == before;
+                                checks.release();
+                                if (said.equals("accepted")) {
+                                    accepted.merge(it, 1, Integer::sum);
+                                }
+                                if (isSettled) {
+                                    settled.add(before % 2 == 0 ? "good" : "bad");
+                                    assertEquals(before + " " + said, before % 2 != 0, said.equals("BadSignature"));
+                                }
+                                assertTrue(said, List.of("accepted", "Replayed", "BadSignature").contains(said));
+                            }
+                            return null;
+                        });
+                validator.renew(good);
+                for (String it : tokens) {
+                    assertEquals(accepted.containsKey(it) ? "Replayed" : "accepted", checked(validator, it));
+                }
+            }
+            assertTrue(accepted.toString(), accepted.values().stream().allMatch(it -> it == 1));
+            assertEquals(Set.of("good", "bad"), settled);
+        }
+    }
+
+    private static String nameIn(Issuer issuer) {
+        return JsonParser.parseString(new String(issuer.bundle(), StandardCharsets.UTF_8))
+                .getAsJsonObject()
+                .getAsJsonArray("keys")
+                .get(0)
+                .getAsJsonObject()
+                .get("kid")
+                .getAsString();
+    }
+
+    /** A store during whose calls others run. */
+    private static Store yielding(Store store) {
+        return new Store() {
+            @Override
+            public List<Found> put(List<Claim> claims) throws Exception {
+                yields();
+                List<Found> found = store.put(claims);
+                yields();
+                return found;
+            }
+
+            @Override
+            public void withdraw(TokenKey key, Instant expiry) throws Exception {
+                yields();
+                store.withdraw(key, expiry);
+                yields();
+            }
+        };
+    }
+
+    /** Of three validators one accepts each token, from one caller; and none does once the token is withdrawn. */
+    @Test
+    public void aGroupOfManyThreads() throws Exception {
+        Issuer issuer = new Issuer("example.org");
+        for (int number : List.of(2, 6, 24)) {
+            for (Mode mode : List.of(Mode.STRICT, Mode.BOUND)) {
+                List<String> tokens = IntStream.range(0, 10).mapToObj(it -> issuer.token("/a", "ledger")).toList();
+                Map<String, Set<String>> acceptedFrom = new ConcurrentHashMap<>();
+                Map<String, Integer> accepted = new ConcurrentHashMap<>();
+                Set<String> withdrawn = ConcurrentHashMap.newKeySet();
+                AtomicInteger caller = new AtomicInteger();
+                Store store = yielding(new MemoryStore());
+                try (Validator first = Validator.open(yielding(mode).store(store), issuer.bundles());
+                        Validator second = Validator.open(yielding(mode).store(store), issuer.bundles());
+                        Validator third = Validator.open(yielding(mode).store(store), issuer.bundles())) {
+                    List<Validator> all = List.of(first, second, third);
+                    Callable<Object> withdraws = () -> {
+                        for (String it : tokens.subList(0, 3)) {
+                            first.withdraw(it);
+                            withdrawn.add(it);
+                        }
+                        first.renew(issuer.bundles());
+                        return null;
+                    };
+                    beside(number, withdraws, () -> {
+                        String own = Integer.toString(caller.getAndIncrement());
+                        for (String it : tokens) {
+                            boolean isOver = withdrawn.contains(it);
+                            Validator one = all.get(ThreadLocalRandom.current().nextInt(3));
+                            try {
+                                if (mode == Mode.BOUND) {
+                                    one.check(it, own.getBytes());
+                                } else {
+                                    one.check(it);
+                                }
+                                assertFalse("a withdrawn token is accepted", isOver);
+                                accepted.merge(it, 1, Integer::sum);
+                                acceptedFrom.computeIfAbsent(it, none -> ConcurrentHashMap.newKeySet()).add(own);
+                            } catch (Refusal why) {
+                                assertTrue(why.reason().toString(), List.of("Replayed", "Withdrawn").contains(why.reason().toString()));
+                            }
+                        }
+                        return null;
+                    });
+                }
+                assertTrue(acceptedFrom.toString(), acceptedFrom.values().stream().allMatch(it -> it.size() == 1));
+                assertTrue(accepted.toString(), accepted.values().stream().allMatch(it -> it == 1));
+                assertTrue(accepted.keySet().containsAll(tokens.subList(3, 10)));
+            }
+        }
     }
 }
