@@ -91,7 +91,7 @@ fn list_held(
 /// [`svid_bundles_question`](crate::bundles_question::svid_bundles_question) takes the number of a row, counted from 0. Hashes nothing.
 ///
 /// Returns 0, with the length of the rows in `told.len`; or 1 if they are longer than `out`. For both, `told.more` is 1 if more than
-/// `most` keys may have signed the token. 101 to 116, 121 and 122 if the token is refused already; 2 if out of memory; 5 if the handle is
+/// `most` keys may have signed the token. A refusal if the token is refused already; 2 if out of memory; 5 if the handle is
 /// closed. Unless the status is 0, `out` is unchanged.
 #[unsafe(no_mangle)]
 pub extern "C" fn svid_bundles_ask(

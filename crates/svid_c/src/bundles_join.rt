@@ -173,7 +173,7 @@ fn refuse_documents(given: JoinFault, told: &mut SvidTold) -> u32
 /// - 32, 33, 38: a name in a document is not a trust domain name, has no list of keys, or is in an earlier document.
 /// - 2: out of memory.
 ///
-/// For 31 to 33, 37 and 38, `told.input` is the number of the first faulty document, counted from 1. `told.offset` is the index of the name among
+/// For a bundle fault, `told.input` is the number of the first faulty document, counted from 1. `told.offset` is the index of the name among
 /// all its names in rising order of their bytes, counted from 0. Unless the status is 0, `out` is unchanged.
 #[unsafe(no_mangle)]
 pub extern "C" fn svid_bundles_join(

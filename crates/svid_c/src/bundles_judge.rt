@@ -137,7 +137,7 @@ fn judge_held(
 /// record counts, so it never answers 124 or 125. `own` has the audiences one after the other, and `lens` their lengths. `yes` has the
 /// questions about this token whose answer is yes.
 ///
-/// Returns 0 if it accepts the token: `out` has the SPIFFE ID of its subject, and `used` is the use that a check would add. 101 to 123 for
+/// Returns 0 if it accepts the token: `out` has the SPIFFE ID of its subject, and `used` is the use that a check would add. Else
 /// the first refusal that holds. 5 if the handle is closed, 35 if an audience is not UTF-8, 36 if the lengths do not add up to the length
 /// of `own`, 1 if `out` is shorter than 2,048 bytes, 2 if out of memory. Unless the status is 0, `out` and `used` are unchanged.
 #[unsafe(no_mangle)]

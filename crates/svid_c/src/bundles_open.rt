@@ -43,7 +43,7 @@ fn open(alloc: Global, b: &mut SvidBundles, bundles: &[u8], told: &mut SvidTold)
 /// Opens a closed handle with trust bundles, which it reads from JSON, and returns 0. The handle keeps no record, and shares nothing
 /// with a validator.
 ///
-/// 6 if it is open already: it is unchanged. 3 (with `told.input` 1), 31 to 33 or 37 if the bundles are refused, 2 if out of memory: it
+/// 6 if it is open already: it is unchanged. 3 (with `told.input` 1) or a bundle fault if the bundles are refused, 2 if out of memory: it
 /// stays closed.
 #[unsafe(no_mangle)]
 pub extern "C" fn svid_bundles_open(

@@ -82,7 +82,7 @@ fn ask_held(
 /// Writes the question to `asked` that asks if one key signed the token: the key of the row `number`, counted from 0, of
 /// [`svid_bundles_ask`](crate::bundles_ask::svid_bundles_ask). Hashes that one question.
 ///
-/// Returns 0, and `asked` is the question. 101 to 116, 121 and 122 if the token is refused already, and 122 if no more than `number` keys
+/// Returns 0, and `asked` is the question. A refusal if the token is refused already, and 122 if no more than `number` keys
 /// may have signed it; 2 if out of memory; 5 if the handle is closed. Unless the status is 0, `asked` is unchanged.
 #[unsafe(no_mangle)]
 pub extern "C" fn svid_bundles_question(

@@ -14,7 +14,7 @@ pub struct SvidDeed {
     pub what: u64,
     /// The number of the request.
     pub number: u64,
-    /// For an answer, 0 if the token is accepted. Else the reason: 101 to 125 for a refusal, 58 and 59 for a claim that does not count, 91 if
+    /// For an answer, 0 if the token is accepted. Else the reason: a refusal, 58 or 59 for a claim that does not count, 91 if
     /// the caller is not allowed, 201 if its time was over, 202 if the disk did not take its use, 203 if its client has left, 2 if out of
     /// memory.
     pub status: u64,

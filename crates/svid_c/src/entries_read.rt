@@ -52,7 +52,7 @@ fn put_entries(uses: &[Use], out: &mut [SvidEntry])
 
 /// Writes the uses and withdrawals of the batches in messages to the start of `out`, in the order of the messages. Summaries have none.
 ///
-/// Returns 0, with their number in `told.len`; or 1 if `out` has room for fewer, with the number it needs in `told.len`. 3 and 11 to 18 if
+/// Returns 0, with their number in `told.len`; or 1 if `out` has room for fewer, with the number it needs in `told.len`. 3 or a message fault if
 /// the bytes are not a sequence of messages, and `told` says where; 2 if out of memory. Unless the status is 0, `out` is unchanged.
 #[unsafe(no_mangle)]
 pub extern "C" fn svid_entries_read(

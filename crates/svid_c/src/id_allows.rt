@@ -45,8 +45,8 @@ fn told_offset(offset: usize) -> SvidId
 /// Returns 0 if a pattern allows an ID, and 91 if it doesn't; `out` then has the lengths of the ID's parts. A pattern is one of three: an ID
 /// with a path allows that ID alone; an ID and `/*` allows all IDs below its path; an ID without a path allows all IDs of its trust domain.
 ///
-/// 92 to 99 if the pattern does not parse: 71 more than the number of the fault of the ID in it. Else 21 to 28 if the ID does not parse. For
-/// 95, 97 to 99, 24 and 26 to 28, `out` has the offset of the fault, and 0 for the others. 2 if out of memory.
+/// A pattern fault if the pattern does not parse: 71 more than the number of the fault of the ID in it. Else an ID fault if the ID does not parse.
+/// `out` has the offset of the fault, if that has one, and else 0. 2 if out of memory.
 #[unsafe(no_mangle)]
 pub extern "C" fn svid_id_allows(alloc: Global, pattern: &[u8], id: &[u8], out: &mut SvidId) -> u32
     ensures { MayCall pattern.now id.now result out.new }

@@ -50,8 +50,8 @@ pub(crate) fn offset_of(fault: IdFault) -> usize
 }
 
 /// Parses a SPIFFE ID (SPIFFE-ID, section 2). Returns 0 if the text is one, and `out` has the lengths of its
-/// parts. Else returns the number of the first fault that holds, and for 24 and 26 to 28 its offset; or 2 if
-/// out of memory.
+/// parts. Else returns the number of the first fault that holds, and its offset, if it has one; or 2 if out of
+/// memory.
 #[unsafe(no_mangle)]
 pub extern "C" fn svid_id_parse(alloc: Global, text: &[u8], out: &mut SvidId) -> u32
     ensures accepted { result ≡ 0 → (id : IdParts) × IsId text.now id × (out.new.domain_len ≡ length id.domain) × (out.new.path_len ≡ length id.path) × (out.new.offset ≡ 0) }

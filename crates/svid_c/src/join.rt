@@ -40,7 +40,7 @@ fn joined(alloc: Global, a: &[u8], b: &[u8], now: u64) -> Result<MemSink, ToolFa
 /// the start of `out`. Skips summaries.
 ///
 /// Returns 0, with the text's length in `told.len`; or 1 if the text is longer than `out`, also with its length. 3
-/// if an input has more than 67,108,864 bytes, and no field among the first 67,108,864 bytes is bad; 11 to 18 if it
+/// if an input has more than 67,108,864 bytes, and no field among the first 67,108,864 bytes is bad; a message fault if it
 /// is not a sequence of messages, and `told` says which input, which message and where; 2 if out of memory. Unless
 /// the status is 0, `out` is unchanged.
 #[unsafe(no_mangle)]

@@ -42,7 +42,7 @@ fn alg_of(name: &[u8]) -> Option<Alg>
 /// key may have at most `most_bits` bits, and never more than 16,384.
 ///
 /// Returns 0, with the length in `told.len`; or 1 if the key is longer than `out`. 2,100 bytes are always enough. 70 if no algorithm
-/// has the name; 71 to 79 for the first fault that holds, in the order of [`KeyFault`]; 2 if out of memory.
+/// has the name; The first key fault that holds, in the order of [`KeyFault`]; 2 if out of memory.
 #[unsafe(no_mangle)]
 pub extern "C" fn svid_key_spki(
     alloc: Global,

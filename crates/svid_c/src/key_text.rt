@@ -27,8 +27,8 @@ fn entry_number(fault: EntryFault) -> u32
 /// SPIFFE Trust Domain and Bundle, section 4). The text is the one that [`svid_bundles_ask`](crate::bundles_ask::svid_bundles_ask) lists
 /// for the key: compact JSON, with its names in rising order.
 ///
-/// Returns 0, with the text's length in `told.len`; or 1 if it is longer than `out`. 65,536 bytes are always enough. 61 to 68 for the first
-/// fault that holds, in the order of [`EntryFault`], if the entry is not such a key; 2 if out of memory. Unless the status is 0, `out` is
+/// Returns 0, with the text's length in `told.len`; or 1 if it is longer than `out`. 65,536 bytes are always enough. The first
+/// entry fault that holds, in the order of [`EntryFault`], if the entry is not such a key; 2 if out of memory. Unless the status is 0, `out` is
 /// unchanged.
 #[unsafe(no_mangle)]
 pub extern "C" fn svid_key_text(

@@ -5,6 +5,9 @@
 //! structures that the caller lends, and text into room that the caller lends. If that room is too short, the
 //! call says how much it needs, and leaves it unchanged. Memory outlives a call only in handles that C keeps
 //! (a validator, trust bundles, a token), and closing a handle frees it.
+//!
+//! Statuses of one kind are a class: a refusal of a token, a message fault, an ID fault, a pattern fault, a bundle
+//! fault, an entry fault, a key fault, and a reason of a member. `svid.h` has their names and numbers.
 #![tactic(auto)]
 
 mod answer;

@@ -185,7 +185,7 @@ fn ask_held(
 /// request even if there is nothing to do.
 ///
 /// Returns what [`svid_member_judge`](crate::member_judge::svid_member_judge) does, or what
-/// [`svid_member_found`](crate::member_found::svid_member_found) does if the request heard the known answer. 211 to 217 for the reason why no token
+/// [`svid_member_found`](crate::member_found::svid_member_found) does if the request heard the known answer. The reason if no token
 /// is judged yet, 2 if out of memory: no request was added, and `deed` is as it was. 29 with the number 2^64-1 if no number is left.
 ///
 /// 5, 9, 1, 10 and 20 as for [`svid_member_judge`](crate::member_judge::svid_member_judge): nothing happened, and `deed` is as it was.

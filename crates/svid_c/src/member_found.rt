@@ -204,9 +204,9 @@ fn find_held(
 /// caller. If the claim counts, the token is judged again, and in mode strict the record gains its use. If the store says that the token was
 /// withdrawn, the record gains that withdrawal, unless out of memory.
 ///
-/// Returns 0 if the token is accepted: `out` has the SPIFFE ID of its subject, and `used` is its use. 56 to 60 if the claim does not count. 101 to
-/// 125 and 2 if the token is refused; 91 if the token is good, but its subject may not call. 29 if the request does not wait for the answer to a
-/// claim of this token, or its time is over: then nothing happened.
+/// Returns 0 if the token is accepted: `out` has the SPIFFE ID of its subject, and `used` is its use. If the claim does not
+/// count, the status says why. A refusal or 2 if the token is refused; 91 if the token is good, but its subject may not call. 29 if the request
+/// does not wait for the answer to a claim of this token, or its time is over: then nothing happened.
 ///
 /// 5, 9, 1, 10 and 20 as for [`svid_member_judge`](crate::member_judge::svid_member_judge).
 #[unsafe(no_mangle)]

@@ -172,9 +172,9 @@ fn judge_held(
 /// are as for [`svid_validator_check_token`](crate::validator_check_token::svid_validator_check_token). `deed` says what to do next. In mode once the
 /// record gains the use of an accepted token.
 ///
-/// Returns 0 if the token is accepted: `out`, which has room for 2,048 bytes, has the SPIFFE ID of its subject, and `used` is its use. 101 to 125 and
-/// 2 if it is refused. 91 if it is good, but its subject may not call: nothing is added. 29 if the request does not wait for a judgment, or its time
-/// is over: the validator was not asked.
+/// Returns 0 if the token is accepted: `out`, which has room for 2,048 bytes, has the SPIFFE ID of its subject, and `used` is its use. A refusal
+/// or 2 if it is refused. 91 if it is good, but its subject may not call: nothing is added. 29 if the request does not wait for a judgment, or its
+/// time is over: the validator was not asked.
 ///
 /// 5 if the validator or the token's handle is closed, 9 if `now` is more than `step` past the record's moment, 1 if `out` is shorter than 2,048
 /// bytes, 10 if the validator reads a log, 20 if it has no member. Then nothing happened.

@@ -142,7 +142,7 @@ fn blocks(live: &Live) -> u32
     number_of_any(peer.member.blocks())
 }
 
-/// Whether a member is ready to get tokens: 0, or 211 to 222 for the first reason why not.
+/// Whether a member is ready to get tokens: 0, or the first reason why not.
 ///
 /// 20 if the validator has no member, 5 if it is closed.
 #[unsafe(no_mangle)]
@@ -157,7 +157,7 @@ pub extern "C" fn svid_member_ready(alloc: Global, v: &mut SvidValidator) -> u32
     status
 }
 
-/// Whether a member judges tokens: 0, or 211 to 217 for the first reason why not.
+/// Whether a member judges tokens: 0, or the first reason why not.
 ///
 /// 20 if the validator has no member, 5 if it is closed.
 #[unsafe(no_mangle)]

@@ -33,8 +33,8 @@ fn replace(alloc: Global, live: &mut Live, own: &[u8], all: u64, callers: &[u8])
 /// not 0, all may call, and `callers` is ignored. Else `callers` has a pattern in each line, and those may call that one of them allows. Skips empty
 /// lines. The record is unchanged.
 ///
-/// 35 if an audience is not UTF-8, 92 to 99 if a line of `callers` is not a pattern, 2 if out of memory, 20 if the validator has no member: then
-/// nothing happened. 5 if the validator is closed.
+/// 35 if an audience is not UTF-8, a pattern fault if a line of `callers` is not a pattern, 2 if out of memory, 20 if the validator has no member:
+/// then nothing happened. 5 if the validator is closed.
 #[unsafe(no_mangle)]
 pub extern "C" fn svid_member_rules(
     alloc: Global,

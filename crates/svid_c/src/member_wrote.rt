@@ -107,7 +107,7 @@ fn come(live: &mut Live, up: u64, deed: &mut SvidDeed) -> u32
 /// Adds a request to a member. Returns 0, and `deed` has its number: find the key that made the signature of its token, and call
 /// [`svid_member_judge`](crate::member_judge::svid_member_judge). If no number is left, `deed` has nothing to do.
 ///
-/// 211 to 217 for the reason why no token is judged yet, 2 if out of memory: no request was added. 20 if the validator has no member, 5 if it is
+/// The reason if no token is judged yet, 2 if out of memory: no request was added. 20 if the validator has no member, 5 if it is
 /// closed.
 #[unsafe(no_mangle)]
 pub extern "C" fn svid_member_come(

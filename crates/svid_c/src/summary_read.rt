@@ -21,7 +21,7 @@ fn digests_of(summary: &Summary) -> SvidDigests
 
 /// Reads a summary from another validator, and writes its moment and the digests of its 256 buckets to `asked`, for `svid_validator_differs`.
 ///
-/// Returns 0; 4, 3 and 11 to 18 if `summary` is not one summary, and `told` says where; 2 if out of memory. Unless the status is 0, `asked` is
+/// Returns 0; 4, 3 or a message fault if `summary` is not one summary, and `told` says where; 2 if out of memory. Unless the status is 0, `asked` is
 /// unchanged.
 #[unsafe(no_mangle)]
 pub extern "C" fn svid_summary_read(

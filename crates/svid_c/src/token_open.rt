@@ -46,7 +46,7 @@ fn open(alloc: Global, t: &mut SvidToken, token: &[u8], told: &mut SvidTold) -> 
 /// Opens a closed handle with a token, which it reads, and returns 0. The handle keeps what the token says, and nothing of `token` itself,
 /// so that later calls need not read it again.
 ///
-/// 6 if it is open already: it is unchanged. 101 to 116 if the token is refused for its form, 2 if out of memory: it stays closed.
+/// 6 if it is open already: it is unchanged. A refusal if the token is refused for its form, 2 if out of memory: it stays closed.
 #[unsafe(no_mangle)]
 pub extern "C" fn svid_token_open(
     alloc: Global,

@@ -94,7 +94,7 @@ fn put_texts(bytes: &[u8], lens: &[usize], out_lens: &mut [usize], out: &mut [u8
 /// `out`, one directly after the other, and `lens` has the length of each.
 ///
 /// Returns 0, with the length of all texts in `told.len`; or 1 if `out` or `lens` is too short, with the sizes needed in `told.len` and
-/// `said.texts`. 101 to 116 if the token is refused for its form, 2 if out of memory: `said` is unchanged. Unless the status is 0, `lens`
+/// `said.texts`. A refusal if the token is refused for its form, 2 if out of memory: `said` is unchanged. Unless the status is 0, `lens`
 /// and `out` are unchanged.
 #[unsafe(no_mangle)]
 pub extern "C" fn svid_token_says(

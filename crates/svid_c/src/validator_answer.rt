@@ -64,7 +64,7 @@ fn reply(
 /// messages. The record is first advanced to the moment `now`, in seconds, and to the summary's moment, unless that is past `now`
 /// and `ahead` together (8).
 ///
-/// Returns 0, with the answer's length in `told.len`; or 1 if it is longer than `out`. 4, 3 and 11 to 18 if the bytes are not one
+/// Returns 0, with the answer's length in `told.len`; or 1 if it is longer than `out`. 4, 3 or a message fault if the bytes are not one
 /// summary: nothing happened. 2 if out of memory; 5 if the validator is closed.
 #[unsafe(no_mangle)]
 pub extern "C" fn svid_validator_answer(

@@ -23,7 +23,7 @@ fn renew(alloc: Global, live: &mut Live, bundles: &[u8], told: &mut SvidTold) ->
     }
 }
 
-/// Replaces the trust bundles of a validator, and returns 0. The record is unchanged. 3 (with `told.input` 1), 31 to 33 or 37 if the
+/// Replaces the trust bundles of a validator, and returns 0. The record is unchanged. 3 (with `told.input` 1) or a bundle fault if the
 /// bundles are refused, 2 if out of memory: then nothing happened. 5 if the validator is closed.
 #[unsafe(no_mangle)]
 pub extern "C" fn svid_validator_bundles(

@@ -181,8 +181,8 @@ fn judge_held(
 /// The call first advances the record to `now`, and judges the token at the record's moment, which may be later. The token's handle is
 /// unchanged.
 ///
-/// Returns 0 if it accepts the token: the record has gained the use, and `used` is that use. Else `out` and `used` are unchanged: 117 to 125
-/// for the first refusal that holds, and 2 if out of memory, which may come instead of any refusal.
+/// Returns 0 if it accepts the token: the record has gained the use, and `used` is that use. Else `out` and `used` are unchanged. The
+/// first refusal that holds, of those that a token which was read can have; or 2 if out of memory, which may come instead of any refusal.
 ///
 /// 5 if the validator or the handle of the token is closed, 9 if `now` is more than `step` past the record's moment, 1 if `out` is shorter than
 /// 2,048 bytes, 10 if the validator reads a log: it accepts tokens by their claims alone

@@ -93,8 +93,8 @@ fn write_beside(alloc: Global, live: &Live, out: &mut [u8], told: &mut SvidTold)
 /// accepts no token by a claim up to there. `lasts` is how many seconds a use may live after it is put into the log: after a gap the validator
 /// accepts nothing for that long.
 ///
-/// 11 to 18 if `beside` is not messages, and `told.offset` says where in its message; 2 if out of memory; 5 if the validator is closed. Then nothing
-/// happened.
+/// A message fault if `beside` is not messages, and `told.offset` says where in its message; 2 if out of memory; 5 if the validator is closed. Then
+/// nothing happened.
 #[unsafe(no_mangle)]
 pub extern "C" fn svid_validator_log(
     alloc: Global,

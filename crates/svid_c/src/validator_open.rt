@@ -100,7 +100,7 @@ fn open(
 
 /// Opens a closed validator with a new record, and returns 0. `own` has an audience in each line. Skips empty lines.
 ///
-/// 6 if it is open already; 35 if an audience is not UTF-8; 3 (with `told.input` 1), 31 to 33 or 37 if the bundles are refused; 2
+/// 6 if it is open already; 35 if an audience is not UTF-8; 3 (with `told.input` 1) or a bundle fault if the bundles are refused; 2
 /// if out of memory. Then it is unchanged.
 #[unsafe(no_mangle)]
 pub extern "C" fn svid_validator_open(

@@ -191,7 +191,7 @@ fn read_value(
 /// Positions are counted from 1. If `now` is 0, the record's moment is not advanced.
 ///
 /// Returns 0 if the value is read to its end. A value that was read before is skipped, and also answers 0. 1 if `out` is full, 2 if out of memory:
-/// repeat the call to continue. 11 to 18 if the value is not a sequence of messages: it counts as empty for every validator and is skipped, and
+/// repeat the call to continue. A message fault if the value is not a sequence of messages: it counts as empty for every validator and is skipped, and
 /// `told.offset` says where the fault is in its message. 19 if the validator reads no log; 5 if it is closed; 9 if `now` is more than `step` past the
 /// record's moment, or if values before this one are missing and `now` is 0. For these three nothing happened.
 #[unsafe(no_mangle)]

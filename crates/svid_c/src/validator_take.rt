@@ -30,8 +30,8 @@ fn take(alloc: Global, live: &mut Live, now: u64, messages: &[u8], told: &mut Sv
 /// Takes messages of other validators at the moment `now`, in seconds: the record is advanced to it, and joined with all of them.
 /// Skips summaries. Returns 0.
 ///
-/// 8 if a message's moment is past `now` and `ahead` together: the record is advanced, and nothing is joined. 3 and 11 to 18 if
-/// the bytes are not a sequence of messages, and `told` says where: nothing happened. 2 if out of memory: a part of them may be
+/// 8 if a message's moment is past `now` and `ahead` together: the record is advanced, and nothing is joined. 3 or a message fault
+/// if the bytes are not a sequence of messages, and `told` says where: nothing happened. 2 if out of memory: a part of them may be
 /// joined, and you can repeat the call. 5 if the validator is closed.
 #[unsafe(no_mangle)]
 pub extern "C" fn svid_validator_take(

@@ -1,4 +1,4 @@
--- The 25 refusals in one place.
+-- All refusals in one table.
 use Rattle.std.specs.Prelude.{List, Some, [], codes, is_none, is_some, length, nat_lt, not, ℕ, ◌+◌, ◌==◌, ◌||◌, ◌∷◌, ◌≡◌}
 use Rattle.std.specs.List.{list_any}
 use Rattle.svid_token.specs.Compact.{Parts, most_token_bytes, parts_of}

@@ -1,4 +1,4 @@
--- The verdict on a token: a table of 25 refusals, and the acceptance where none of them holds.
+-- The verdict on a token: a table of refusals, and the acceptance where none of them holds.
 use Rattle.std.specs.Prelude.{◌≡◌, ◌≢◌, ◌≤◌, ℕ, ◌+◌, Bool, false, not, nat_lt, ◌==◌, List, [], ◌∷◌, ◌++◌, length, bytes_eq, Option, Some, None, is_none, option_map, Result, Ok}
 use Rattle.std.specs.List.{list_any}
 use Rattle.sha2.specs.Sha256.{sha256}

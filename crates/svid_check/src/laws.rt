@@ -33,7 +33,7 @@ pub fn read_tokens_are_checked_alike()
     ensures form { ReadTokensHaveTheirForm }
 {}
 
-/// The table of refusals of a token that says all that must be there is one list of 25 rows.
+/// The table of refusals of a token that says all that must be there is one list.
 pub fn the_table_is_one_list()
     ensures { TableIsOneList }
 {}

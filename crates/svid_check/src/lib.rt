@@ -1,4 +1,4 @@
-//! The validator of JWT-SVIDs: it accepts a token, or names the first of 25 refusals.
+//! The validator of JWT-SVIDs: it accepts a token, or names the first refusal that holds.
 //!
 //! A [`Validator`] is given its own audiences, its validator ID, trust bundles, a verifier of signatures and
 //! the record of the tokens that were used or withdrawn. [`Validator::check`] answers for a token at a moment that

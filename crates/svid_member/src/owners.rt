@@ -64,7 +64,7 @@ impl Owners {
         }
     }
 
-    // Keeps an owner in place of the one that was kept there. (If memory is refused, each is digested.)
+    // Keeps an owner, and forgets the one that its slot had. (If memory is refused, each is digested.)
     fn keep(&mut self, at: usize, one: Digested)
         requires { IsOwner one }
     {
