@@ -201,7 +201,8 @@ export const SCRIPTS = {
     "end\n" +
     "if what then return {what, it, s.run} end\n" +
     "latest = known and known.id == r.id and math.max(latest, s.time) or s.time\n" +
-    "redis.call('SET', life_key, count, 'EX', LIFE)\n" +
+    "local counted = math.max(tonumber(count), tonumber(redis.call('GETRANGE', life_key, 0, 31)) or 0)\n" +
+    "redis.call('SET', life_key, string.format('%.0f', counted), 'EX', LIFE)\n" +
     "redis.call('SET', PREFIX .. 'seen', r.id .. ' ' .. string.format('%.0f', latest))\n" +
     "if (not is_shard or PREFIX:find(':00}:', 1, true)) and s.time >= r.since + math.floor((r.lasts + r.margin) / 4) + 1 and " +
     "redis.call('STRLEN', list(r.list)) > 0 then\n" +

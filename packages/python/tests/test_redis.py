@@ -166,6 +166,16 @@ def test_a_withdrawal_wins_over_a_claim(machine):
         until(lambda: put(other, claim(1))[0].owner == svid.WITHDRAWN)
 
 
+def test_a_number_of_a_life_never_goes_back(machine):
+    """A look that was given up may come to the server after a later one."""
+    with unwatched(machine.url) as store:
+        until(lambda: store.put([claim(1)]))
+        (key,) = machine.client().keys("svid:{svid}:life:*")
+        machine.client().set(key, 1000)
+        store.state()
+        assert machine.client().get(key) == b"1000"
+
+
 def test_a_server_that_lost_its_scripts_gets_them_again(machine):
     with RedisStore(machine.url) as store:
         put(store, claim(1))
