@@ -11,6 +11,7 @@ import hashlib
 import os
 import re
 import secrets
+import select
 import socket
 import threading
 import time
@@ -62,6 +63,8 @@ _WORDS = {
 }
 # (then the next call looks where the server is)
 _LOST = ("replica", "cluster")
+# what is done once a call takes until a moment
+_Late = tuple[float, Callable[[], None]]
 _T = TypeVar("_T")
 _U = TypeVar("_U")
 
@@ -87,8 +90,10 @@ class _Shard:
         self.number = number
         self.key = f"svid:{{{tag}}}:epoch"
         self.slot: int = key_slot(self.key.encode())
+        self.line = threading.Lock()  # who is to have the turn next has it
         self.turn = threading.Lock()  # who compares it has it
         self.count = 0  # (it never goes back: an older copy must not have a greater one)
+        self.seen = 0  # the greatest one whose look was answered
         self.checked = b""  # the run of the server whose settings were seen
         # (the store's lock guards what follows)
         # the server that has what this member knows, since so many connections to it
@@ -229,22 +234,40 @@ class RedisStore(GroupStore):
         return state
 
     @contextlib.contextmanager
-    def _turns(self, shards: Sequence[_Shard], end: float) -> Iterator[None]:
-        """Lets one thread at a time compare some shards."""
-        with contextlib.ExitStack() as turns:
+    def _turns(self, shards: Sequence[_Shard], end: float) -> Iterator[Callable[[], None]]:
+        """Lets one thread at a time compare some shards. Yields what gives these turns on early."""
+        held: list[threading.Lock] = []
+
+        def give() -> None:
+            with contextlib.suppress(IndexError):
+                while True:
+                    held.pop().release()
+
+        def left() -> float:
+            return max(0, end - time.monotonic())
+
+        try:
             # (in one order, so that no two threads wait for each other)
             for it in sorted(shards, key=lambda it: it.number):
-                if not it.turn.acquire(timeout=max(0, end - time.monotonic())):
+                if not it.line.acquire(timeout=left()):
                     raise StoreFault("silent")
-                turns.callback(it.turn.release)
-            yield
+                try:
+                    if not it.turn.acquire(timeout=left()):
+                        raise StoreFault("silent")
+                finally:
+                    it.line.release()
+                held.append(it.turn)
+            yield give
+        finally:
+            give()
 
     def _agree(self, one: _Connection, shards: Sequence[_Shard], end: float) -> None:
         """Looks at shards of a server, one thread at a time, until claims may be put."""
         while True:
-            soon = min(end, time.monotonic() + STATE_WAIT / 1000)
-            with self._turns(shards, soon):
-                shards, pause = self._compare(one, shards, soon)
+            with self._turns(shards, end) as give:
+                # (a slow server is waited for, but who waits must not hinder the next look)
+                late = time.monotonic() + STATE_WAIT / 1000, give
+                shards, pause = self._compare(one, shards, end, late)
             if not shards:
                 return
             if time.monotonic() + pause > end:
@@ -253,26 +276,31 @@ class RedisStore(GroupStore):
             self._same_process()
 
     def _compare(
-        self, one: _Connection, shards: Sequence[_Shard], end: float
+        self, one: _Connection, shards: Sequence[_Shard], end: float, late: _Late
     ) -> tuple[list[_Shard], float]:
         """Looks at shards once. Returns those that members compare, and for how many seconds."""
         at = one.at.name, self._pool(one.at).made
-        settings: list[Any] = one.settings(end)
+        settings: list[Any] = one.settings(end, late)
         terms = (self._lasts, self._margin, self._back, self._compare_wait)
         calls: dict[_Shard, tuple[_Known, list[Any]]] = {}
+        counts: dict[_Shard, int] = {}
         for it in shards:
-            it.count += 1
             with self._lock:
-                known = it.known
-            values = [it.count, secrets.token_hex(16), *terms, *known.life, known.mark]
+                it.count += 1
+                counts[it], known = it.count, it.known
+            values = [counts[it], secrets.token_hex(16), *terms, *known.life, known.mark]
             calls[it] = known, [*values, it.checked, *settings]
+        answers = self._run(one, "state", calls, end, late)
         waits, pause = [], 0
         fault: StoreFault | None = None
-        for it, (what, more, it.checked, *rest) in zip(shards, self._run(one, "state", calls, end)):
-            if what == b"ok":
-                self._adopt(it, at, *rest)
-                continue
+        for it, (what, more, checked, *rest) in zip(shards, answers):
             with self._lock:
+                if counts[it] < it.seen:  # (a later look was answered first)
+                    continue
+                it.seen, it.checked = counts[it], checked
+                if what == b"ok":
+                    self._adopt(it, counts[it], at, *rest)
+                    continue
                 it.agreed = None
             if what == b"wait":
                 waits.append(it)
@@ -283,9 +311,10 @@ class RedisStore(GroupStore):
             raise fault
         return waits, pause / 1000
 
+    @staticmethod
     def _adopt(
-        self,
         it: _Shard,
+        count: int,
         at: tuple[str, int],
         record: bytes,
         epoch: bytes,
@@ -293,13 +322,12 @@ class RedisStore(GroupStore):
         moment: int,
         latest: int,
     ) -> None:
-        """Takes what a server has of a shard."""
-        with self._lock:
-            if (same := epoch == it.known.epoch) and it.known.latest > latest:
-                latest = it.known.latest
-            mark = it.known.mark if same else b""
-            it.known = _Known(record, epoch, deaf, latest, (it.count, moment), mark)
-            it.agreed = at
+        """Takes what a server has of a shard. The caller has the lock."""
+        if (same := epoch == it.known.epoch) and it.known.latest > latest:
+            latest = it.known.latest
+        mark = it.known.mark if same else b""
+        it.known = _Known(record, epoch, deaf, latest, (count, moment), mark)
+        it.agreed = at
 
     def _put_each(self, claims: Sequence[Claim], end: float) -> list[Found | StoreFault]:
         found: dict[int, Found | StoreFault] = {}
@@ -403,6 +431,7 @@ class RedisStore(GroupStore):
         name: str,
         calls: Mapping[_Shard, tuple[_Known, Sequence[Any]]],
         end: float,
+        late: _Late | None = None,
     ) -> list[list[Any]]:
         """Runs a script for shards. What it writes counts once enough replicas have it."""
         replicas = 0 if name == "withdrawals" else self._replicas - 1
@@ -414,10 +443,10 @@ class RedisStore(GroupStore):
         if replicas:
             left = int((end - time.monotonic()) * 500)  # (it is looked at ten times a second)
             commands.append(("WAIT", replicas, max(1, min(left, said.WAIT_MOST))))
-        answers = one.call(commands, end)
+        answers = one.call(commands, end, late)
         if any(isinstance(it, exceptions.NoScriptError) for it in answers):
             one.checked([("SCRIPT LOAD", _SCRIPTS[name])], end)
-            answers = one.call(commands, end)
+            answers = one.call(commands, end, late)
         one.good(answers)
         if any(not isinstance(it, list) or not it for it in answers[: len(calls)]):
             raise StoreFault("answer")
@@ -645,12 +674,16 @@ class _Connection:
         with contextlib.suppress(Exception):
             self._redis._sock.shutdown(socket.SHUT_RDWR)
 
-    def call(self, commands: Sequence[tuple[Any, ...]], end: float) -> list[Any]:
+    def call(
+        self, commands: Sequence[tuple[Any, ...]], end: float, late: _Late | None = None
+    ) -> list[Any]:
         """Sends commands in one go, and returns an answer for each, which may be an error."""
         answers: list[Any] = []
         try:
             self._redis._sock.settimeout(_left(end))
             self._redis.send_packed_command(self._redis.pack_commands(commands))
+            if late and not self._is_heard(late[0]):
+                late[1]()
             for _ in commands:
                 self._redis._sock.settimeout(_left(end))
                 try:
@@ -664,6 +697,12 @@ class _Connection:
             raise
         return answers
 
+    def _is_heard(self, end: float) -> bool:
+        """Whether anything of an answer comes by a moment."""
+        poll = select.poll()
+        poll.register(self._redis._sock, select.POLLIN)
+        return bool(poll.poll(max(0, end - time.monotonic()) * 1000))
+
     def good(self, answers: list[Any]) -> list[Any]:
         """Answers without an error among them."""
         for it in answers:
@@ -674,11 +713,11 @@ class _Connection:
     def checked(self, commands: Sequence[tuple[Any, ...]], end: float) -> list[Any]:
         return self.good(self.call(commands, end))
 
-    def settings(self, end: float) -> list[Any]:
+    def settings(self, end: float, late: _Late) -> list[Any]:
         """What the script `state` takes of the server's settings."""
         if self.at.is_unchecked:
             return ["unchecked"]
-        (answer,) = self.call([("CONFIG GET", *_SETTINGS)], end)
+        (answer,) = self.call([("CONFIG GET", *_SETTINGS)], end, late)
         if isinstance(answer, list):
             return [f"it tells {len(answer) // 2} of {len(_SETTINGS)}", *answer]
         return [brief(str(answer))]

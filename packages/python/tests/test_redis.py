@@ -166,6 +166,40 @@ def test_a_withdrawal_wins_over_a_claim(machine):
         until(lambda: put(other, claim(1))[0].owner == svid.WITHDRAWN)
 
 
+@contextlib.contextmanager
+def slow(path, pause):
+    """The address at which each answer of the server at a socket comes so many seconds late."""
+
+    def relay(come, go, rest):
+        with contextlib.suppress(OSError):
+            while some := come.recv(65536):
+                time.sleep(rest)
+                go.sendall(some)
+        for it in come, go:
+            with contextlib.suppress(OSError):
+                it.shutdown(socket.SHUT_RDWR)
+
+    def accept():
+        with contextlib.suppress(OSError):
+            while True:
+                one, _ = server.accept()
+                other = socket.socket(socket.AF_UNIX)
+                other.connect(path)
+                for words in (one, other, 0), (other, one, pause):
+                    threading.Thread(target=relay, args=words, daemon=True).start()
+
+    with socket.create_server(("127.0.0.1", 0)) as server:
+        threading.Thread(target=accept, daemon=True).start()
+        yield f"redis://127.0.0.1:{server.getsockname()[1]}"
+        server.shutdown(socket.SHUT_RDWR)
+
+
+def test_a_server_that_is_slow_is_waited_for(machine):
+    """As long as a call may take: a look has two answers, and that of each second ends before."""
+    with slow(machine.socket, 0.8) as url, RedisStore(url, wait=PATIENCE) as store:
+        assert put(store, claim(1))[0].owner == b"o" * 32
+
+
 def test_a_number_of_a_life_never_goes_back(machine):
     """A look that was given up may come to the server after a later one."""
     with unwatched(machine.url) as store:
