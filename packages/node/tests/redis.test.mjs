@@ -307,9 +307,10 @@ test("an answer counts that came while the process had no processor", () =>
   withServer(async (machine) => {
     const member = memberOf(machine.url);
     await looked(member);
+    await member.put([claim(1)], end()); // (the server has the script)
     let call;
     await machine.paused(async () => {
-      call = member.put([claim(1)], performance.now() + 500);
+      call = member.put([claim(2)], performance.now() + 500);
       await new Promise(setImmediate); // (it is sent)
     });
     execFileSync("redis-cli", ["-s", `${machine.dir}/socket`, "PING"], { stdio: "ignore" });
