@@ -176,11 +176,11 @@ class Service:
         return self.answer()
 
     def accepts(self, token, what):
-        """Waits until one of the tokens is accepted that a call makes."""
+        """Shows it tokens that a call makes, until it accepts one."""
         await_(lambda: self.ask(token()) == ACCEPTED, what, self.seen)
 
     def seen(self):
-        """What it has answered last, and the end of what it wrote to standard error."""
+        """Its last answer, and the end of its standard error."""
         file, most = self.errors.fileno(), 5000
         wrote = os.pread(file, most, max(0, os.fstat(file).st_size - most)).decode(errors="replace")
         return f"{self.process.args[-3:]} answered {self.said!r} last, and wrote:\n{wrote}"

@@ -116,7 +116,7 @@ async function withStores(machine, all, act) {
   }
 }
 
-/** A member that looks at the store where it is told to alone. It compares for a millisecond. */
+/** A member that looks at the store only when a test calls `look`. It compares for a millisecond. */
 function memberOf(...servers) {
   const member = new Member({ servers, group: "svid", replicas: 1 }, { lasts: 7200n, margin: 120n, back: 60n }, 1);
   after(() => member.close());
