@@ -8,6 +8,8 @@ import shutil
 import signal
 import socket
 import subprocess
+import sys
+import tempfile
 import time
 import uuid
 from concurrent.futures import ThreadPoolExecutor
@@ -156,7 +158,9 @@ class Service:
 
     def __init__(self, room, words, mode, where):
         words, more = room.inside(*words, mode, where, offline=False)
-        self.process = subprocess.Popen(words, stdin=subprocess.PIPE, stdout=subprocess.PIPE, text=True, bufsize=1, **more)
+        self.said, self.errors = None, tempfile.TemporaryFile()
+        pipes = {"stdin": subprocess.PIPE, "stdout": subprocess.PIPE, "stderr": self.errors}
+        self.process = subprocess.Popen(words, text=True, bufsize=1, **pipes, **more)
 
     def give(self, token):
         assert self.process.poll() is None, f"it ended with status {self.process.returncode}"
@@ -164,15 +168,27 @@ class Service:
 
     def answer(self):
         assert select.select([self.process.stdout], [], [], PATIENCE)[0], f"no answer within {PATIENCE} seconds"
-        return self.process.stdout.readline().strip()
+        self.said = self.process.stdout.readline().strip()
+        return self.said
 
     def ask(self, token):
         self.give(token)
         return self.answer()
 
+    def accepts(self, token, what):
+        """Shows it tokens that a call makes, until it accepts one."""
+        await_(lambda: self.ask(token()) == ACCEPTED, what, self.seen)
+
+    def seen(self):
+        """Its last answer, and the end of its standard error."""
+        file, most = self.errors.fileno(), 5000
+        wrote = os.pread(file, most, max(0, os.fstat(file).st_size - most)).decode(errors="replace")
+        return f"{self.process.args[-3:]} answered {self.said!r} last, and wrote:\n{wrote}"
+
     def kill(self):
         self.process.kill()
         self.process.wait()
+        print(self.seen(), file=sys.stderr)
 
 
 @pytest.fixture
@@ -218,7 +234,7 @@ def test_once_with_a_state_folder(services, start, language):
     service = start(language, "once", "state")
     assert [service.ask(used[0]) for _ in range(2)] == [ACCEPTED, "Replayed"]
     publish(services, language, new)
-    await_(lambda: service.ask(used[1]) == ACCEPTED, "a token of the new key to be accepted")
+    service.accepts(lambda: used[1], "a token of the new key to be accepted")
     assert service.ask(old.token()) == "NoKey"
     service.kill()
     publish(services, language, old, new)
@@ -264,11 +280,13 @@ def in_postgres(release, session, ends):
 @pytest.fixture(scope="session")
 def in_redis(session, ends):
     needs("redis-server")
-    (session / "in_redis").mkdir()
+    # (each claim waits for its disk, which the tests beside this one keep busy)
+    memory = Path("/dev/shm")
+    folder = Path(ends.enter_context(tempfile.TemporaryDirectory(dir=memory if os.access(memory, os.W_OK) else session)))
     port = ends.enter_context(held_port()).getsockname()[1]
     words = f"redis-server --port {port} --bind 127.0.0.1 --appendonly yes --appendfsync always"
     with socket.socket() as client:
-        serves(ends, session / "in_redis", lambda: client.connect_ex(("127.0.0.1", port)) == 0, *words.split())
+        serves(ends, folder, lambda: client.connect_ex(("127.0.0.1", port)) == 0, *words.split())
     return f"redis://127.0.0.1:{port}"
 
 
@@ -284,7 +302,7 @@ def test_strict_over_a_store(services, start, request, language, store):
     publish(services, language, key)
     both = [start(language, "strict", where) for _ in range(2)]
     for it in both:
-        await_(lambda: it.ask(key.token()) == ACCEPTED, "the store")
+        it.accepts(key.token, "the store")
     for token in (key.token() for _ in range(TOKENS)):
         for due in ["Replayed", ACCEPTED], ["Replayed", "Replayed"]:
             for it in both:

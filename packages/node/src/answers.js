@@ -24,18 +24,21 @@ export const bytesOf = (it) => Buffer.from(it.buffer, it.byteOffset, it.byteLeng
 
 /** What a promise has until a moment; then a StoreFault, and `undo` is called. */
 export async function until(end, promise, undo = () => {}) {
-  let timer;
+  let timer, last;
   const late = new Promise((_, reject) => {
-    timer = setTimeout(() => {
+    const give = () => {
       reject(new StoreFault("silent"));
       undo();
-    }, Math.max(0, end - now()));
+    };
+    // (a process that had no processor reads first what came meanwhile)
+    timer = setTimeout(() => (last = setImmediate(give)), Math.max(0, end - now()));
   });
   promise.catch(() => {}); // (it may fail later)
   try {
     return await Promise.race([promise, late]);
   } finally {
     clearTimeout(timer);
+    clearImmediate(last);
   }
 }
 

@@ -41,6 +41,7 @@ function grouped(map, key, first) {
 class Shard {
   turn = new Gate(1); // who looks at it
   count = 0; // (it never goes back: an older copy must not have a greater one)
+  seen = 0; // the greatest one whose look was answered
   checked = ""; // the run of the server whose settings were seen
   agreed = ""; // the name of the server that has what this member knows
   known = KNOWN;
@@ -379,8 +380,7 @@ export class Member {
   }
 
   /** Looks at the store: `epoch`, `deaf`, `time`, and `wait`, which is 0. */
-  async look(given) {
-    const end = this.epoch === undefined ? given : Math.min(given, now() + STATE_WAIT); // (who hangs here must not hinder the next look)
+  async look(end) {
     const all = await this.#all(end);
     if (!this.#isCluster) await this.#servers.look(end);
     const parts = await this.#parts(new Map(all.map((it) => [it])), end);
@@ -460,7 +460,10 @@ export class Member {
   /** Looks at shards of a server, one call at a time, until claims may be put. */
   async #agree(one, shards, end) {
     for (;;) {
-      const soon = Math.min(end, now() + STATE_WAIT), { left, pause } = await this.#turns(shards, soon, () => this.#see(one, shards, soon));
+      let seeing;
+      // (a slow server is waited for until the end, but who waits must not hinder the next look)
+      await this.#turns(shards, end, () => until(now() + STATE_WAIT, (seeing = this.#see(one, shards, end))).catch(() => {}));
+      const { left, pause } = await seeing;
       if (!left.length) return;
       if (now() + pause > end) throw new StoreFault("run");
       await new Promise((resolve) => setTimeout(resolve, pause));
@@ -479,18 +482,19 @@ export class Member {
   async #see(one, shards, end) {
     const { lasts, margin, back } = this.#terms, settings = await one.settings(end);
     const calls = new Map(shards.map((it) => {
-      const { known } = it, asked = [++it.count, randomBytes(16).toString("hex"), lasts, margin, back, this.#compare, ...known.life, known.mark, it.checked];
-      return [it, { known, values: [...asked, ...settings] }];
+      const { known } = it, count = ++it.count, asked = [count, randomBytes(16).toString("hex"), lasts, margin, back, this.#compare, ...known.life, known.mark, it.checked];
+      return [it, { known, count, values: [...asked, ...settings] }];
     }));
     const answers = await this.#run(one, "state", calls, end), left = [];
     let pause = 0, fault;
     for (const [n, it] of shards.entries()) {
-      const [what, more, checked, ...rest] = answers[n];
-      it.checked = checked;
+      const [what, more, checked, ...rest] = answers[n], { count } = calls.get(it);
+      if (count < it.seen) continue; // (a later look was answered first)
+      [it.seen, it.checked] = [count, checked];
       if (String(what) === "ok") {
         const [record, epoch, deaf, time, latest] = [rest[0], String(rest[1]), ...rest.slice(2).map(BigInt)];
         const same = epoch === it.known.epoch, seen = it.known.latest;
-        it.known = { record, epoch, deaf, latest: same && seen > latest ? seen : latest, life: [it.count, time], mark: same ? it.known.mark : "" };
+        it.known = { record, epoch, deaf, latest: same && seen > latest ? seen : latest, life: [count, time], mark: same ? it.known.mark : "" };
         it.agreed = one.at.name;
         continue;
       }

@@ -216,6 +216,18 @@ test("a request that was answered while its check waited, and who is told in vai
   }
 });
 
+test("the name of the field may be spelt in any letters, and two fields are refused", async () => {
+  const validator = await Validator.open(terms), text = `Bearer ${token(one)}`, names = ["Authorization", "authorization", "AUTHORIZATION"];
+  const status = async (...fields) => {
+    const res = { setHeader() {}, end() {} };
+    await guard(validator)({ rawHeaders: fields.flatMap((name) => [name, text]) }, res, () => (res.statusCode = 200));
+    return res.statusCode;
+  };
+  for (const name of names) for (const other of names) assert.equal(await status(name, other), 401, `${name} ${other}`);
+  assert.deepEqual([await status(names[2]), await status(names[0])], [200, 401]);
+  validator.close();
+});
+
 test("a fault of the service behind is its own", async () => {
   const validator = await Validator.open(terms), fails = () => {
     throw new Error("of the service");

@@ -21,14 +21,16 @@ const away = async () => {
 setFlagsFromString("--expose-gc");
 const collect = runInNewContext("gc");
 
-// What this process holds, once nothing more of it goes.
-async function held(descriptors) {
+// What this process holds, once that is no more than it may be. (What closes on a busy machine ends in its own time.)
+async function held(isEnough) {
+  let is;
   await until(async () => {
     collect();
-    return descriptors === undefined || (await readdir("/proc/self/fd")).length === descriptors;
-  });
-  const { heapUsed, external, arrayBuffers } = process.memoryUsage();
-  return { descriptors: (await readdir("/proc/self/fd")).length, timers: process.getActiveResourcesInfo().filter((it) => it === "Timeout").length, bytes: heapUsed + external + arrayBuffers };
+    const { heapUsed, external, arrayBuffers } = process.memoryUsage(), timers = process.getActiveResourcesInfo().filter((it) => it === "Timeout").length;
+    is = { descriptors: (await readdir("/proc/self/fd")).length, timers, bytes: heapUsed + external + arrayBuffers };
+    return isEnough(is);
+  }).catch((why) => assert.fail(`${why.message}: ${JSON.stringify(is)}`));
+  return is;
 }
 
 // Bundles of one issuer, in a folder.
@@ -94,11 +96,15 @@ test("lives of validators leave no descriptor, no timer and no memory", async ()
   };
   try {
     await live(WARMING);
-    const before = await held();
+    // (two looks alike: nothing of the last life is on its way)
+    let last;
+    const { descriptors, timers, bytes } = await held((is) => {
+      const isAlike = last?.descriptors === is.descriptors && last.timers === is.timers;
+      last = is;
+      return isAlike;
+    });
     await live(LIVES);
-    const after = await held(before.descriptors);
-    assert.deepEqual([after.descriptors, after.timers], [before.descriptors, before.timers]);
-    assert.ok(after.bytes - before.bytes < MOST * LIVES, `${JSON.stringify(before)} ${JSON.stringify(after)}`);
+    await held((is) => is.descriptors <= descriptors && is.timers <= timers && is.bytes - bytes < MOST * LIVES);
   } finally {
     await rm(room, { recursive: true });
   }

@@ -83,9 +83,11 @@ export const PATIENCE = Number(process.env.SVID_TEST_PATIENCE ?? 180);
 // (a test may have a clock of its own)
 const clock = performance.now.bind(performance);
 
-/** Awaits a condition, which may be asynchronous. */
+/** Awaits a condition, which may be asynchronous, and returns what it is. */
 export async function until(holds) {
-  for (const end = clock() + PATIENCE * 1000; !(await holds()); ) {
+  for (const end = clock() + PATIENCE * 1000; ; ) {
+    const is = await holds();
+    if (is) return is;
     if (clock() > end) throw new Error("it does not come");
     await new Promise((resolve) => setTimeout(resolve, 2));
   }

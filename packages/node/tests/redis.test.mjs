@@ -1,7 +1,7 @@
 // RedisStore, over real servers. The tests of go/claims/redis run over it too.
 
 import assert from "node:assert/strict";
-import { execFile, spawn } from "node:child_process";
+import { execFile, execFileSync, spawn } from "node:child_process";
 import { mkdir, mkdtemp, rm, writeFile } from "node:fs/promises";
 import { createRequire } from "node:module";
 import { connect, createServer } from "node:net";
@@ -116,6 +116,16 @@ async function withStores(machine, all, act) {
   }
 }
 
+/** A member that looks at the store only when a test calls `look`. It compares for a millisecond. */
+function memberOf(...servers) {
+  const member = new Member({ servers, group: "svid", replicas: 1 }, { lasts: 7200n, margin: 120n, back: 60n }, 1);
+  after(() => member.close());
+  return member;
+}
+
+const end = () => performance.now() + PATIENCE * 1000;
+const looked = (member) => until(() => member.look(end()).catch(() => false));
+
 /** What the first claim finds, once it is answered. */
 async function put(store, ...claims) {
   let found;
@@ -155,12 +165,10 @@ test("a server that took the place of a Cluster gets no claims, which other memb
   });
   const slots = ["--cluster-enabled", "yes", "--port", String(port), "--cluster-port", "0", "--bind", "127.0.0.1"];
   await withServer(async (machine) => {
-    // (nobody looks at it meanwhile)
-    const member = new Member({ servers: [`redis://127.0.0.1:${port}`], group: "svid", replicas: 1 }, { lasts: 7200n, margin: 120n, back: 60n }, 1);
-    const end = () => performance.now() + PATIENCE * 1000, looked = () => until(() => member.look(end()).catch(() => false));
+    const member = memberOf(`redis://127.0.0.1:${port}`);
     await assert.rejects(member.look(end()), { reason: "slot" });
     await machine.told("CLUSTER", "ADDSLOTSRANGE", "0", "16383");
-    await looked();
+    await looked(member);
     assert.deepEqual((await member.put([claim(1), claim(200)], end())).map((it) => it.owner), [OWNER, OWNER]);
     await machine.kill();
     machine.words.push("--cluster-enabled", "no");
@@ -170,7 +178,6 @@ test("a server that took the place of a Cluster gets no claims, which other memb
       await assert.rejects(call, { reason: "unfit", message: /^the server is none of a Cluster any more/ });
     }
     assert.deepEqual(await machine.told("KEYS", "*"), []);
-    member.close();
   }, slots);
 });
 
@@ -245,16 +252,70 @@ test("a connection that breaks is not made again by itself", () =>
 
 test("calls look where the primary is after a server was away", () =>
   withServer(async (machine) => {
-    const terms = { lasts: 7200n, margin: 120n, back: 60n }, end = () => performance.now() + PATIENCE * 1000;
-    const member = new Member({ servers: [machine.url, "unix:///nowhere"], group: "svid", replicas: 1 }, terms, 1);
-    await until(() => member.look(end()).catch(() => false));
+    const member = memberOf(machine.url, "unix:///nowhere");
+    await looked(member);
     await machine.kill();
     await until(async () => /ECONNREFUSED|ENOENT/.test((await member.put([claim(1)], end()))[0].message));
     await machine.start();
     const found = [];
     await until(async () => found.push((await member.put([claim(1)], end()))[0]) && found.at(-1).owner);
     assert(found.every((it) => it.owner || it instanceof StoreFault), String(found)); // (members compare, or the server is not ready)
-    member.close();
+  }));
+
+/** The address at which a machine's server answers through this process: `answered` is given each answer, and what hands it on. */
+async function through({ dir }, answered) {
+  const { server, port } = await silent(createServer);
+  server.on("comes", (one) => {
+    const other = connect(`${dir}/socket`).on("error", () => {}).on("close", () => one.destroy());
+    one.on("close", () => other.destroy()).pipe(other);
+    other.on("data", (it) => answered(it, () => one.write(it)));
+  });
+  return `redis://127.0.0.1:${port}`;
+}
+
+test("a server that is slow is waited for as long as a call may take", () =>
+  withServer(async (machine) => {
+    // (a look has two answers, and the one of each second ends before them)
+    const servers = await through(machine, (_, go) => setTimeout(go, 800));
+    await withStores({}, [{ servers, wait: PATIENCE }], (store) => put(store, claim(1)));
+  }));
+
+test("a look that hangs hinders no other one, and takes nothing back that came meanwhile", () =>
+  withServer(async (machine) => {
+    const held = gate(), hangs = gate();
+    let isHeld = false;
+    const member = memberOf(await through(machine, async (answer, go) => {
+      if (isHeld && answer.includes("svid1")) {
+        isHeld = false;
+        hangs.open();
+        await held.passed;
+      }
+      go();
+    }));
+    await looked(member);
+    isHeld = true;
+    const first = member.look(end());
+    await hangs.passed;
+    await machine.told("FLUSHALL");
+    const { epoch } = await looked(member);
+    held.open();
+    assert.equal((await first).epoch, epoch);
+    assert.equal(member.epoch, epoch);
+  }));
+
+test("an answer counts that came while the process had no processor", () =>
+  withServer(async (machine) => {
+    const member = memberOf(machine.url);
+    await looked(member);
+    await member.put([claim(1)], end()); // (the server has the script)
+    let call;
+    await machine.paused(async () => {
+      call = member.put([claim(2)], performance.now() + 500);
+      await new Promise(setImmediate); // (it is sent)
+    });
+    execFileSync("redis-cli", ["-s", `${machine.dir}/socket`, "PING"], { stdio: "ignore" });
+    Atomics.wait(new Int32Array(new SharedArrayBuffer(4)), 0, 0, 600);
+    assert.deepEqual((await call)[0].owner, OWNER);
   }));
 
 /** A server that takes connections, and says nothing. */

@@ -622,6 +622,23 @@ test("in mode bound without a store a token is bound to its caller, over restart
   await (await opened(state, { mode: "bound" })).close();
 });
 
+test("a token that is withdrawn again, with a later expiry, stays withdrawn for as long, over restarts", async () => {
+  for (const mode of ["once", "bound"]) {
+    let time = BEGUN;
+    const folder = `${state}-${mode}`, text = token(one), about = mode === "bound" ? { caller: "one" } : undefined, more = { mode, now: () => time };
+    let validator = await opened(folder, more);
+    const { key, expires } = validator.says(text);
+    for (const it of [BEGUN + 10n, expires, BEGUN + 20n]) await validator.withdrawKey(key, it);
+    time += 1000n;
+    for (let start = 0; start < 2; start++) {
+      assert.equal(await said(validator.check(text, about)), "Withdrawn");
+      await validator.close();
+      validator = await opened(folder, more);
+    }
+    await validator.close();
+  }
+});
+
 test("a restart forgets no claim, and what is over is claimed anew", async () => {
   let store = await claims();
   assert.equal(await owner(store, 1, 1), 1);
