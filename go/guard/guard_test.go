@@ -26,6 +26,7 @@ import (
 	"svid.example/go/v3/internal/patience"
 	"svid.example/go/v3/internal/server"
 	"svid.example/go/v3/svid"
+	"svid.example/go/v3/workload"
 )
 
 var example = func() *issuer.Issuer {
@@ -197,6 +198,12 @@ func TestWhatOptionsLeaveOut(t *testing.T) {
 	}
 	if keep := Keep(3600, 30); keep != 3660*time.Second {
 		t.Error(keep)
+	}
+	// Members whose Ahead differs by less than a minute share a store. A greater one has a margin of its own.
+	for ahead, margin := range map[uint64]uint64{0: 120, 1: 120, 30: 120, 60: 120, 61: 121, 3600: 3660} {
+		if got := Terms(3600, ahead); got != (claims.Terms{Lasts: 3600 + 2*ahead, Margin: margin, Back: StepBack}) {
+			t.Errorf("ahead %d: %+v", ahead, got)
+		}
 	}
 }
 
@@ -592,8 +599,8 @@ func TestBundlesOfASourceThatIsLeft(t *testing.T) {
 	}
 }
 
-// A trust domain that has no source any more goes at once, though no other source can be read. One that has a source stays until
-// that gives another bundle.
+// A trust domain that has no source any more goes at once, though no other source can be read. One that has a source, or may have one in a Workload
+// API that has not answered, stays until that gives other bundles.
 func TestATrustDomainWithoutASource(t *testing.T) {
 	other, err := issuer.New("example.net")
 	if err != nil {
@@ -609,6 +616,16 @@ func TestATrustDomainWithoutASource(t *testing.T) {
 	}
 	if err, err2 := of(example, "example.org"), of(other, "example.net"); err != nil || err2 != nil {
 		t.Fatal(err, err2)
+	}
+	nobody, err := workload.ParseAddress("tcp://127.0.0.1:1")
+	if err != nil {
+		t.Fatal(err)
+	}
+	if err := g.Follow([]bundles.Spec{bundles.WorkloadAPI("tcp://127.0.0.1:1", nobody)}); err != nil {
+		t.Fatal(err)
+	}
+	if err, err2 := of(example, "example.org"), of(other, "example.net"); err != nil || err2 != nil {
+		t.Errorf("before a Workload API has answered: %v, %v", err, err2)
 	}
 	away := []bundles.Spec{{Domain: "example.org", Source: "https://127.0.0.1:1/"}}
 	if err := g.Follow(away); err != nil {

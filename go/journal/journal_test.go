@@ -282,6 +282,10 @@ func TestKeepsWhatWasAppended(t *testing.T) {
 	mustClose(t, j)
 	j = mustOpen(t, dir)
 	wantMessages(t, j, batches(0, 10))
+	mustAppend(t, j, batch(10))
+	if got := j.Size(); got < 1320 || got > 1400 { // (a mark ends the older one)
+		t.Errorf("size %d of 11 batches, behind a start", got)
+	}
 	if err := j.Load(func([]byte) error { t.Error("it is read twice"); return nil }); err != nil {
 		t.Fatal(err)
 	}
@@ -309,6 +313,14 @@ func TestSnapshotReplacesWhatIsOlder(t *testing.T) {
 		t.Fatal(got)
 	}
 	mustClose(t, j)
+	j = mustOpen(t, dir)
+	if err := j.Snapshot(writes(j.messages)); err != nil {
+		t.Fatal(err)
+	}
+	if got := j.Size(); got != 0 { // (else the next one would be due at once)
+		t.Errorf("size %d, and no journal has a batch", got)
+	}
+	mustClose(t, j)
 	want := append(append(batches(3, 5), batch(7)...), batch(8)...)
 	wantMessages(t, mustOpen(t, dir), want)
 }
@@ -331,6 +343,9 @@ func TestFailedSnapshotLosesNothing(t *testing.T) {
 	// A function that gets an error of a write, and does not return it.
 	if err := j.Snapshot(func(w io.Writer) error { w.Write(make([]byte, svid.MaxPayload+1)); return nil }); !errors.Is(err, svid.ErrPayload) {
 		t.Fatal(err)
+	}
+	if got := names(t, dir); strings.Contains(got, unfinished) {
+		t.Errorf("what a snapshot that failed has written stays: %s", got) // It may be what fills the disk.
 	}
 	mustAppend(t, j, batch(6))
 	mustClose(t, j)

@@ -169,7 +169,8 @@ func (r *reader) pull() {
 	g := r.group
 	var all []Value
 	seen, stamp := r.seen, r.stamp
-	for last := g.stored.Load(); seen < last && len(all) < mostAtOnce && !stamp.IsZero(); seen++ {
+	// (not for long: until this ends the broker has no answer to what it asks, and the feed stands still)
+	for last, begun := g.stored.Load(), time.Now(); seen < last && len(all) < mostAtOnce && !stamp.IsZero() && time.Since(begun) < attemptWait; seen++ {
 		v, err := g.get(g.life, attemptWait, map[string]any{"seq": seen + 1})
 		if err != nil || v.Position != seen+1 {
 			break

@@ -876,12 +876,12 @@ func (s *suite) contextEnds(t *testing.T) {
 	}
 	ctx, cancel := context.WithCancel(context.Background())
 	time.AfterFunc(100*time.Millisecond, cancel)
-	found := make([]claims.Found, 1)
-	a.Put(ctx, []claims.Claim{c}, found) // (no deadline, and an end)
-	if found[0].Err == nil {
-		t.Errorf("%+v", found[0])
-	}
-	for name, call := range map[string]func() error{
+	for name, call := range map[string]func() error{ // (no deadline, and an end)
+		"Put": func() error {
+			found := make([]claims.Found, 1)
+			a.Put(ctx, []claims.Claim{c}, found)
+			return found[0].Err
+		},
 		"State": func() error { _, err := a.State(ctx); return err },
 		"Withdraw": func() error {
 			_, err := a.Withdraw(ctx, claims.Withdrawal{Key: Key(), Expires: Now() + 3000})
@@ -890,8 +890,15 @@ func (s *suite) contextEnds(t *testing.T) {
 		"Withdrawals": func() error { _, _, err := a.Withdrawals(ctx, ""); return err },
 		"Open":        func() error { _, err := s.begin(t, o).Open(ctx); return err },
 	} {
-		if err := call(); err == nil {
-			t.Errorf("%s of a context that has ended", name)
+		answer := make(chan error, 1)
+		go func() { answer <- call() }()
+		select {
+		case err := <-answer:
+			if err == nil {
+				t.Errorf("%s of a context that has ended", name)
+			}
+		case <-time.After(patience.Long):
+			t.Fatalf("%s goes on after its context has ended", name)
 		}
 	}
 	if took := time.Since(begun); took > patience.Long/2 {

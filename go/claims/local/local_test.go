@@ -139,6 +139,13 @@ func TestAClockThatGoesBackEndsTheEpoch(t *testing.T) {
 			closes(t, s)
 			return open(t, dir, c)
 		},
+		"restarted until a snapshot has it": func(t *testing.T, s *local.Store, dir string, c *clock) *local.Store {
+			for n := 0; n < 12; n++ { // (the eighth journal wants one)
+				closes(t, s)
+				s = open(t, dir, c)
+			}
+			return s
+		},
 	} {
 		t.Run(name, func(t *testing.T) {
 			dir, c := filepath.Join(t.TempDir(), "claims"), newClock()

@@ -323,7 +323,8 @@ func (s *Store) assign(ranges []slotRange) error {
 			return fmt.Errorf("no server of the Cluster has the slot %d: see redis-cli --cluster check", slot)
 		}
 		if it.at != at {
-			it.at, it.agreed = at, false
+			it.at = at
+			it.doubt()
 		}
 	}
 	s.stale = false

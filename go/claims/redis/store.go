@@ -87,6 +87,7 @@ type shard struct {
 	record  record
 	raw     string   // the record as it is stored
 	agreed  bool     // the server has what this member knows of, and the record names its run
+	anew    uint64   // how often that was unknown, since another server may be there: a look that began before says nothing of it
 	latest  uint64   // the greatest time that was seen in the epoch
 	clock   clock    // the store's time, and this machine's
 	count   uint64   // what this member has counted up to
@@ -313,7 +314,7 @@ func (s *Store) connection(ctx context.Context, one *shard) (*conn, error) {
 	}
 	for _, it := range s.shards { // (a connection that is new may lead to a server that is)
 		if !s.cluster || it.at == c.address {
-			it.agreed = false
+			it.doubt()
 		}
 	}
 	s.mu.Unlock()
@@ -326,6 +327,9 @@ func (s *Store) lost() {
 	defer s.mu.Unlock()
 	s.at, s.stale = "", true
 }
+
+// doubt says that another server may be there.
+func (it *shard) doubt() { it.agreed, it.anew = false, it.anew+1 }
 
 func (s *Store) isAgreed(shards []*shard) bool {
 	s.mu.Lock()
