@@ -8,6 +8,7 @@ import (
 	"runtime"
 	"strings"
 	"testing"
+	"time"
 )
 
 func TestNothingIsJudgedBeforeAllIsRead(t *testing.T) {
@@ -88,7 +89,7 @@ func TestRunEndsWithASnapshotAndAllTold(t *testing.T) {
 // Nothing of an engine goes on behind its end, nor behind requests that were given up.
 func TestNothingGoesOnBehindTheEnd(t *testing.T) {
 	before := runtime.NumGoroutine()
-	all, store := strict(t, 1)
+	all, store := strictWithin(t, 1, time.Second) // (the end waits so long for the store)
 	e := all[0]
 	ctx, cancel := context.WithCancel(context.Background())
 	ended := make(chan struct{})
