@@ -31,9 +31,9 @@ ROWS = {
     "an option without a line": ("CHANGELOG.md", "`--nats-creds`", "`--nats-credentials`", "no line of CHANGELOG.md names --nats-creds"),
     "a place of the core that is not named": (
         "lists/README.md",
-        "`crates/svid_lines/src/refused.rt`",
-        "`svid_lines`",
-        "lists/README.md does not name crates/svid_lines/src/refused.rt, which has every refusal",
+        "`crates/svid_check/specs/Table.antt`",
+        "`svid_check`",
+        "lists/README.md does not name crates/svid_check/specs/Table.antt, which has every refusal",
     ),
 }
 

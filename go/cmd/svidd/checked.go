@@ -116,9 +116,6 @@ func usable(dir string) error {
 // serverWait is how long --check-config waits for a server of the group.
 const serverWait = 2 * time.Second
 
-// usualPorts are those of servers whose addresses name none.
-var usualPorts = map[string]string{"NATS": "4222", "Redis": "6379", "PostgreSQL": "5432"}
-
 // serverProblems asks the servers of the group. warnings say which gave no answer, since one may come later. faults say why a store, or a log, that
 // answers is of no use to this sidecar: what a start would find out.
 func (o *options) serverProblems() (faults, warnings problems) {
@@ -169,7 +166,7 @@ func reachable(addresses []string) (warnings problems, reached bool) {
 		}
 		port := u.Port()
 		if port == "" {
-			port = usualPorts[schemes[u.Scheme]]
+			port = ofScheme(u.Scheme).port
 		}
 		at[i] = net.JoinHostPort(u.Hostname(), port) // (without a password)
 		all.Add(1)

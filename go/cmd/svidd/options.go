@@ -434,7 +434,7 @@ var logLevels = map[string]server.Level{"errors": server.Errors, "decisions": se
 func (o *options) servers() []string {
 	var all []string
 	given := o.nats
-	if kind, _ := kindOf(o.logs); kind == "NATS" {
+	if kind, _ := kindOf(o.logs); kind.name == "NATS" {
 		given = append(given[:len(given):len(given)], o.logs...)
 	}
 	for _, urls := range given {

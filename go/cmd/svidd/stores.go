@@ -15,22 +15,73 @@ import (
 	"svid.example/go/v3/internal/server"
 )
 
-// schemes are those of the addresses of a group's store or log, and what answers there.
-var schemes = map[string]string{"nats": "NATS", "tls": "NATS", "ws": "NATS", "wss": "NATS",
-	"redis": "Redis", "rediss": "Redis", "redis+sentinel": "Redis", "rediss+sentinel": "Redis", "unix": "Redis", "postgres": "PostgreSQL", "postgresql": "PostgreSQL"}
+// A kind is what a group's store stands in.
+type kind struct {
+	name    string
+	schemes []string // of its addresses: an error names the first two
+	port    string   // of an address that has none
+	store   func(o *options, said func(event string, fields ...any)) (claims.Store, error)
+}
 
-// kindOf says what addresses stand for: "NATS", "Redis" or "PostgreSQL"; "" where there is none, or where one is of another kind than
-// the first: wrong is its number then.
-func kindOf(addresses []string) (kind string, wrong int) {
+// kinds are those that there are. Another store is a row here.
+var kinds = []kind{
+	{"Redis", []string{"redis", "rediss", "redis+sentinel", "rediss+sentinel", "unix"}, "6379", inRedis},
+	{"PostgreSQL", []string{"postgres", "postgresql"}, "5432", inPostgres},
+	{"NATS", []string{"nats", "tls", "ws", "wss"}, "4222", inNATS},
+}
+
+func inRedis(o *options, _ func(event string, fields ...any)) (claims.Store, error) {
+	return redis.New(redis.Options{URLs: o.stores, Name: o.group, Terms: o.terms(), Replicas: o.replicas})
+}
+
+func inPostgres(o *options, _ func(event string, fields ...any)) (claims.Store, error) {
+	return postgres.New(postgres.Options{URLs: o.stores, Name: o.group, Terms: o.terms(), Replicas: o.replicas})
+}
+
+func inNATS(o *options, said func(event string, fields ...any)) (claims.Store, error) {
+	connect, err := o.files.Connect()
+	if err != nil {
+		return nil, err
+	}
+	return nats.New(nats.Options{Servers: o.stores, Name: o.group, Terms: o.terms(), Replicas: o.replicas, Connect: connect, Log: said})
+}
+
+// ofScheme is the kind whose addresses begin so; its name is "" where there is none.
+func ofScheme(scheme string) kind {
+	for _, it := range kinds {
+		for _, each := range it.schemes {
+			if each == scheme {
+				return it
+			}
+		}
+	}
+	return kind{}
+}
+
+// kindOf says what addresses stand for; its name is "" where there is none, or where one is of another kind than the first: wrong is its number
+// then.
+func kindOf(addresses []string) (found kind, wrong int) {
 	for i, address := range addresses {
 		scheme, _, _ := strings.Cut(address, "://")
-		is := schemes[scheme]
-		if is == "" || kind != "" && is != kind {
-			return "", i + 1
+		is := ofScheme(scheme)
+		if is.name == "" || found.name != "" && is.name != found.name {
+			return kind{}, i + 1
 		}
-		kind = is
+		found = is
 	}
-	return kind, 0
+	return found, 0
+}
+
+// beginnings are those of addresses of a store, for an error.
+func beginnings() string {
+	var all []string
+	for _, it := range kinds {
+		for _, scheme := range it.schemes[:min(2, len(it.schemes))] {
+			all = append(all, scheme+"://")
+		}
+	}
+	last := len(all) - 1
+	return strings.Join(all[:last], ", ") + " or " + all[last]
 }
 
 // isGrouped says whether the sidecar tells others of its uses.
@@ -41,13 +92,13 @@ func (o *options) groupProblems(all *problems) {
 	once := server.Mode(o.replay) == server.Once
 	log, wrong := kindOf(o.logs)
 	all.wrong(wrong > 0, "--group-log: address %d must begin with nats:// or tls://, as all others do", wrong)
-	all.wrong(log != "" && log != "NATS", "--group-log: a log stands in NATS. Over %s tokens are claimed in a store: --replay strict --store", log)
+	all.wrong(log.name != "" && log.name != "NATS", "--group-log: a log stands in NATS. Over %s tokens are claimed in a store: --replay strict --store", log.name)
 	all.wrong(len(o.logs) > 0 && len(o.nats) > 0, "--group-log and --nats both say what carries the group: give one of them")
 	all.wrong(!once && o.isGrouped(), "--group-log and --nats are for --replay once, whose sidecars tell each other of their uses: in %s give --store", o.replay)
 	kind, wrong := kindOf(o.stores)
-	all.wrong(wrong > 0, "--store: address %d must begin with redis://, rediss://, postgres://, nats:// or tls://, as all others do", wrong)
-	all.wrong(o.files != jetstream.Files{} && kind != "NATS" && !o.isGrouped(), "--nats-ca, --nats-cert, --nats-key and --nats-creds are for NATS: name the files in the address of --store")
-	if _, err := o.files.Connect(); kind == "" || kind == "NATS" && err != nil {
+	all.wrong(wrong > 0, "--store: address %d must begin with %s, as all others do", wrong, beginnings())
+	all.wrong(o.files != jetstream.Files{} && kind.name != "NATS" && !o.isGrouped(), "--nats-ca, --nats-cert, --nats-key and --nats-creds are for NATS: name the files in the address of --store")
+	if _, err := o.files.Connect(); kind.name == "" || kind.name == "NATS" && err != nil {
 		return // (what is wrong with the files was said)
 	}
 	if store, err := o.store(nil); err != nil {
@@ -62,17 +113,8 @@ func (o *options) terms() claims.Terms { return guard.Terms(o.longest.value, o.a
 
 // store is the group's store, and nil where there is none.
 func (o *options) store(said func(event string, fields ...any)) (claims.Store, error) {
-	switch kind, _ := kindOf(o.stores); kind {
-	case "Redis":
-		return redis.New(redis.Options{URLs: o.stores, Name: o.group, Terms: o.terms(), Replicas: o.replicas})
-	case "PostgreSQL":
-		return postgres.New(postgres.Options{URLs: o.stores, Name: o.group, Terms: o.terms(), Replicas: o.replicas})
-	case "NATS":
-		connect, err := o.files.Connect()
-		if err != nil {
-			return nil, err
-		}
-		return nats.New(nats.Options{Servers: o.stores, Name: o.group, Terms: o.terms(), Replicas: o.replicas, Connect: connect, Log: said})
+	if kind, _ := kindOf(o.stores); kind.store != nil {
+		return kind.store(o, said)
 	}
 	return nil, nil
 }

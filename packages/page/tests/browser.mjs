@@ -9,6 +9,16 @@ import { join } from "node:path";
 const FLAGS = ["--headless", "--no-sandbox", "--remote-debugging-pipe", "--no-first-run", "--disable-gpu", "--disable-dev-shm-usage", "--disable-background-networking", "--disable-component-update",
   "--disable-sync", "--disable-default-apps", "--mute-audio", "--hide-scrollbars"];
 
+// How many seconds an answer of a browser may take.
+const PATIENCE = Number(process.env.SVID_TEST_PATIENCE || 180);
+
+/** What a promise gives, or an error that says what did not come. */
+export function within(what, promise) {
+  let timer;
+  const late = new Promise((_, reject) => (timer = setTimeout(() => reject(new Error(`nothing within ${PATIENCE} seconds: ${what.slice(0, 300)}`)), PATIENCE * 1000)));
+  return Promise.race([promise, late]).finally(() => clearTimeout(timer));
+}
+
 /** A running Chromium. */
 export class Browser {
   static async start() {
@@ -43,10 +53,10 @@ export class Browser {
   /** Sends a command of the protocol, and waits for its answer. */
   send(method, params = {}, sessionId) {
     const id = ++this.last;
-    return new Promise((resolve, reject) => {
+    return within(`${method} ${params.expression ?? ""}`, new Promise((resolve, reject) => {
       this.waiting.set(id, { resolve, reject });
       this.process.stdio[3].write(`${JSON.stringify({ id, method, params, sessionId })}\0`);
-    });
+    }));
   }
 
   /** How many milliseconds it has taken of the processors, with the processes that it started. */
@@ -74,7 +84,7 @@ export class Browser {
     await setup(page);
     const loaded = page.once("Page.loadEventFired");
     await page.send("Page.navigate", { url });
-    await loaded;
+    await within(`${url} to be loaded`, loaded);
     await page.settled();
     return page;
   }

@@ -7,7 +7,7 @@ import { mkdtemp, rm, writeFile } from "node:fs/promises";
 import { connect } from "node:net";
 import { tmpdir } from "node:os";
 import { join } from "node:path";
-import { FieldsAndButtons } from "./browser.mjs";
+import { FieldsAndButtons, within } from "./browser.mjs";
 
 // What Firefox asks of its maker's servers goes to a proxy that is not there. Port 0 is any that is free, and stands in the file PORT then.
 // It begins with an empty page, and prepares no process for a page that nobody opens.
@@ -87,10 +87,10 @@ export class Firefox {
   /** Sends a command of the protocol, and waits for its answer. */
   send(name, words = {}) {
     const id = ++this.last, text = JSON.stringify([0, id, name, words]);
-    return new Promise((resolve, reject) => {
+    return within(`${name} ${words.script ?? ""}`, new Promise((resolve, reject) => {
       this.waiting.set(id, { resolve, reject });
       this.socket.write(`${Buffer.byteLength(text)}:${text}`);
-    });
+    }));
   }
 
   /** Calls a function with arguments that JSON can carry, in the page or in the browser itself, and waits for its result. */

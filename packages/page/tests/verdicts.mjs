@@ -222,7 +222,7 @@ export function testVerdicts(start) {
     await page.write({ token: await signed({ aud: "led\nger" }) });
     const lines = await shown();
     assert.deepEqual([lines.said, lines.why], ["The audience was not looked at", 'The token is for "led\\nger". Write the audiences of your service: without one, a service accepts no token.']);
-    assert.deepEqual(lines.states, ORDER.map((_, n) => (n < 16 ? "passed" : n === 16 ? "unasked" : "later")));
+    assert.deepEqual(lines.states, ORDER.map((_, n) => (n < ORDER.indexOf("NotAudience") ? "passed" : n === ORDER.indexOf("NotAudience") ? "unasked" : "later")));
     // A token that was used is known, and can be withdrawn.
     await page.write({ ...fresh(), token: await signed({ jti: "six" }) });
     await page.click("use");
