@@ -13,7 +13,6 @@ import java.util.Map;
 import java.util.Set;
 import java.util.TreeMap;
 import java.util.concurrent.TimeUnit;
-import java.util.function.LongUnaryOperator;
 import java.util.stream.Stream;
 
 /** Follows the sources of trust bundles, and hands on all bundles whenever one has changed. */
@@ -41,8 +40,8 @@ final class Follower {
 
     /** How many milliseconds one answer of an address may take. */
     volatile int limit = 15_000;
-    /** For how many milliseconds it leaves a Workload API alone that it is to leave alone for so many. (A test says so.) */
-    volatile LongUnaryOperator pausing = it -> it;
+    /** What makes the pauses. (A test makes others.) */
+    volatile Pausing pausing = (source, millis) -> millis;
 
     private final Sources sources;
     private final Taker taker;
@@ -70,6 +69,12 @@ final class Follower {
          * @param count of how many trust domains they are
          */
         void take(byte[] text, int count);
+    }
+
+    /** Says for how many milliseconds it pauses where it is to pause for so many. */
+    interface Pausing {
+        /** Before a source is asked again; null stands for the look at all files. */
+        long before(Sources.Source source, long millis);
     }
 
     /** It follows nothing before {@link #begin}. */
@@ -151,9 +156,9 @@ final class Follower {
         closed(socket);
     }
 
-    /** Waits for so many milliseconds. False at the end. */
-    private boolean pause(long millis) {
-        long end = Times.up() + millis;
+    /** Waits for so many milliseconds before a source is asked again, or before the next look at all files. False at the end. */
+    private boolean pause(Sources.Source source, long millis) {
+        long end = Times.up() + pausing.before(source, millis);
         synchronized (gate) {
             while (!isClosing) {
                 long left = end - Times.up();
@@ -182,7 +187,7 @@ final class Follower {
 
     /** Looks at the files again and again. */
     private void look() {
-        while (pause(EVERY)) {
+        while (pause(null, EVERY)) {
             try {
                 readFiles();
             } catch (RuntimeException | OutOfMemoryError why) {
@@ -275,7 +280,7 @@ final class Follower {
                 wait = pause;
                 pause = Math.min(2 * pause, LONGEST_PAUSE);
             }
-        } while (pause(wait));
+        } while (pause(source, wait));
     }
 
     // -- A Workload API
@@ -286,7 +291,7 @@ final class Follower {
         long wait;
         do {
             try {
-                Workload stream = new Workload(source.api(), limit);
+                Workload stream = new Workload(source.api(), limit, Workload.IDLE);
                 try {
                     opened(stream);
                     while (true) {
@@ -305,7 +310,7 @@ final class Follower {
             }
             wait = pause;
             pause = Math.min(2 * pause, LONGEST_OF_API);
-        } while (pause(pausing.applyAsLong(wait)));
+        } while (pause(source, wait));
     }
 
     /** Takes all bundles of a Workload API, by what it calls their trust domains. Those that it has not given any more go. */

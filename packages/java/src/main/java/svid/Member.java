@@ -50,7 +50,7 @@ final class Member extends State {
 
     private final Journal journal; // null for no state folder
     private final LocalStore local; // null where another store has the claims
-    private final Follower follower; // null for bundles that stay
+    final Follower follower; // null for bundles that stay
     private volatile boolean isBundled;
     private final LongSupplier clock;
     private final long wait;

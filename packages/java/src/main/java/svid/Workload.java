@@ -44,8 +44,11 @@ import java.util.regex.Pattern;
 final class Workload implements Closeable {
     /** How many bytes a message may have: bundles of some hundred trust domains. */
     private static final int MOST = 16 << 20;
-    /** After so many minutes of silence the server is asked whether it is still there. A server hangs up on who asks more often. */
-    private static final long IDLE = 6;
+    /**
+     * After so many milliseconds of silence the server is asked whether it is still there. A server hangs up on a client that asks more
+     * often than each five minutes.
+     */
+    static final long IDLE = 360_000;
     private static final Pattern PATH = Pattern.compile("unix:(?://)?(/[^?#]*)");
     /** The tags of the fields of a JWTBundlesResponse: {@code map<string, bytes> bundles = 1}. */
     private static final int BUNDLES = 1 << 3 | 2, KEY = 1 << 3 | 2, VALUE = 2 << 3 | 2;
@@ -86,9 +89,10 @@ final class Workload implements Closeable {
     /**
      * Connects to nothing before {@link #next}.
      *
-     * @param limit how many milliseconds the first message may take
+     * @param limit how many milliseconds the first message may take, and the answer of a silent server
+     * @param idle after how many milliseconds of silence the server is asked whether it is still there
      */
-    Workload(String address, int limit) {
+    Workload(String address, int limit, long idle) {
         this.limit = limit;
         try {
             SocketAddress at = addressOf(address);
@@ -101,7 +105,7 @@ final class Workload implements Closeable {
                               .overrideAuthority("localhost")
                               .proxyDetector(none -> null)
                               .maxInboundMessageSize(MOST)
-                              .keepAliveTime(IDLE, TimeUnit.MINUTES)
+                              .keepAliveTime(idle, TimeUnit.MILLISECONDS)
                               .keepAliveTimeout(limit, TimeUnit.MILLISECONDS)
                               .build();
         } catch (Throwable why) {

@@ -23,10 +23,12 @@ import java.security.KeyStore;
 import java.util.ArrayList;
 import java.util.Arrays;
 import java.util.List;
+import java.util.Set;
+import java.util.concurrent.ConcurrentHashMap;
 import java.util.concurrent.CopyOnWriteArrayList;
 import java.util.concurrent.ExecutorService;
 import java.util.concurrent.Executors;
-import java.util.concurrent.TimeUnit;
+import java.util.concurrent.atomic.AtomicInteger;
 import javax.net.ssl.KeyManagerFactory;
 import javax.net.ssl.SSLContext;
 import org.junit.BeforeClass;
@@ -84,6 +86,28 @@ public class FollowTest {
         return all;
     }
 
+    /** Looks at files that follow each other at once. */
+    private static final class Looks implements Follower.Pausing {
+        /** The pauses that were due before them. */
+        final Set<Long> pauses = ConcurrentHashMap.newKeySet();
+        private final AtomicInteger count = new AtomicInteger();
+
+        @Override
+        public long before(Sources.Source source, long millis) {
+            if (source == null) {
+                pauses.add(millis);
+                count.getAndIncrement();
+            }
+            return 1;
+        }
+
+        /** Awaits so many looks that begin from now on, and their ends. */
+        void come(int number) throws Exception {
+            int from = count.get();
+            until(() -> count.get() > from + number);
+        }
+    }
+
     @Test
     public void aFileIsFollowed() throws Exception {
         Path file = path("a.json");
@@ -96,12 +120,13 @@ public class FollowTest {
             issuer.rotate();
             issuer.rotate();
             assertEquals("NoKey", checked(validator, fresh()));
-            long begun = System.nanoTime();
+            Looks looks = new Looks();
+            MemberTest.memberOf(validator).follower.pausing = looks;
             write(file, issuer.bundle());
             becomes(validator, Making.SUBJECT);
-            long took = TimeUnit.NANOSECONDS.toMillis(System.nanoTime() - begun);
-            assertTrue(took + " ms", took < 2000 || Making.PATIENCE > 100);
             assertEquals("NoKey", checked(validator, used));
+            looks.come(2);
+            assertEquals(Set.of(1000L), looks.pauses);
             assertThrows(IllegalStateException.class, () -> validator.renew("{}"));
         }
     }
@@ -111,7 +136,9 @@ public class FollowTest {
     public void theLastGoodOneStays() throws Exception {
         Path file = path("a.json");
         write(file, issuer.bundle());
+        Looks looks = new Looks();
         try (Validator validator = Validator.open(Vectors.ledger(), Sources.file("example.org", file))) {
+            MemberTest.memberOf(validator).follower.pausing = looks;
             List<byte[]> bads = List.of("[]".getBytes(), "{\"keys\":1}".getBytes(), padded(issuer.bundle()),
                     ("{\"keys\":[],\"x\":["
                             + "[],".repeat(Follower.MOST_BRACKETS - 3) + "[]]}")
@@ -120,10 +147,7 @@ public class FollowTest {
                 said.clear();
                 write(file, bad);
                 until(() -> !said.isEmpty());
-                // (the next looks say no more of it)
-                Files.writeString(path("more"), "");
-                long looks = Times.up() + 2500;
-                until(() -> Times.up() > looks);
+                looks.come(2);
                 assertEquals(said.toString(), 1, said.size());
                 assertTrue(said.get(0), said.get(0).startsWith("bundle not read; the last good one stays: " + file));
                 assertEquals(Making.SUBJECT, checked(validator, fresh()));
@@ -224,6 +248,7 @@ public class FollowTest {
         volatile byte[] answer = {};
         volatile int status = 200;
         volatile String leadsTo;
+        volatile boolean isEndless;
         private final HttpsServer server;
         private final ExecutorService threads = Executors.newCachedThreadPool();
 
@@ -245,8 +270,10 @@ public class FollowTest {
                     exchange.getResponseHeaders().set("Location", leadsTo);
                     exchange.sendResponseHeaders(302, -1);
                 } else {
-                    exchange.sendResponseHeaders(status, answer.length == 0 ? -1 : answer.length);
-                    exchange.getResponseBody().write(answer);
+                    exchange.sendResponseHeaders(status, isEndless ? 0 : answer.length == 0 ? -1 : answer.length);
+                    do {
+                        exchange.getResponseBody().write(isEndless ? new byte[Follower.MOST] : answer);
+                    } while (isEndless);
                 }
                 exchange.close();
             });
@@ -359,6 +386,13 @@ public class FollowTest {
             try (Validator validator = Validator.open(Vectors.ledger(), both)) {
                 until(() -> checked(validator, other.token("/a", "ledger")).equals("spiffe://example.com/a"));
             }
+            // (the file of such a source counts, also where that trust domain has a bundle of other authorities)
+            write(path("strange.json"), withAuthorities("stranger"));
+            Sources named = Sources.spiffe("example.com", server.address(), id, path("first.json"))
+                                    .and(Sources.file("example.org", path("strange.json")));
+            try (Validator validator = Validator.open(Vectors.ledger(), named)) {
+                until(() -> checked(validator, other.token("/a", "ledger")).equals("spiffe://example.com/a"));
+            }
             server.leadsTo = server.address() + "/moved";
             try (Validator validator = Validator.open(Vectors.ledger(), own)) {
                 until(() -> isSaid("it answers with status 302"));
@@ -430,15 +464,70 @@ public class FollowTest {
             follower.close();
         }
         try (ServerSocket silent = new ServerSocket(0, 5, InetAddress.getLoopbackAddress())) {
-            Sources sources = Sources.web("example.org", URI.create("https://127.0.0.1:" + silent.getLocalPort() + "/"));
-            try (Validator validator = Validator.open(Vectors.ledger(), sources); Socket first = silent.accept()) {
+            Follower follower = new Follower(
+                    Sources.web("example.org", URI.create("https://127.0.0.1:" + silent.getLocalPort() + "/")), (text, count) -> {});
+            follower.limit = Integer.MAX_VALUE;
+            follower.begin();
+            try (Socket first = silent.accept()) {
                 // (the client has sent its first bytes, and waits)
                 assertTrue(first.getInputStream().read() >= 0);
-                long begun = System.nanoTime();
-                validator.close();
+                follower.close();
                 until(() -> Said.threads() == 0);
-                assertTrue("it waits for the server", System.nanoTime() - begun < TimeUnit.SECONDS.toNanos(8));
             }
+        }
+    }
+
+    /** The pauses after faults grow to a minute. After a bundle comes the one that its hint wants, and the next fault has a short one. */
+    @Test
+    public void pausesOfAnAddress() throws Exception {
+        List<Long> pauses = new CopyOnWriteArrayList<>();
+        try (Server server = new Server("web")) {
+            server.status = 500;
+            server.answer = "{\"keys\":[],\"spiffe_refresh_hint\":77}".getBytes();
+            Follower follower = new Follower(Sources.web("example.org", server.address(), secret("ca.pem")), (text, count) -> {});
+            follower.pausing = (source, millis) -> {
+                if (source != null) {
+                    pauses.add(millis);
+                    server.status = pauses.size() == 8 ? 200 : 500;
+                }
+                return source == null || pauses.size() == 10 ? 3_600_000 : 0;
+            };
+            follower.begin();
+            until(() -> pauses.size() == 10);
+            follower.close();
+        }
+        assertEquals(List.of(1000L, 2000L, 4000L, 8000L, 16_000L, 32_000L, 60_000L, 60_000L, 77_000L, 1000L), pauses);
+    }
+
+    /** Bundles that a validator has no memory for are handed on again at the next look, until it takes them. */
+    @Test
+    public void bundlesThatWereNotTaken() throws Exception {
+        Path file = path("a.json");
+        write(file, issuer.bundle());
+        AtomicInteger count = new AtomicInteger();
+        Follower follower = new Follower(Sources.file("example.org", file), (text, domains) -> {
+            if (count.getAndIncrement() < 2) {
+                throw new SvidException.OutOfMemory(null);
+            }
+        });
+        Looks looks = new Looks();
+        follower.pausing = looks;
+        follower.begin();
+        until(() -> isSaid("bundle source is well again: the validator"));
+        looks.come(2);
+        assertEquals(3, count.get());
+        follower.close();
+    }
+
+    /** Of an answer without end no more is read than shows that it is too long. */
+    @Test
+    public void anAnswerWithoutEnd() throws Exception {
+        try (Server server = new Server("web")) {
+            server.isEndless = true;
+            Sources sources = Sources.web("example.org", server.address(), secret("ca.pem"));
+            Follower follower = new Follower(sources, (text, count) -> {});
+            follower.limit = Integer.MAX_VALUE;
+            assertEquals(Follower.MOST + 1, new Endpoint(sources.all.get(0), follower).fetched().length);
         }
     }
 

@@ -244,7 +244,7 @@ public class LeakTest {
                     use(validator, Mode.ONCE);
                 }
                 for (String it : List.of("unix://" + room.resolve("none.sock"), "tcp://127.0.0.1:1")) {
-                    try (Workload stream = new Workload(it, 1000)) {
+                    try (Workload stream = new Workload(it, 1000, Workload.IDLE)) {
                         assertThrows(IOException.class, stream::next);
                     }
                 }

@@ -196,6 +196,53 @@ public class LocalTest {
         }
     }
 
+    /** A snapshot has what the folder had: claims, until when the store is deaf, and the time that the clock had. */
+    @Test
+    public void aSnapshotForgetsNothing() throws Exception {
+        again();
+        has(7, 1, 1, NOW + 30_000);
+        now = NOW + 20_000;
+        has(8, 1, 1, NOW + 30_000);
+        now -= 61;
+        Instant deaf = put(9, owner(1), NOW + 30_000).deaf();
+        assertEquals(Instant.ofEpochSecond(NOW + 20_000 + LASTS), deaf);
+        for (long late : List.of(0L, 10_000L)) {
+            now += late;
+            put(6, owner(1), NOW + 30_000);
+            for (int start = 0; start < 9; start++) {
+                again();
+            }
+            until(() -> {
+                put(6, owner(1), NOW + 30_000);
+                return names().stream().filter(it -> it.startsWith("journal.")).count() == 1;
+            });
+            again();
+            for (int key : List.of(7, 8, 9)) {
+                Store.Found found = put(key, owner(2), NOW + 30_000);
+                assertEquals(owner(1), found.owner());
+                assertEquals(late == 0 ? deaf : Instant.EPOCH, found.deaf());
+            }
+        }
+        now -= 61;
+        assertEquals(Instant.ofEpochSecond(now + 61 + LASTS), put(7, owner(2), NOW + 30_000).deaf());
+    }
+
+    /** What the folder has is answered without the disk, also after the clock went back. */
+    @Test
+    public void aClaimThatIsThereNeedsNoDisk() throws Exception {
+        again();
+        has(7, 1, 1, NOW + 600);
+        now -= 61;
+        Instant deaf = put(7, owner(2), NOW + 600).deaf();
+        Files.move(folder(), folder().resolveSibling("moved"));
+        assertThrows(Exception.class, () -> put(8, owner(1), NOW + 600));
+        assertEquals(new Store.Found(owner(1), Instant.ofEpochSecond(now), deaf), put(7, owner(2), NOW + 600));
+    }
+
+    private List<String> names() {
+        return List.of(folder().toFile().list());
+    }
+
     private long size() throws Exception {
         long size = 0;
         for (String name : folder().toFile().list()) {

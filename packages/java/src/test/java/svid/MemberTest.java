@@ -159,7 +159,7 @@ public class MemberTest {
         return Validator.open(options, Making.bundles());
     }
 
-    private static Member memberOf(Validator validator) {
+    static Member memberOf(Validator validator) {
         try {
             return (Member) ThreadsTest.lockOf(validator);
         } catch (ReflectiveOperationException why) {
@@ -974,11 +974,15 @@ public class MemberTest {
     @Test
     public void anAnswerThatIsNotHandedOn() throws Exception {
         Fickle store = new Fickle();
-        try (Validator validator = open(strict(store).wait(Duration.ofSeconds(3))); Holding held = new Holding(store)) {
-            List<Soon> calls = List.of(new Soon(() -> validator.check(token())), new Soon(() -> validator.withdraw(token())));
-            AtomicInteger forgotten = new AtomicInteger();
-            until(() -> forgotten.addAndGet(forget(memberOf(validator))) == 2);
-            assertEquals(List.of("Unavailable", "Unavailable"), answers(calls));
+        try (Validator validator = open(strict(store).wait(Duration.ofMillis(300))); Holding held = new Holding(store)) {
+            until(() -> {
+                List<Soon> calls = List.of(new Soon(() -> validator.check(token())), new Soon(() -> validator.withdraw(token())));
+                // (on a busy machine one may be late before the other has come)
+                until(() -> waiting(validator) == 2 || calls.stream().anyMatch(it -> !it.thread.isAlive()));
+                int forgotten = forget(memberOf(validator));
+                assertEquals(List.of("Unavailable", "Unavailable"), answers(calls));
+                return forgotten == 2;
+            });
         }
     }
 
@@ -1015,6 +1019,24 @@ public class MemberTest {
             until(() -> validator.unready().equals(Optional.of(away)));
             store.before = NOTHING;
             until(validator::isReady); // (each look asks the store)
+        }
+    }
+
+    /** What a store says of lost entries stays, also where a later answer says less. */
+    @Test
+    public void aStoreThatSaysLessLater() throws Exception {
+        MemoryStore store = new MemoryStore();
+        List<Instant> deaf = new CopyOnWriteArrayList<>(List.of(Instant.now().plusSeconds(7200), Instant.EPOCH));
+        Answering less = claims -> {
+            Instant until = deaf.size() > 1 && !claims.isEmpty() ? deaf.remove(0) : deaf.get(deaf.size() - 1);
+            return store.put(claims).stream().map(it -> new Store.Found(it.owner(), it.time(), until)).toList();
+        };
+        try (Validator validator = open(strict(less).longest(Duration.ofHours(1)).wait(patience()))) {
+            assertEquals(Optional.empty(), validator.unready());
+            assertEquals("Unavailable", soon(() -> validator.check(token())));
+            assertEquals(SUBJECT, soon(() -> validator.check(token())));
+            assertEquals(
+                    "The store has lost entries, so no token is accepted that lives as long as it may.", validator.unready().orElse(""));
         }
     }
 

@@ -17,6 +17,7 @@ import java.util.ArrayList;
 import java.util.Arrays;
 import java.util.List;
 import java.util.TreeSet;
+import java.util.concurrent.CompletableFuture;
 import java.util.concurrent.TimeUnit;
 import java.util.regex.Matcher;
 import java.util.regex.Pattern;
@@ -227,10 +228,14 @@ public class PostgresTest {
                         ()
                                 -> store.put(List.of()),
                         () -> store.withdraw(claim(3).key(), claim(3).expiry()), () -> store.withdrawals(""), store::state);
-                for (ThrowingRunnable call : calls) {
-                    long begun = Times.up();
-                    assertThrows(PostgresStore.Fault.class, call);
-                    assertTrue(Times.up() - begun < 1000 * Making.PATIENCE / 3); // (a busy machine)
+                List<CompletableFuture<PostgresStore.Fault>> faults =
+                        calls.stream()
+                                .map(it
+                                        -> CompletableFuture.supplyAsync(
+                                                () -> assertThrows(PostgresStore.Fault.class, it), work -> new Thread(work).start()))
+                                .toList();
+                for (CompletableFuture<PostgresStore.Fault> it : faults) {
+                    it.get(Making.PATIENCE, TimeUnit.SECONDS);
                 }
             } finally {
                 tell("resume");

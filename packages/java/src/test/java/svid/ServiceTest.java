@@ -6,10 +6,13 @@ import static org.junit.Assert.assertThrows;
 import static org.junit.Assert.assertTrue;
 import static svid.Making.until;
 
+import com.google.gson.JsonObject;
+import com.google.gson.JsonParser;
 import com.sun.net.httpserver.HttpServer;
 import java.io.ByteArrayOutputStream;
 import java.io.IOException;
 import java.io.InputStream;
+import java.math.BigInteger;
 import java.net.HttpURLConnection;
 import java.net.InetAddress;
 import java.net.InetSocketAddress;
@@ -18,6 +21,7 @@ import java.nio.charset.StandardCharsets;
 import java.time.Duration;
 import java.time.Instant;
 import java.util.ArrayList;
+import java.util.Base64;
 import java.util.List;
 import java.util.Map;
 import java.util.concurrent.CopyOnWriteArrayList;
@@ -32,6 +36,7 @@ import svid.testing.TestClock;
 @SuppressWarnings("try") // (some are only held)
 public class ServiceTest {
     @Rule public final TemporaryFolder room = new TemporaryFolder();
+    @Rule public final Said said = new Said();
 
     private final TestClock clock = new TestClock();
     private final Issuer issuer = new Issuer("example.org", clock);
@@ -182,9 +187,6 @@ public class ServiceTest {
             String token = issuer.token("/a", "ledger");
             assertEquals("NotClaimed", assertThrows(SvidException.class, () -> left.check(token)).word());
         }
-        assertEquals("NotReady", new SvidException.Unavailable(Library.ENDED, null).word());
-        assertEquals("EntriesLost", new SvidException.Unavailable(Library.CLAIM_DEAF, null).word());
-        assertEquals("NoMemory", new SvidException.OutOfMemory(null).word());
     }
 
     @Test
@@ -355,7 +357,77 @@ public class ServiceTest {
         }
     }
 
+    /** One that can't be taken yet, as the clock is wrong, is taken once it can be. */
+    @Test
+    public void aWithdrawalThatIsTakenLater() throws Exception {
+        Telling store = new Telling();
+        try (Validator validator = open(options().step(Duration.ofHours(1)).store(store))) {
+            until(validator::isReady);
+            String token = issuer.token("/a", "ledger");
+            Says said = Validator.says(token);
+            clock.advance(Duration.ofHours(2));
+            store.all = List.of(new Store.Withdrawal(said.key(), said.expiry()));
+            store.asked.clear();
+            until(() -> store.asked.size() > 1);
+            clock.advance(Duration.ofHours(-2));
+            until(() -> judged(validator, token).equals("Withdrawn"));
+        }
+    }
+
+    /** Of each outage of a store the log has a line about the claims and one about withdrawals. */
+    @Test
+    public void eachOutageIsLoggedOnce() throws Exception {
+        Telling store = new Telling() {
+            @Override
+            public List<Found> put(List<Claim> claims) {
+                if (isAway) {
+                    throw new IllegalStateException("the store is away");
+                }
+                return super.put(claims);
+            }
+        };
+        List<String> due = new ArrayList<>();
+        try (Validator validator = open(options().mode(Mode.BOUND).store(store).wait(Duration.ofMillis(100)))) {
+            for (int outage = 0; outage < 2; outage++) {
+                until(validator::isReady);
+                store.isAway = true;
+                store.asked.clear();
+                String token = issuer.token("/a", "ledger");
+                assertThrows(SvidException.Unavailable.class, () -> validator.check(token, new byte[1]));
+                until(() -> store.asked.size() > 1 && !validator.isReady());
+                due.addAll(List.of("the group's store does not answer", "the group's store does not tell of withdrawals"));
+                until(() -> said.lines.size() >= due.size());
+                store.isAway = false;
+            }
+            until(validator::isReady);
+        }
+        assertEquals(due.stream().sorted().toList(), said.lines.stream().sorted().toList());
+    }
+
     // -- What tests of a service use
+
+    /** A number that begins with a zero is as long as another one: one of some hundred keys has such a coordinate. */
+    @Test
+    public void eachKeyOfAnIssuerIsOnItsCurve() throws Exception {
+        BigInteger prime = new BigInteger("ffffffff00000001000000000000000000000000ffffffffffffffffffffffff", 16);
+        BigInteger constant = new BigInteger("5ac635d8aa3a93e7b3ebbd55769886bc651d06b0cc53b0f63bce3c3e27d2604b", 16);
+        BigInteger three = BigInteger.valueOf(3);
+        until(() -> {
+            issuer.rotate();
+            JsonObject key = JsonParser.parseString(new String(issuer.bundle(), StandardCharsets.UTF_8))
+                                     .getAsJsonObject()
+                                     .getAsJsonArray("keys")
+                                     .get(0)
+                                     .getAsJsonObject();
+            byte[][] bytes = {
+                    Base64.getUrlDecoder().decode(key.get("x").getAsString()), Base64.getUrlDecoder().decode(key.get("y").getAsString())};
+            BigInteger x = new BigInteger(1, bytes[0]);
+            BigInteger y = new BigInteger(1, bytes[1]);
+            assertEquals(y.modPow(BigInteger.TWO, prime), x.pow(3).subtract(three.multiply(x)).add(constant).mod(prime));
+            assertEquals("32 32", bytes[0].length + " " + bytes[1].length);
+            return bytes[0][0] == 0 || bytes[1][0] == 0;
+        });
+    }
 
     @Test
     public void whatTestsUse() throws Exception {

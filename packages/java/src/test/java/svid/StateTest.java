@@ -268,6 +268,94 @@ public class StateTest {
         assertFalse(names(folder).contains("journal.1"));
     }
 
+    /** After a snapshot none is due, however long the journals before it were. After one that failed none is due for a while. */
+    @Test
+    public void whenASnapshotIsDue() throws Exception {
+        Path folder = room().resolve("state");
+        try (Journal journal = open(folder)) {
+            for (int n = 0; n < 4; n++) {
+                append(journal, concatenated(2_200_000));
+            }
+        }
+        Fickle disk = new Fickle();
+        try (Journal journal = new Journal(folder, disk)) {
+            assertTrue(journal.wantsSnapshot());
+            disk.before = name -> {
+                if (name.equals("rename")) {
+                    throw new IOException("no space left");
+                }
+            };
+            assertThrows(IOException.class, () -> journal.snapshot(sink -> sink.take(use(1))));
+            assertFalse(journal.wantsSnapshot());
+            assertFalse(names(folder).toString(), names(folder).contains("snapshot.new"));
+            disk.before = name -> {};
+            journal.snapshot(sink -> sink.take(use(1)));
+            append(journal, use(2));
+            assertFalse(journal.wantsSnapshot());
+        }
+        assertEquals(Set.of(1, 2), found(folder));
+    }
+
+    /** Who hears that a use is kept, or that a snapshot is to be made, may fail: the next ones are kept. */
+    @Test
+    public void aListenerThatFails() throws Exception {
+        Path folder = room().resolve("state");
+        try (Journal journal = open(folder)) {
+            CompletableFuture<Exception> told = new CompletableFuture<>();
+            journal.keep(use(1), why -> {
+                told.complete(why);
+                throw new IllegalStateException("a listener may fail");
+            });
+            assertEquals(null, told.get(PATIENCE, TimeUnit.SECONDS));
+            append(journal, use(2));
+            assertThrows(
+                    IllegalStateException.class, () -> journal.snapshot(sink -> { throw new IllegalStateException("a part may fail"); }));
+            append(journal, use(3));
+        }
+        assertEquals(Set.of(1, 2, 3), found(folder));
+    }
+
+    /** A start that fails leaves no lock: the next one fails for the same reason, or goes well. */
+    @Test
+    public void aStartThatFailsLetsGo() throws Exception {
+        Path folder = room().resolve("state");
+        Options bound = Vectors.ledger().mode(Mode.BOUND).state(folder);
+        try (Validator validator = Validator.open(bound, Making.bundles())) {
+            validator.check(token(), new byte[1]);
+            validator.withdraw(token());
+        }
+        Options late = bound.clock(Vectors.clock(BEGUN - 3600));
+        Path claims = folder.resolve("claims").resolve("place");
+        for (int n = 0; n < 2; n++) {
+            assertThrows(SvidException.BadBundles.class, () -> Validator.open(bound, "[]"));
+            assertThrows(SvidException.TooFar.class, () -> Validator.open(late, Making.bundles()));
+            Files.move(claims, claims.resolveSibling("moved"));
+            assertThrows(SvidException.BadFolder.class, () -> Validator.open(bound, Making.bundles()));
+            Files.move(claims.resolveSibling("moved"), claims);
+        }
+        Validator.open(bound, Making.bundles()).close();
+    }
+
+    /** A program that the service starts gets none of its files: it would hold the lock after the service has ended. */
+    @Test
+    public void filesAreClosedInOtherPrograms() throws Exception {
+        Path folder = room().resolve("state").toAbsolutePath();
+        try (Validator validator = validator(folder)) {
+            validator.check(token());
+            List<String> open = new ArrayList<>();
+            for (String it : new java.io.File("/proc/self/fd").list()) {
+                Path link = Path.of("/proc/self/fd", it);
+                if (Files.isSymbolicLink(link) && Files.readSymbolicLink(link).startsWith(folder)) {
+                    String info = Files.readString(Path.of("/proc/self/fdinfo", it));
+                    int flags = Integer.parseInt(info.replaceAll("(?s).*flags:\\s*([0-7]+).*", "$1"), 8);
+                    assertTrue(Files.readSymbolicLink(link).toString(), (flags & 02000000) != 0);
+                    open.add(it);
+                }
+            }
+            assertTrue(open.toString(), open.size() >= 3);
+        }
+    }
+
     /** So many bytes of messages. */
     private static byte[] concatenated(int least) {
         byte[] one = use(3);

@@ -448,13 +448,10 @@ public class ThreadsTest {
                 Validator.open(ledgerAt(NOW), bundles()).check(tokens().get(0));
             }
         }
-        // (packages/java/wrong/run says how long: with a wrong body they never are)
-        String patience = System.getenv("SVID_TEST_PATIENCE");
-        long until = System.nanoTime() + TimeUnit.SECONDS.toNanos(patience == null ? 180 : Long.parseLong(patience));
-        while (all.stream().anyMatch(it -> it.get() != null) && System.nanoTime() < until) {
+        Making.until(() -> {
             System.gc();
-        }
-        assertTrue("each can be collected", all.stream().allMatch(it -> it.get() == null));
+            return all.stream().allMatch(it -> it.get() == null);
+        });
     }
 
     // -- Threads that are made to switch, in several numbers
@@ -533,9 +530,11 @@ public class ThreadsTest {
                         ()
                                 -> {
                             while (!shown.isEmpty()) {
-                                checks.tryAcquire(number, 1, TimeUnit.SECONDS);
+                                // (some that end now began before the last renewal, at most one of each thread)
+                                checks.tryAcquire(2 * number, Making.PATIENCE, TimeUnit.SECONDS);
                                 validator.renew(begun.incrementAndGet() % 2 == 0 ? good : bad);
                                 done.incrementAndGet();
+                                checks.drainPermits();
                             }
                             return null;
                         },
@@ -554,6 +553,7 @@ public class ThreadsTest {
                                 }
                                 assertTrue(said, List.of("accepted", "Replayed", "BadSignature").contains(said));
                             }
+                            checks.release(2 * number);
                             return null;
                         });
                 validator.renew(good);

@@ -17,16 +17,25 @@ import static svid.Vectors.tokens;
 import com.google.gson.JsonElement;
 import com.google.gson.JsonObject;
 import com.google.gson.JsonParser;
+import java.lang.reflect.Field;
+import java.lang.reflect.Modifier;
 import java.nio.charset.StandardCharsets;
+import java.nio.file.Path;
 import java.security.Provider;
+import java.security.ProviderException;
 import java.security.Security;
 import java.time.Duration;
 import java.time.Instant;
 import java.util.ArrayList;
+import java.util.LinkedHashMap;
 import java.util.List;
 import java.util.Map;
+import java.util.Objects;
 import java.util.Optional;
+import java.util.concurrent.atomic.AtomicInteger;
+import java.util.function.UnaryOperator;
 import org.junit.Test;
+import svid.testing.Issuer;
 import svid.testing.TestClock;
 
 /** What the vectors don't have: the calls of the API, and what each throws. */
@@ -330,6 +339,43 @@ public class ValidatorTest {
         }
     }
 
+    /** An option changes what it is for, and leaves all others as they were set. */
+    @Test
+    public void eachOptionLeavesTheOthers() throws Exception {
+        Map<String, UnaryOperator<Options>> all = new LinkedHashMap<>();
+        all.put("longest", it -> it.longest(Duration.ofSeconds(7)));
+        all.put("ahead", it -> it.ahead(Duration.ofSeconds(8)));
+        all.put("step", it -> it.step(Duration.ofSeconds(9)));
+        all.put("validatorId", it -> it.validatorId(new byte[16]));
+        all.put("rsaBits", it -> it.rsaBits(2048));
+        all.put("clock", it -> it.clock(new TestClock()));
+        all.put("mode", it -> it.mode(Mode.BOUND));
+        all.put("store", it -> it.store(new MemoryStore()));
+        all.put("callers", it -> it.callers(IdPattern.of("spiffe://example.org")));
+        all.put("state", it -> it.state(Path.of("state")));
+        all.put("denied", it -> it.denied(why -> {}));
+        all.put("twice", it -> it.twice(key -> {}));
+        all.put("wait", it -> it.wait(Duration.ofSeconds(10)));
+        Options usual = Options.audiences("ledger");
+        Options full = usual;
+        for (UnaryOperator<Options> it : all.values()) {
+            full = it.apply(full);
+        }
+        for (Field field : Options.class.getDeclaredFields()) {
+            if (Modifier.isStatic(field.getModifiers())) {
+                continue;
+            }
+            field.setAccessible(true);
+            String name = field.getName();
+            assertTrue(name, name.equals("audiences") || !Objects.equals(field.get(usual), field.get(full)));
+            for (Map.Entry<String, UnaryOperator<Options>> it : all.entrySet()) {
+                if (!it.getKey().equals(name)) {
+                    assertEquals(it.getKey() + " and " + name, field.get(full), field.get(it.getValue().apply(full)));
+                }
+            }
+        }
+    }
+
     private static void assertNotSameLimits(Options before, Options after) {
         assertEquals(-1, before.longest());
         assertEquals(1, after.longest());
@@ -381,6 +427,43 @@ public class ValidatorTest {
             }
             validator.check(token);
         }
+    }
+
+    /** A key that this Java can't use hides none after it. Where no other one made the signature, there is no answer. */
+    @Test
+    public void aKeyThatCanNotBeUsed() throws Refusal {
+        Issuer issuer = new Issuer("example.org");
+        Issuer stranger = new Issuer("example.org");
+        JsonObject good = keyOf(issuer);
+        JsonObject other = keyOf(stranger);
+        other.add("kid", good.get("kid"));
+        String token = issuer.token("/a", "ledger");
+        String bad = issuer.wrong(Issuer.Wrong.SIGNATURE, "/a", "ledger");
+        AtomicInteger count = new AtomicInteger();
+        Provider fails = new ThreadsTest.Meanwhile(() -> {
+            if (count.getAndIncrement() == 0) {
+                throw new ProviderException("no such key");
+            }
+            return null;
+        });
+        Security.insertProviderAt(fails, 1);
+        try (Validator validator = Validator.open(ledger(), "{\"example.org\":{\"keys\":[" + other + "," + good + "]}}")) {
+            validator.check(token);
+            assertEquals(2, count.get());
+            assertEquals(Refusal.Reason.BAD_SIGNATURE, refused(() -> validator.check(bad)));
+            count.set(0);
+            assertThrows(SvidException.Unverifiable.class, () -> validator.check(bad));
+        } finally {
+            Security.removeProvider(fails.getName());
+        }
+    }
+
+    private static JsonObject keyOf(Issuer issuer) {
+        return JsonParser.parseString(new String(issuer.bundle(), StandardCharsets.UTF_8))
+                .getAsJsonObject()
+                .getAsJsonArray("keys")
+                .get(0)
+                .getAsJsonObject();
     }
 
     @Test

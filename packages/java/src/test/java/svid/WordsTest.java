@@ -36,6 +36,7 @@ public class WordsTest {
             for (String row : afterFirst(rows)) {
                 Map<String, String> fields = fields(row);
                 fields.putIfAbsent("advice", of.getOrDefault("advice", ""));
+                fields.putIfAbsent("reason", of.getOrDefault("reason", "NotJudged"));
                 LISTED.put(of.getOrDefault("prefix", "") + fields.get("name"), fields);
             }
         }
@@ -85,6 +86,10 @@ public class WordsTest {
         for (String name : names) {
             int number = Integer.parseInt(field(name, "number"));
             says(sentence(name, ""), () -> { throw(SvidException.Unavailable) SvidException.of(number, null); });
+        }
+        names.addAll(List.of("NO_MEMORY", "JUMP", "CLOSED", "TOO_MUCH"));
+        for (String name : names) {
+            assertEquals(name, field(name, "reason"), SvidException.of(Integer.parseInt(field(name, "number")), null).word());
         }
         says("the token is good, and its subject is none of the callers that may call",
                 () -> { throw SvidException.of(Status.NOT_ALLOWED.number(), null); });

@@ -30,8 +30,10 @@ import java.util.HexFormat;
 import java.util.List;
 import java.util.Map;
 import java.util.Set;
+import java.util.concurrent.CompletableFuture;
 import java.util.concurrent.CopyOnWriteArrayList;
 import java.util.concurrent.TimeUnit;
+import java.util.concurrent.atomic.AtomicReference;
 import org.junit.Rule;
 import org.junit.Test;
 import org.junit.rules.TemporaryFolder;
@@ -218,7 +220,10 @@ public class WorkloadTest {
         try (Agent agent = new Agent(socket())) {
             agent.refuses("UNAVAILABLE");
             Follower follower = new Follower(Sources.workload(agent.address), (text, count) -> {});
-            follower.pausing = millis -> {
+            follower.pausing = (source, millis) -> {
+                if (source == null) {
+                    return 3_600_000;
+                }
                 pauses.add(millis);
                 try {
                     if (pauses.size() == 7) {
@@ -265,7 +270,7 @@ public class WorkloadTest {
                 until(() -> said.has("bundle source is well again"));
                 until(() -> {
                     said.lines.clear();
-                    long end = Times.up() + 2000;
+                    long end = Times.up() + 900;
                     until(() -> Times.up() > end);
                     // (once the second one is there, all was said of the first one)
                     for (int number = 0; number < 2; number++) {
@@ -285,6 +290,30 @@ public class WorkloadTest {
             silent.accept().getInputStream().read();
             validator.close();
             until(() -> Said.threads() == 0);
+        }
+    }
+
+    /** One that is there no more, and whose connection nobody has ended, is noticed. */
+    @Test
+    public void anAgentThatStops() throws Exception {
+        try (Agent agent = new Agent(socket())) {
+            agent.gives(Map.of("spiffe://example.org", NO_KEYS));
+            AtomicReference<Workload> stream = new AtomicReference<>();
+            until(() -> {
+                stream.set(new Workload(agent.address, 1000, 10_000));
+                try {
+                    return stream.get().next().keySet().equals(Set.of("spiffe://example.org"));
+                } catch (IOException late) {
+                    stream.get().close();
+                    return false;
+                }
+            });
+            HeaderTest.ran("kill", "-STOP", Long.toString(agent.process.pid()));
+            CompletableFuture<IOException> ended = new CompletableFuture<>();
+            new Thread(() -> ended.complete(assertThrows(IOException.class, stream.get()::next))).start();
+            try (Workload it = stream.get()) {
+                assertTrue(ended.get(Making.PATIENCE, TimeUnit.SECONDS).getMessage().contains("Keepalive failed"));
+            }
         }
     }
 
