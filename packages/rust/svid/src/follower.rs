@@ -37,7 +37,7 @@ pub(crate) struct Shared {
     state: Mutex<State>,
     /// One thread at a time hands bundles on, so that the newest come last.
     telling: Mutex<()>,
-    /// The end has come.
+    /// The beginning or the end has come.
     comes: Condvar,
     #[cfg(any(feature = "https", feature = "workload"))]
     closing: tokio::sync::watch::Sender<bool>,
@@ -51,6 +51,8 @@ struct State {
     faults: HashMap<String, String>,
     /// The guard has not what is held.
     is_due: bool,
+    /// The guard follows these sources: until then, threads wait.
+    is_begun: bool,
     is_closing: bool,
 }
 
@@ -95,20 +97,33 @@ impl Follower {
                 _ => {}
             }
         }
-        drop(before.take());
-        if let Some(read) = read {
-            requests.exchange(read)?;
+        {
+            // (those before hand nothing on from here on)
+            let _telling = before.as_ref().map(|it| it.shared.telling());
+            if let Some(read) = read {
+                requests.exchange(read)?;
+            }
+            if let Some(before) = before.as_ref() {
+                before.shared.state().is_closing = true;
+            }
         }
-        // (what came meanwhile is newer)
-        made.shared.state().is_due |= !made.threads.is_empty() && some;
-        made.shared.tell_all();
+        {
+            let mut state = made.shared.state();
+            (state.is_begun, state.is_due) = (true, false);
+        }
+        made.shared.comes.notify_all();
         *before = Some(made);
         Ok(())
     }
 
     fn spawn(&mut self, work: impl FnOnce(&Shared) + Send + 'static) -> Result<(), Error> {
         let shared = Arc::clone(&self.shared);
-        let made = thread::Builder::new().name("svid-bundles".to_owned()).spawn(move || work(&shared));
+        let works = move || {
+            if shared.begins() {
+                work(&shared);
+            }
+        };
+        let made = thread::Builder::new().name("svid-bundles".to_owned()).spawn(works);
         self.threads.push(made.map_err(|_| Error::NoMemory)?);
         Ok(())
     }
@@ -216,8 +231,14 @@ impl Shared {
     }
 
     fn tell(&self, requests: &Requests) -> Result<(), Error> {
-        let _telling = self.telling.lock().unwrap_or_else(PoisonError::into_inner);
-        self.state().is_due = false;
+        let _telling = self.telling();
+        {
+            let mut state = self.state();
+            if state.is_closing {
+                return Ok(()); // (others are followed)
+            }
+            state.is_due = false;
+        }
         let told = self.joined().and_then(|text| requests.exchange(Bundles::read(&text)?));
         self.state().is_due |= told.is_err();
         told
@@ -253,10 +274,20 @@ impl Shared {
         }
     }
 
+    /// Waits for the beginning. False if the end comes first.
+    fn begins(&self) -> bool {
+        let waits = self.comes.wait_while(self.state(), |state| !state.is_begun && !state.is_closing);
+        !waits.unwrap_or_else(PoisonError::into_inner).is_closing
+    }
+
     /// Waits, and says whether the end has come.
     pub fn ends_within(&self, pause: Duration) -> bool {
         let waits = self.comes.wait_timeout_while(self.state(), pause, |state| !state.is_closing);
         waits.unwrap_or_else(PoisonError::into_inner).0.is_closing
+    }
+
+    fn telling(&self) -> MutexGuard<'_, ()> {
+        self.telling.lock().unwrap_or_else(PoisonError::into_inner)
     }
 
     fn state(&self) -> MutexGuard<'_, State> {

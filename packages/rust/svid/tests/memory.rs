@@ -1,5 +1,5 @@
 //! Want of memory: in each call, each allocation is refused once, whether this crate makes it, the C library or OpenSSL. The call says so, or
-//! does without; nothing is accepted by one that fails; and the same call succeeds then.
+//! does without; nothing is accepted by one that fails; and the same call succeeds then. So it is where no thread can be started.
 
 #![deny(unsafe_op_in_unsafe_fn)]
 #![allow(clippy::declare_interior_mutable_const)] // (the macro of std writes it so)
@@ -7,7 +7,7 @@
 mod common;
 
 use std::cell::Cell;
-use std::os::raw::c_void;
+use std::os::raw::{c_char, c_int, c_void};
 
 use common::*;
 use svid::{
@@ -18,11 +18,14 @@ extern "C" {
     fn __libc_malloc(size: usize) -> *mut c_void;
     fn __libc_calloc(count: usize, size: usize) -> *mut c_void;
     fn __libc_realloc(old: *mut c_void, size: usize) -> *mut c_void;
+    fn dlsym(handle: *mut c_void, name: *const c_char) -> *mut c_void;
 }
 
 thread_local! {
     /// How many allocations of this thread succeed until one is refused; below 0, none is.
     static LEFT: Cell<i64> = const { Cell::new(-1) };
+    /// How many threads this one has started, and how many it may.
+    static THREADS: Cell<(usize, usize)> = const { Cell::new((0, usize::MAX)) };
 }
 
 fn is_refused() -> bool {
@@ -70,6 +73,32 @@ pub unsafe extern "C" fn realloc(old: *mut c_void, size: usize) -> *mut c_void {
     }
     // SAFETY: it is that of glibc, which made `old`.
     unsafe { __libc_realloc(old, size) }
+}
+
+type Create = unsafe extern "C" fn(*mut c_void, *const c_void, *const c_void, *mut c_void) -> c_int;
+
+/// # Safety
+///
+/// As that of C.
+#[no_mangle]
+pub unsafe extern "C" fn pthread_create(thread: *mut c_void, how: *const c_void, begin: *const c_void, of: *mut c_void) -> c_int {
+    const NEXT: *mut c_void = -1isize as *mut c_void;
+    const EAGAIN: c_int = 11;
+    let (started, most) = THREADS.try_with(|it| it.replace((it.get().0 + 1, it.get().1))).unwrap_or((0, 1));
+    if started >= most {
+        // (whatever they could do by then, they have done)
+        until("all threads of bundles to wait", || waiting() == started);
+        return EAGAIN;
+    }
+    // SAFETY: the C library has the function of this name, which takes these.
+    unsafe { std::mem::transmute::<*mut c_void, Create>(dlsym(NEXT, b"pthread_create\0".as_ptr().cast()))(thread, how, begin, of) }
+}
+
+/// How many threads of bundles wait for something.
+fn waiting() -> usize {
+    let tasks = std::fs::read_dir("/proc/self/task").expect("Linux has it");
+    let stats = tasks.filter_map(|it| std::fs::read_to_string(it.ok()?.path().join("stat")).ok());
+    stats.filter(|it| it.contains("(svid-bundles) S ")).count()
 }
 
 /// Makes a call on what `begin` makes, with each of its allocations refused, until it needs no further one. What it answers must be what it
@@ -218,4 +247,31 @@ fn a_claim() {
     };
     strict().check(&token).expect("it is good");
     assert!(refused(strict, |it| it.check(&token)) > 20);
+}
+
+/// The guard goes on with the sources before, and with no bundle of the others.
+#[test]
+#[cfg(all(feature = "https", feature = "testing"))]
+fn threads_of_sources() {
+    use svid::testing::Issuer;
+    let (room, mut issuer, other) = (Room::new("threads"), Issuer::new("example.org"), Issuer::new("other.example"));
+    let [file, beside] = ["bundle", "beside"].map(|it| room.0.join(it));
+    let writes = |issuer: &Issuer| std::fs::write(&file, issuer.bundle()).expect("it is written");
+    writes(&issuer);
+    std::fs::write(&beside, other.bundle()).expect("it is written");
+    let guard = Guard::open(&ledger(), Sources::new().file("example.org", &file), svid::OpenSsl::new()).expect("it opens");
+    let is_good = |issuer: &Issuer| guard.check(issuer.token("/web", "ledger")).is_ok();
+    // (nobody listens there)
+    let none = |all: Sources, name: &str| all.https_web(name, "https://127.0.0.1:1/", None);
+    let sources = none(none(Sources::new().file("other.example", &beside), "a.example"), "b.example");
+    for count in 0..3 {
+        THREADS.with(|it| it.set((1, 1 + count)));
+        assert_eq!(guard.follow(sources.clone()), Err(Error::NoMemory));
+        assert!(is_good(&issuer) && !is_good(&other), "with thread {count} refused");
+    }
+    THREADS.with(|it| it.set((0, usize::MAX)));
+    issuer.rotate();
+    writes(&issuer);
+    until("the new key", || is_good(&issuer));
+    assert_eq!((guard.follow(sources), is_good(&issuer), is_good(&other)), (Ok(()), false, true));
 }
