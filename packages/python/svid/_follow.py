@@ -120,6 +120,7 @@ class Followed:
         """
         self._taker = taker
         if every is not None and (self._files or self._folder is not None):
+            every = min(every, threading.TIMEOUT_MAX)
             self._go(("files", None), functools.partial(self._look, every), most=every)
         for key, it in self._addresses.items():
             if isinstance(it, Endpoint):

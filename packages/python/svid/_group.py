@@ -25,6 +25,8 @@ from .stores import WITHDRAWN, Claim, Found
 DEFAULT_LONGEST = 3600
 DEFAULT_AHEAD = 30
 DEFAULT_WAIT = 2.0
+_MOST_WAIT = 86_400.0
+"""Some calls of the system take no more than some weeks."""
 CELL = 33
 _LONGEST_ERROR = 1024
 _LOG = logging.getLogger("svid")
@@ -41,8 +43,12 @@ class StoreFault(Error):
     """
 
     def __init__(self, name: str, more: str = "") -> None:
-        super().__init__(_FAULTS.get(name, "") + more)
+        super().__init__(name, more)
         self.name = name
+        self._more = more
+
+    def __str__(self) -> str:
+        return _FAULTS.get(self.name, "") + self._more
 
 
 class State(NamedTuple):
@@ -67,7 +73,7 @@ class GroupStore(abc.ABC):
             raise ValueError("give a server, at least 1 of replicas, and a wait of some seconds")
         self._lasts, margin, self._back = terms
         self._margin = margin + self._back
-        self._replicas, self._wait = replicas, wait
+        self._replicas, self._wait = replicas, min(wait, _MOST_WAIT)
         self._process = os.getpid()
         self._end = End()
         self._turn = threading.Lock()  # who looks at the store has it

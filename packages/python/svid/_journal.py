@@ -189,7 +189,7 @@ class _Keeper:
     def append(self, messages: bytes, wait: float | None) -> None:
         self._stand()
         commit = self._join(messages)
-        if not commit.done.wait(wait):
+        if not commit.done.wait(None if wait is None else min(wait, threading.TIMEOUT_MAX)):
             raise Unavailable("the disk did not answer in time")
         if commit.why is not None:
             raise Unavailable(f"the use is not kept: {commit.why}") from commit.why

@@ -79,4 +79,4 @@ def message_words(name: str) -> str:
 
 def no_memory() -> MemoryError:
     """What a call raises that has no memory."""
-    return MemoryError(said(2))
+    return MemoryError(said(lib.NO_MEMORY))

@@ -22,6 +22,7 @@ A call that has no memory raises `MemoryError`. It accepted no token, and you ca
 
 from __future__ import annotations
 
+from . import _library as lib
 from ._words import message_words, said
 
 
@@ -32,8 +33,8 @@ class Error(Exception):
 class Closed(Error):
     """The validator is closed. Make a new one."""
 
-    def __init__(self) -> None:
-        super().__init__(said(5))
+    def __str__(self) -> str:
+        return said(lib.CLOSED)
 
 
 class Forked(Error):
@@ -42,10 +43,8 @@ class Forked(Error):
     Two processes with one validator would accept each token twice.
     """
 
-    def __init__(self) -> None:
-        super().__init__(
-            "the validator was made by another process, before a fork: make one in each process"
-        )
+    def __str__(self) -> str:
+        return "the validator was made by another process, before a fork: make one in each process"
 
 
 class Jump(Error, ValueError):
@@ -55,22 +54,22 @@ class Jump(Error, ValueError):
     new validator, and load the record into it.
     """
 
-    def __init__(self) -> None:
-        super().__init__(said(9))
+    def __str__(self) -> str:
+        return said(lib.JUMP)
 
 
 class Gone(Error, ValueError):
     """The token has expired, so there is nothing to withdraw."""
 
-    def __init__(self) -> None:
-        super().__init__(said(7))
+    def __str__(self) -> str:
+        return said(lib.GONE)
 
 
 class TooFar(Error, ValueError):
     """The messages tell of a time more than `ahead` seconds past `now`. None of them was taken."""
 
-    def __init__(self) -> None:
-        super().__init__(said(8))
+    def __str__(self) -> str:
+        return said(lib.TOO_FAR)
 
 
 class BadBundles(Error, ValueError):
@@ -102,8 +101,8 @@ class NotAllowed(Error):
     Answer with status 403. The token is not used up.
     """
 
-    def __init__(self) -> None:
-        super().__init__("the token is good, and its subject is none of the callers that may call")
+    def __str__(self) -> str:
+        return "the token is good, and its subject is none of the callers that may call"
 
 
 class Unavailable(Error):

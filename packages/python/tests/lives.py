@@ -20,6 +20,8 @@ import svid.testing
 from making import PATIENCE, until
 
 AUDIENCE = "ledger"
+# So much has each token, and each key: what one of them left would be more than all else of a life.
+PAD = "p" * 10_000
 
 
 class Mallinfo(ctypes.Structure):
@@ -60,12 +62,16 @@ class Lives:
     def write(self):
         """The file of bundles has the issuer's newest key alone."""
         made = self.bundles / "made"
-        made.write_text(json.dumps(self.issuer.bundle))
+        keys = [it | {"pad": PAD} for it in self.issuer.bundle["keys"]]
+        made.write_text(json.dumps({"keys": keys}))
         made.rename(self.bundles / "example.org.json")
 
     def validator(self, **terms):
         usual = {"audiences": AUDIENCE, "bundles": self.bundles, "wait": PATIENCE}
         return svid.Validator(**usual | {"on_refusal": self.tell, "on_twice": self.tell} | terms)
+
+    def token(self):
+        return self.issuer.token(aud=AUDIENCE, pad=PAD)
 
     def tell(self, _):
         self.told += 1
@@ -88,12 +94,14 @@ class Lives:
         """Mode once, over a state folder, with a store that tells of withdrawals."""
         store, state = svid.testing.MemoryStore(), self.folder / "state"
         with self.validator(state=state, store=store, refresh=0.01) as checks:
-            one, two = (self.issuer.token(aud=AUDIENCE) for _ in range(2))
+            one, two = (self.token() for _ in range(2))
             accepted = checks.check(one)
             assert accepted.audience == AUDIENCE and accepted.claims and accepted.key_id
             assert accepted.path and accepted.trust_domain and accepted.expires
             for how in "expired", "wrong_audience", "bad_signature", "unknown_key", "malformed":
-                self.fails(svid.Refused, checks.check, self.issuer.wrong(how, aud=AUDIENCE))
+                wrong = self.issuer.wrong(how, aud=AUDIENCE, pad=PAD)
+                for call in checks.check, checks.judge:
+                    self.fails(svid.Refused, call, wrong)
             self.fails(svid.Replayed, checks.check, one)
             self.fails(svid.Replayed, checks.judge, one)
             checks.withdraw(two)
@@ -110,11 +118,11 @@ class Lives:
     def exchange(self, checks):
         """Two validators tell each other."""
         with self.validator() as other:
-            one = self.issuer.token(aud=AUDIENCE)
+            one = self.token()
             other.check(one)
             checks.check(one)
             before = self.told
-            checks.take(other.check(self.issuer.token(aud=AUDIENCE)).use.message)
+            checks.take(other.check(self.token()).use.message)
             checks.take(b"".join(other.parts()))
             assert self.told == before + 1
             other.take(checks.answer(other.summary()))
@@ -127,7 +135,7 @@ class Lives:
         """A file changes, and the validator follows."""
         self.issuer.rotate(keep=False)
         self.write()
-        one = self.issuer.token(aud=AUDIENCE)
+        one = self.token()
 
         def is_read():
             with contextlib.suppress(svid.NoKey):
@@ -139,12 +147,12 @@ class Lives:
         """Modes strict and bound, and a store that fails."""
         store = svid.testing.MemoryStore()
         with self.validator(mode="strict", store=store) as checks:
-            one = self.issuer.token(aud=AUDIENCE)
+            one = self.token()
             checks.check(one)
             self.fails(svid.Replayed, checks.check, one)
             checks.withdraw(one)
         with self.validator(mode="bound", state=self.folder / "bound") as checks:
-            one = self.issuer.token(aud=AUDIENCE)
+            one = self.token()
             for _ in range(2):
                 checks.check(one, caller=b"owner")
             self.fails(svid.Replayed, checks.check, one, caller=b"thief")
@@ -155,7 +163,7 @@ class Lives:
         self.fails(FileNotFoundError, self.validator, bundles=self.folder / "none.json")
         self.fails(ValueError, self.validator, callers=[])
         with self.validator(mode="strict", store=Away(), wait=0.001) as checks:
-            self.fails(svid.Unavailable, checks.check, self.issuer.token(aud=AUDIENCE))
+            self.fails(svid.Unavailable, checks.check, self.token())
             assert checks.unready()
 
 

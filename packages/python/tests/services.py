@@ -28,6 +28,7 @@ class Service:
             **os.environ,
             "PYTHONPATH": os.pathsep.join([str(folder), str(package)]),
             "SVID_BUNDLES": str(bundles),
+            "SVID_WAIT": str(PATIENCE),
         }
         self.log = folder / "said"
         self.words, self.folder = SERVERS[kind], folder

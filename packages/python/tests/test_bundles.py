@@ -87,6 +87,14 @@ def test_a_folder(tmp_path):
     assert says(tmp_path, token(sub="spiffe://other.example/a")) == "refused NoKey"
 
 
+def test_a_trust_domain_that_is_named_twice():
+    """Nobody knows which one counts. The fault names the second."""
+    for others in {}, {"a.example": JWKS}, {"z.example": JWKS}:
+        given = {"spiffe://example.org": JWKS, "example.org": JWKS, **others}
+        with pytest.raises(svid.BadBundles, match="^spiffe://example.org: An earlier document"):
+            validator(given)
+
+
 def test_an_empty_folder_knows_nobody(tmp_path):
     assert says(tmp_path) == "refused UnknownDomain"
 
@@ -98,8 +106,8 @@ def test_the_workload_api():
     assert says(given) == ACCEPTED
     assert says({"example.org": text}) == "refused NoKey"
     for bad in b"", b"[]", b"{}", b'{"keys":{}}', b"\xff":
-        with pytest.raises(svid.BadBundles):
-            svid.from_workload_api({"spiffe://example.org": bad})
+        with pytest.raises(svid.BadBundles, match="^spiffe://example.org: "):
+            svid.from_workload_api({"spiffe://a": text, "spiffe://example.org": bad})
 
 
 def test_an_x509_key_of_the_workload_api_signs_no_token():

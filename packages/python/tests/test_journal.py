@@ -12,6 +12,7 @@ import random
 import select
 import shutil
 import signal
+import socket
 import struct
 import subprocess
 import sys
@@ -34,7 +35,7 @@ def use(number):
 
 def append(journal, *numbers):
     for it in numbers:
-        journal.append(use(it).message)
+        journal.append(use(it).message, PATIENCE)
 
 
 def found(folder):
@@ -161,10 +162,13 @@ def test_a_frame_of_another_file_is_none(tmp_path):
 
 
 def test_one_process_holds_a_folder(tmp_path):
+    (tmp_path / "lock").write_text("a longer name of who held it before" * 9)
     journal = svid.Journal(tmp_path)
     with pytest.raises(svid.Held) as raised:
         svid.Journal(tmp_path)
-    assert f"held by process {os.getpid()} on " in str(raised.value)
+    name = f"process {os.getpid()} on {socket.gethostname()} since "
+    assert raised.value.holder.startswith(name) and str(raised.value).count(name) == 1
+    assert len(raised.value.holder) == len(name + "2026-01-01T00:00:00Z")
     words = [sys.executable, "-c", "import svid, sys; svid.Journal(sys.argv[1])", tmp_path]
     ran = subprocess.run(words, capture_output=True, check=False)
     assert b"svid.errors.Held" in ran.stderr
@@ -261,9 +265,9 @@ def test_messages_are_bytes_of_some_length(tmp_path):
     with contextlib.closing(svid.Journal(tmp_path)) as journal:
         with pytest.raises(ValueError):
             journal.append(bytes(16_777_216))
-        journal.append(bytearray(use(1).message))
-        journal.append(memoryview(use(2).message * 200_000), wait=60)
-        journal.append(b"")
+        journal.append(bytearray(use(1).message), PATIENCE)
+        journal.append(memoryview(use(2).message * 200_000), PATIENCE)
+        journal.append(b"", PATIENCE)
         append(journal, 3)
     assert found(tmp_path) == {1, 2, 3}
 
@@ -427,6 +431,23 @@ def test_a_large_record_is_written_again_after_as_much(tmp_path):
             assert journal.wants_snapshot == wants
 
 
+def test_a_snapshot_is_of_all_journals_before_it(tmp_path, monkeypatch):
+    """Those that a start found count once: else each check would want the next snapshot."""
+    monkeypatch.setattr(_journal, "_SMALL", 10 * FRAME)
+    with contextlib.closing(svid.Journal(tmp_path)) as journal:
+        journal.snapshot(lambda: [use(1).message])
+        append(journal, *range(8))
+        assert not journal.wants_snapshot
+    with contextlib.closing(svid.Journal(tmp_path)) as journal:
+        for _ in range(2):
+            append(journal, *range(8))
+            assert journal.wants_snapshot
+            journal.snapshot(lambda: [use(1).message])
+            assert not journal.wants_snapshot
+            append(journal, *range(8))
+            assert not journal.wants_snapshot
+
+
 def test_starts_do_not_fill_the_folder(tmp_path):
     for number in range(20):
         with validator(state=tmp_path) as checks:
@@ -513,7 +534,7 @@ def test_appends_go_on_while_a_snapshot_is_written(tmp_path):
 
 WORKER = """
 import sys, threading, svid
-from making import bundle, fresh
+from making import PATIENCE, bundle, fresh
 from svid import _journal
 _journal._SMALL = 2000
 checks = svid.Validator(
@@ -521,7 +542,7 @@ checks = svid.Validator(
     bundles=bundle({"kty": "EC", "use": "jwt-svid", "kid": "k1"}),
     verifies=lambda *_: True,
     state=sys.argv[1],
-    wait=60,
+    wait=PATIENCE,
 )
 lock = threading.Lock()
 def work(which):
@@ -631,13 +652,13 @@ def test_the_most_that_one_append_takes(tmp_path):
     with contextlib.closing(svid.Journal(tmp_path)) as journal:
         with pytest.raises(ValueError, match="at most 16,777,215 bytes"):
             journal.append(bytes(16_777_216))
-        journal.append(bytes(16_777_215), PATIENCE)
+        journal.append(bytes(16_777_215), 1e300)
 
 
 def test_no_messages_are_not_written(tmp_path):
     with contextlib.closing(svid.Journal(tmp_path)) as journal:
         folder_id = journal.validator_id
-        journal.append(b"")
+        journal.append(b"", PATIENCE)
         append(journal, 1)
     file = (tmp_path / "journal.1").read_bytes()
     assert file.rstrip(b"\0") == frames(b"svidjnl", 1, folder_id, use(1).message, b"").rstrip(b"\0")
@@ -707,6 +728,13 @@ def test_an_id_that_is_lost_or_bad(tmp_path):
         with pytest.raises(ValueError, match="place is missing"):
             svid.Journal(tmp_path)
     assert "place" not in names(tmp_path)
+    (tmp_path / "place").write_text(journal.validator_id.hex())
+    with contextlib.closing(svid.Journal(tmp_path)) as journal:
+        journal.snapshot(lambda: [use(1).message])
+    for name in "place", "journal.3":
+        (tmp_path / name).unlink(missing_ok=True)
+    with pytest.raises(ValueError, match="place is missing .* and .*snapshot can't be read"):
+        svid.Journal(tmp_path)
 
 
 def test_files_that_are_none(tmp_path):

@@ -1,11 +1,12 @@
 """Mode "bound" without a store: the claims of one validator, in a folder."""
 
+import threading
 import time
 
 import pytest
 
 import svid
-from making import NOW, fresh, until, validator
+from making import NOW, PATIENCE, fresh, until, validator
 from svid import _library as lib
 from svid._local import LocalStore
 from svid.stores import WITHDRAWN, Claim
@@ -120,6 +121,37 @@ def test_an_entry_is_on_the_disk_before_it_is_answered(opened, tmp_path):
     for _ in range(2):
         with pytest.raises(svid.Unavailable):
             put(store, b"k", b"1")
+
+
+def test_nobody_is_answered_before_the_disk_has_the_claim(opened):
+    """Not who finds the claim of another one under way, or one that the disk did not take."""
+    store, said, asked, go = opened(), [], [], threading.Event()
+    store.put([])  # (it has told the time)
+    real = store._journal.append
+
+    def fails(messages):
+        asked.append(messages)
+        go.wait(PATIENCE)
+        raise svid.Unavailable("no disk")
+
+    def claim(owner):
+        try:
+            said.append(put(store, b"k", owner))
+        except svid.Unavailable:
+            said.append("Unavailable")
+
+    store._journal.append = fails
+    threads = [threading.Thread(target=claim, args=(owner,)) for owner in (b"1", b"2")]
+    for it in threads:
+        it.start()
+    until(lambda: len(asked) + len(said) == 2)
+    go.set()
+    for it in threads:
+        it.join(PATIENCE)
+    assert said == ["Unavailable"] * 2
+    store._journal.append = real
+    first = put(store, b"k", b"3")
+    assert put(opened(), b"k", b"4") == first
 
 
 @pytest.mark.parametrize(("status", "error"), [(2, MemoryError), (18, svid.BadMessages)])

@@ -3,6 +3,7 @@
 import contextlib
 import errno
 import gc
+import math
 import os
 import random
 import threading
@@ -144,6 +145,18 @@ def test_a_wait_that_can_not_be(wait):
 
 def test_a_wait_of_a_millisecond():
     validator(wait=0.001).close()
+
+
+@pytest.mark.parametrize("wait", [math.inf, 1e300])
+def test_a_wait_without_an_end(wait, tmp_path):
+    """It is longer than the system's calls take."""
+    for number, terms in enumerate(({"store": svid.testing.MemoryStore()}, {"state": tmp_path})):
+        mode = "strict" if number == 0 else "once"
+        with validator(mode=mode, wait=wait, refresh=wait, **terms) as checks:
+            token = fresh()
+            assert Soon(checks.check, token).answer == SUBJECT
+            assert Soon(checks.withdraw, token).answer == ""
+            assert checks.ready
 
 
 def test_one_of_many_threads_is_accepted():
@@ -600,11 +613,11 @@ def test_a_verifier_that_takes_too_long():
     token, slow = fresh(), [True]
 
     def verifies(*_):
+        end = time.monotonic() + 0.3  # (the request has come)
         until(lambda: not slow or time.monotonic() > end)
         return True
 
     with validator(verifies=verifies, wait=0.2) as checks:
-        end = time.monotonic() + 0.5
         assert Soon(checks.check, token).answer == "Unavailable"
         assert checks.report().uses == () and nothing_waits(checks)
         slow.clear()
@@ -869,7 +882,10 @@ class Pages(svid.testing.MemoryStore):
 
 @pytest.mark.parametrize("mode", ["once", "reuse", "bound"])
 def test_withdrawals_of_the_store_are_heard(mode, monkeypatch, tmp_path):
-    """Those that were there before, page by page, and those that come. Each is taken once."""
+    """Those that were there before, page by page, and those that come. Each is taken once.
+
+    So is that of a token which was accepted here.
+    """
     monkeypatch.setattr(_claims, "_HEARS", 0.01)
     store, tokens, clock = Pages(), [fresh(jti=str(it)) for it in range(5)], svid.testing.Clock()
     who = {"caller": b"a"} if mode == "bound" else {}
@@ -878,8 +894,8 @@ def test_withdrawals_of_the_store_are_heard(mode, monkeypatch, tmp_path):
             other.withdraw(it)
         state = tmp_path if mode == "once" else None
         with validator(mode=mode, store=store, state=state, clock=clock) as checks:
-            said = [answer(checks.check, it, **who) for it in tokens[:4]]
-            assert said == ["Withdrawn"] * 3 + [SUBJECT]
+            said = [answer(checks.check, it, **who) for it in tokens]
+            assert said == ["Withdrawn"] * 3 + [SUBJECT] * 2
             assert checks.ready
             other.withdraw(tokens[4])
             until(lambda: answer(checks.judge, tokens[4]) == "Withdrawn")

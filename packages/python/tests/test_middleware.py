@@ -2,6 +2,7 @@
 
 import asyncio
 import errno
+import functools
 import http.client
 import importlib.util
 import json
@@ -81,6 +82,7 @@ def load(name):
 def test_starlette(bundles, keeps, tmp_path, monkeypatch):
     if keeps:
         monkeypatch.setenv("SVID_STATE", str(tmp_path / "state"))
+    monkeypatch.setattr(svid, "Validator", functools.partial(svid.Validator, wait=PATIENCE))
     with TestClient(load("starlette_app").app) as client:
         assert client.get("/healthz").text == client.get("/readyz").text == "ready"
         made = "bearer " + fresh(jti="1")

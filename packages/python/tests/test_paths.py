@@ -9,7 +9,7 @@ import urllib.parse
 
 import pytest
 import svid
-from making import SUBJECT, fresh, validator
+from making import PATIENCE, SUBJECT, fresh, validator
 from services import SERVERS, Service
 from svid import asgi, wsgi
 from svid._paths import Paths
@@ -296,8 +296,7 @@ def test_a_websocket(path, sent):
 BEGIN = """
 import json, os, svid
 terms = {"audiences": "ledger", "bundles": os.environ["SVID_BUNDLES"], "longest": 3600}
-# (the machine may be slow, so a check may wait)
-validator = svid.Validator(state="state", wait=60, **terms)
+validator = svid.Validator(state="state", wait=float(os.environ["SVID_WAIT"]), **terms)
 listed = {"reuse": ["/again"], "open_paths": ["/healthz", "/static/*"]}
 def says(path, spiffe_id, accepted):
     said = {"path": path, "id": spiffe_id, "expires": accepted and accepted.expires}
@@ -359,7 +358,7 @@ def asked(service, target, token=None, *headers):
     lines = [f"GET {target} HTTP/1.1", "Host: ledger", "Connection: close", *headers]
     if token is not None:
         lines.append(f"Authorization: Bearer {token}")
-    with socket.create_connection(("127.0.0.1", service.port), 60) as sent:
+    with socket.create_connection(("127.0.0.1", service.port), PATIENCE) as sent:
         sent.sendall("".join(it + "\r\n" for it in [*lines, ""]).encode())
         answer = b"".join(iter(lambda: sent.recv(65_536), b""))
     head, _, body = answer.partition(b"\r\n\r\n")

@@ -99,7 +99,7 @@ def group(machine, request):
 
 
 def store_of(machine, group, **terms):
-    return PostgresStore(machine.url, group=group, **terms)
+    return PostgresStore(machine.url, group=group, **{"wait": PATIENCE, **terms})
 
 
 def claim(n, owner=b"o"):
@@ -187,7 +187,7 @@ def test_a_sidecar_and_a_service_share_a_group(machine, svidd, tmp_path):
         try:
             port = _port(tmp_path / "log")
             until(lambda: _get(port, "/readyz") == 200)
-            with PostgresStore(machine.url, group="both") as store:
+            with store_of(machine, "both") as store:
                 terms = {"mode": "strict", "longest": 3600, "ahead": 30}
                 with validator(store=store, **terms) as checks:
                     for n in range(20):
@@ -356,7 +356,7 @@ def test_warnings(machine, group, caplog):
 
 def test_a_store_that_is_not_there(machine):
     """Somebody makes it later."""
-    with PostgresStore(machine.url, group="later") as store:
+    with store_of(machine, "later") as store:
         with pytest.raises(StoreFault, match="svidd schema") as raised:
             store.put([])
         assert raised.value.name == "missing"
@@ -366,7 +366,7 @@ def test_a_store_that_is_not_there(machine):
 
 def test_terms(machine, group):
     """They are those of svidd: see go/guard. A store that keeps entries for too short is no use."""
-    with store_of(machine, group, longest=8000, ahead=10) as store:
+    with store_of(machine, group, longest=8000, ahead=10, wait=1e300) as store:
         put(store, claim(1))
         told = machine.tell(f"DO $$ BEGIN ASSERT (SELECT lasts FROM {group}.epoch) = 8020; END $$")
         assert told == "done"

@@ -45,7 +45,7 @@ def test_the_clock_of_the_system_is_the_default():
         use = checks.check(token(exp=soon + 300)).use
         with pytest.raises(svid.Expired):
             checks.check(token(exp=soon - 1))
-    assert soon <= use.at <= soon + 60
+    assert soon <= use.at <= time.time()
 
 
 def test_the_clock_of_the_system_is_the_default_of_each_call(tmp_path):
@@ -66,7 +66,7 @@ def test_the_clock_of_the_system_is_the_default_of_each_call(tmp_path):
     for call in calls:
         with validator() as checks:
             call(checks)
-            assert soon <= checks.report().moment <= soon + 60
+            assert soon <= checks.report().moment <= time.time()
 
 
 def test_a_clock_before_1970():

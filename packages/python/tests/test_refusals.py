@@ -1,5 +1,6 @@
 """Each refusal, by a token that has it, and the errors of the other calls."""
 
+import copy
 import json
 import pickle
 
@@ -7,6 +8,7 @@ import pytest
 import svid
 import vectors
 from making import NOW, b64, claims, entry, private_key, signed, token, validator
+from svid._group import StoreFault
 from svid.errors import REFUSALS
 
 KEY = private_key("ES256")
@@ -60,7 +62,27 @@ def test_refusals_say_what_is_wrong_and_nothing_of_the_token():
     for kind in REFUSALS.values():
         refused = kind()
         assert kind.__doc__ and "\n" not in str(refused) and "  " not in str(refused)
-        assert str(pickle.loads(pickle.dumps(refused))) == str(refused)
+
+
+WITH = {
+    svid.BadBundles: ("no bundle",),
+    svid.BadMessages: ("Magic", 1, 0),
+    svid.Unavailable: ("the disk hangs", "NotKept"),
+    svid.Held: ("state", "process 1"),
+    svid.Damaged: ("snapshot", 7),
+    svid.OtherFormat: ("snapshot", 3),
+    StoreFault: ("late", ": by an hour"),
+}
+KINDS = [it for it in vars(svid).values() if isinstance(it, type) and issubclass(it, svid.Error)]
+
+
+@pytest.mark.parametrize("kind", [*KINDS, StoreFault], ids=lambda it: it.__name__)
+def test_an_error_goes_from_one_process_to_another(kind):
+    """As from a worker of a pool, which else would end it."""
+    made = kind(*WITH.get(kind, ()))
+    for it in pickle.loads(pickle.dumps(made)), copy.deepcopy(made):
+        assert (type(it), str(it), vars(it)) == (kind, str(made), vars(made))
+    assert str(made) or kind in (svid.Error, svid.Refused)
 
 
 @pytest.mark.parametrize(

@@ -30,24 +30,29 @@ GOOD = json.dumps(SPIRE).encode()
 class Authority:
     """Signs certificates."""
 
-    def __init__(self):
+    def __init__(self, above=None):
+        """above: the authority that signed its certificate; by default it did that itself."""
         self.key = ec.generate_private_key(ec.SECP256R1())
-        self.certificate = self.made(self.key, self.key, is_authority=True, uris=[])
+        self.name = "root" if above is None else "authority"
+        self.certificate = (above or self).made(self.key, is_authority=True, subject=self.name)
 
-    def made(self, key, signer, *, is_authority=False, uris, signs=False):
-        name = x509.Name([])
-        subject = x509.Name([x509.NameAttribute(x509.NameOID.COMMON_NAME, "authority")])
+    def made(self, key, *, is_authority=False, uris=(), signs=(), subject=None):
+        """A certificate that it signs. signs: what its owner may sign by the key's usage."""
+
+        def named(text):
+            return x509.Name([x509.NameAttribute(x509.NameOID.COMMON_NAME, text)] if text else [])
+
         at = datetime.datetime.utcnow()
         names = [x509.UniformResourceIdentifier(it) for it in uris]
         names.append(x509.IPAddress(ipaddress.ip_address("127.0.0.1")))
-        usage = {"digital_signature": True, "key_cert_sign": is_authority or signs}
-        others = "content_commitment key_encipherment data_encipherment key_agreement crl_sign"
-        usage |= dict.fromkeys(others.split(), False)
+        usage = {"digital_signature": True, "key_cert_sign": is_authority, "crl_sign": False}
+        others = "content_commitment key_encipherment data_encipherment key_agreement"
+        usage |= dict.fromkeys(others.split(), False) | dict.fromkeys(signs, True)
         usage |= {"encipher_only": False, "decipher_only": False}
         builder = (
             x509.CertificateBuilder()
-            .issuer_name(subject)
-            .subject_name(subject if is_authority else name)
+            .issuer_name(named(self.name))
+            .subject_name(named(subject))
             .serial_number(x509.random_serial_number())
             .public_key(key.public_key())
             .not_valid_before(at - datetime.timedelta(hours=1))
@@ -56,12 +61,12 @@ class Authority:
             .add_extension(x509.KeyUsage(**usage), True)
             .add_extension(x509.SubjectAlternativeName(names), not is_authority)
         )
-        return builder.sign(signer, hashes.SHA256())
+        return builder.sign(self.key, hashes.SHA256())
 
-    def server(self, folder, *uris, signs=False):
+    def server(self, folder, *uris, **terms):
         """The file of a server's key and certificate."""
         key = ec.generate_private_key(ec.SECP256R1())
-        made = self.made(key, self.key, uris=uris, signs=signs)
+        made = self.made(key, uris=uris, **terms)
         path = folder / f"{len(os.listdir(folder))}.pem"
         path.write_bytes(pem(key) + made.public_bytes(serialization.Encoding.PEM))
         return path
@@ -274,8 +279,13 @@ def test_a_server_of_another_authority(authority, tmp_path, quick, caplog, known
             assert served.asked == 0
 
 
-def test_https_spiffe(authority, tmp_path, quick):
-    """By the first bundle at first, and then by the one that came."""
+@pytest.mark.parametrize("is_root", [True, False])
+def test_https_spiffe(is_root, tmp_path, quick):
+    """By the first bundle at first, and then by the one that came.
+
+    An authority of a bundle may have a certificate of another one, which is in none.
+    """
+    authority = Authority() if is_root else Authority(Authority())
     second, known = Authority(), tmp_path / "known.json"
     known.write_bytes(bundle_of(authority))
     with Served(authority.server(tmp_path, ID)) as served:
@@ -301,6 +311,30 @@ def test_https_spiffe_by_the_bundle_of_another_source(authority, tmp_path, quick
             faulty(checks, caplog, 'has the use "x509-svid"')
             known.write_bytes(bundle_of(authority))
             soon(checks, ACCEPTED)
+        # A file of authorities counts before that of another source.
+        known.write_bytes(bundle_of(Authority()))
+        file = tmp_path / "file.json"
+        file.write_bytes(bundle_of(authority))
+        endpoint = svid.Endpoint(served.url, spiffe_id=other, authorities=file)
+        with validator({"example.org": endpoint, "other.example": known}) as checks:
+            soon(checks, ACCEPTED)
+
+
+def test_entries_that_are_no_authorities(authority, tmp_path, quick, caplog):
+    """They vouch for nobody, and keep no good entry from doing so."""
+    good, known = authority.entry(), tmp_path / "known.json"
+    (der,) = good["x5c"]
+    bad = [{**good, "use": "jwt-svid"}, {**good, "x5c": [der, der]}, {**good, "x5c": []}]
+    bad += [{**good, "x5c": it} for it in (None, der, [7], ["*"], ["MIID"], [der + "\n"])]
+    bad += [{name: it for name, it in good.items() if name != "use"}, 7, None]
+    with Served(authority.server(tmp_path, ID)) as served:
+        endpoint = svid.Endpoint(served.url, spiffe_id=ID, authorities=known)
+        known.write_text(json.dumps({"keys": bad}))
+        with following(endpoint) as checks:
+            faulty(checks, caplog, 'has the use "x509-svid"')
+            assert served.asked == 0
+            known.write_text(json.dumps({"keys": [*bad, good]}))
+            soon(checks, ACCEPTED)
 
 
 @pytest.mark.parametrize(
@@ -310,9 +344,11 @@ def test_https_spiffe_by_the_bundle_of_another_source(authority, tmp_path, quick
         ([ID + "s"], {}, f"not that of {ID}"),
         ([ID.upper()], {}, f"not that of {ID}"),
         ([ID, "spiffe://example.org/b"], {}, f"not that of {ID}"),
-        ([ID], {"signs": True}, "may sign others"),
+        ([ID], {"signs": ["key_cert_sign"]}, "may sign others"),
+        ([ID], {"signs": ["crl_sign"]}, "may sign others"),
+        ([ID], {"is_authority": True}, "may sign others"),
     ],
-    ids=["none", "longer", "capitals", "two", "signs"],
+    ids=["none", "longer", "capitals", "two", "signs", "signs lists", "an authority"],
 )
 def test_a_server_of_another_id(authority, tmp_path, quick, caplog, uris, terms, said):
     known = tmp_path / "known.json"
@@ -465,6 +501,9 @@ def test_a_workload_api(agent, quick, caplog, monkeypatch):
         assert judged(checks, token()) == ACCEPTED
         [(request, metadata)] = agent.calls
         assert request == b"" and metadata["workload.spiffe.io"] == "true"
+        checks.renew()  # (who asks again keeps what there is until an answer comes)
+        assert judged(checks, token()) == ACCEPTED and checks.unready() is None
+        until(lambda: len(agent.calls) == 2)
     until(lambda: agent.streams == 0)
     assert not [it for it in threading.enumerate() if it.name == "svid-bundles"]
 

@@ -25,10 +25,11 @@ def made_by(issuer, **terms):
     return validator(issuer.bundles, **terms)
 
 
+@pytest.mark.parametrize("clock", [time.time, Clock(NOW - 10**8)], ids=["system", "own"])
 @pytest.mark.parametrize("how", WRONG)
-def test_a_token_that_is_wrong_in_one_way(how):
-    issuer = Issuer()
-    with made_by(issuer) as checks:
+def test_a_token_that_is_wrong_in_one_way(how, clock):
+    issuer = Issuer(clock=clock)
+    with made_by(issuer, clock=clock, longest=300) as checks:
         for given in {}, {"sub": "spiffe://example.org/other", "jti": "a"}:
             with pytest.raises(WRONG[how]):
                 checks.check(issuer.wrong(how, aud="ledger", **given))
@@ -36,7 +37,7 @@ def test_a_token_that_is_wrong_in_one_way(how):
             accepted = checks.check(issuer.token(aud="ledger", **given))
             assert accepted.spiffe_id == given.get("sub", issuer.spiffe_id)
             checks.close()
-            checks = made_by(issuer)
+            checks = made_by(issuer, clock=clock, longest=300)
 
 
 def test_a_token_that_is_wrong_in_no_known_way():

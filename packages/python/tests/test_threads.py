@@ -113,11 +113,19 @@ def test_no_thread_gets_the_answer_of_another():
 def test_closing_waits_for_a_call():
     """Else the call would read what was freed."""
     checks = validator()
-    with checks._handle._lock:  # as a call that is under way
+    lock, asks = checks._handle._lock, threading.Event()
+
+    class Asked(Yielding):
+        def __enter__(self):
+            asks.set()
+            super().__enter__()
+
+    checks._handle._lock = Asked(lock)
+    with lock:  # as a call that is under way
         thread = threading.Thread(target=checks.close)
         thread.start()
-        thread.join(0.5)
-        assert thread.is_alive()
+        assert asks.wait(PATIENCE)
+        assert checks._handle._freeing.alive
     thread.join(PATIENCE)
     assert not thread.is_alive()
 

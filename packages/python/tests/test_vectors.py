@@ -43,7 +43,7 @@ def test_bundles(vector, tmp_path):
     fault = vector["answer"].split(" ")[0] in faults
     try:
         bundles = bundles_of(vector, tmp_path)
-        with svid.Validator(audiences="ledger", bundles=bundles) as checks:
+        with svid.Validator(audiences="ledger", bundles=bundles, wait=PATIENCE) as checks:
             assert verdict(checks, vector["token"], NOW) == vector["answer"]
     except svid.BadBundles:
         assert fault
@@ -77,9 +77,8 @@ def test_headers(vector):
         said.append(message)
 
     headers = [(b"authorization", value.encode("latin-1")) for value in vector["values"]]
-    with svid.Validator(
-        audiences="ledger", bundles=HEADERS["setting"]["bundles"].encode()
-    ) as checks:
+    bundles = HEADERS["setting"]["bundles"].encode()
+    with svid.Validator(audiences="ledger", bundles=bundles, wait=PATIENCE) as checks:
         admits = svid.asgi.SvidMiddleware(app, AtOneTime(checks))
         asyncio.run(admits({"type": "http", "headers": headers}, None, send))
     if vector["answer"] == "refused":

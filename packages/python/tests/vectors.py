@@ -5,6 +5,7 @@ import os
 import pathlib
 
 import svid
+from making import PATIENCE
 
 # (a copy of the package, as packages/python/wrong/run makes them, has the program of a checkout)
 CHECKOUTS = (pathlib.Path(__file__).parents[3], pathlib.Path(os.environ["SVID"]).parent)
@@ -41,6 +42,7 @@ def opened(vector):
         validator_id=bytes.fromhex(given["validator_id"]),
         longest=svid.UNLIMITED if longest is None else int(longest),
         step=None if step is None else int(step),
+        wait=PATIENCE,
     )
 
 
