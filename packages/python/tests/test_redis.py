@@ -381,14 +381,14 @@ def test_members_compare_with_pauses(machine):
         compare, compared = store._compare, []
         store._compare = lambda *given: compared.append(1) or compare(*given)
         put(store, claim(1))
-        assert len(compared) <= 500 / store_of_redis.said.PAUSE + 5
+        assert len(compared) <= 500 / store_of_redis._scripts.PAUSE + 5
 
 
 def test_a_connection_that_is_made_while_it_closes_ends(machine, monkeypatch):
     class Late(store_of_redis._Connection):
         def __init__(self, *given):
             super().__init__(*given)
-            store._end.say()
+            store._end.set()
 
     with unwatched(machine.url) as store:
         put(store, claim(1))
@@ -432,7 +432,7 @@ class Told(GroupStore):
         self.time, self.looks, self.told, self.is_away = 1000, [], [], False
 
     def close(self):
-        self._end.say()
+        self._end.set()
 
     def _look(self, end):
         self.looks.append(time.monotonic())
@@ -480,7 +480,7 @@ def test_a_store_is_looked_at_once_a_second(monkeypatch):
 
 
 def test_each_outage_is_warned_of(monkeypatch, caplog):
-    monkeypatch.setattr("svid._group.said.STATE_EVERY", 10)
+    monkeypatch.setattr("svid._group._statements.STATE_EVERY", 10)
     with Told() as store:
         store._watch()
         for is_away in (True, False, True, False):
@@ -511,7 +511,7 @@ def test_withdrawals_are_heard_though_a_server_is_away():
             self._begin_group(["server"], 1, 2.0, (7200, 120, 60))
 
         def close(self):
-            self._end.say()
+            self._end.set()
 
         def _look(self, end):
             raise StoreFault("silent")
