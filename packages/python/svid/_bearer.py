@@ -6,7 +6,7 @@ import asyncio
 import json
 from collections.abc import Callable, Iterable, Mapping, Sequence
 from http import HTTPStatus
-from typing import Any, NamedTuple, Union
+from typing import Any, NamedTuple
 
 from . import _library as lib
 from ._paths import Paths
@@ -14,9 +14,9 @@ from ._validator import Validator
 from .errors import Jump, NotAllowed, Refused, TooLong, Unavailable
 from .records import Accepted
 
-Reuse = Union[Iterable[str], Callable[[Any], bool]]
+Reuse = Iterable[str] | Callable[[Any], bool]
 """Paths, or a function of the scope or the environ that says whether a request is one of these."""
-Caller = Union[Callable[[Any], bytes], None]
+Caller = Callable[[Any], bytes] | None
 """A function of the scope or the environ that says who presents the token; `Validator.check`."""
 
 

@@ -7,17 +7,17 @@ import json
 import os
 import stat
 from collections.abc import Mapping, Sequence
-from typing import Any, NamedTuple, Union
+from typing import Any, NamedTuple
 
 from . import _library as lib
 from ._words import no_memory, said
 from .errors import BadBundles
 from .sources import Endpoint, WorkloadApi
 
-Path = Union[str, "os.PathLike[str]"]
-Bundle = Union[Mapping[str, Any], bytes, Path, Endpoint]
+Path = str | os.PathLike[str]
+Bundle = Mapping[str, Any] | bytes | Path | Endpoint
 """The bundle of one trust domain, a JWK set: a dict, JSON text (bytes), a file, or an endpoint."""
-Bundles = Union[Mapping[str, Bundle], bytes, Path, WorkloadApi]
+Bundles = Mapping[str, Bundle] | bytes | Path | WorkloadApi
 """The bundles of all trust domains.
 
 - A dict from trust domain names to bundles.

@@ -189,7 +189,7 @@ def _regular(path: pathlib.Path, how: int) -> int:
     file = os.open(path, how | os.O_NONBLOCK, 0o600)
     if not stat.S_ISREG(os.fstat(file).st_mode):
         os.close(file)
-        raise OSError(22, "Not a regular file", str(path))
+        raise OSError(errno.EINVAL, "Not a regular file", str(path))
     return file
 
 

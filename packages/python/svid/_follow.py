@@ -9,7 +9,7 @@ import os
 import pathlib
 import threading
 from collections.abc import Callable, Iterable, Mapping
-from typing import NamedTuple, Union
+from typing import NamedTuple
 
 from ._bundles import Bundles, Document, Unnamed, bundle_text, contents, joined
 from .errors import BadBundles, Closed, Forked
@@ -19,10 +19,18 @@ _LOG = logging.getLogger("svid")
 _SHORTEST, _LONGEST = 1.0, 30.0
 """For how many seconds a source that failed is not asked again, at first and at the most."""
 
-_Key = tuple[str, Union[str, None]]
-"""A path or an address, and the trust domain whose bundle it gives. None if it names its own."""
-_Fault = Callable[[_Key, Union[Exception, None]], None]
-_Taker = Callable[[], Union[Callable[["Followed"], None], None]]
+
+class _Key(NamedTuple):
+    """Tells a source from all others."""
+
+    where: str
+    """A path or an address; "" where the bundle itself was given."""
+    domain: str | None
+    """The trust domain whose bundle it gives; None if it names its own."""
+
+
+_Fault = Callable[[_Key, Exception | None], None]
+_Taker = Callable[[], Callable[["Followed"], None] | None]
 
 
 class _Kept(NamedTuple):
@@ -63,7 +71,7 @@ class Followed:
         self._taker: _Taker = _nobody
         self._sort(given)
         for key, kept in list(before._kept.items()) if before else ():
-            if key in self._addresses or (key[0], None) in self._addresses:
+            if key in self._addresses or _Key(key.where, None) in self._addresses:
                 self._kept[key] = kept
         self._in_files = self._read(_raise)
 
@@ -72,26 +80,26 @@ class Followed:
         if isinstance(given, str) and given.lstrip().startswith("{"):
             raise TypeError("a str of bundles names a file or a folder: encode JSON text as bytes")
         if isinstance(given, bytes):
-            self._kept["", None] = _Kept(given, given)
+            self._kept[_Key("", None)] = _Kept(given, given)
         elif isinstance(given, WorkloadApi):
             given.check()
-            self._addresses[given.target(), None] = given
+            self._addresses[_Key(given.target(), None)] = given
         elif not isinstance(given, Mapping):
             path = os.fspath(given)
             if os.path.isdir(path):
                 self._folder = path
             else:
-                self._files.append((path, None))
+                self._files.append(_Key(path, None))
         else:
             for name, it in given.items():
                 if isinstance(it, Endpoint):
                     it.check(name)
-                    self._addresses[it.url, name] = it
+                    self._addresses[_Key(it.url, name)] = it
                 elif isinstance(it, (Mapping, bytes)):
                     raw = bundle_text(name, it)
-                    self._kept["", name] = _Kept(raw, _judged((name, name), raw))
+                    self._kept[_Key("", name)] = _Kept(raw, _judged(_Key(name, name), raw))
                 else:
-                    self._files.append((os.fspath(it), name))
+                    self._files.append(_Key(os.fspath(it), name))
 
     def text(self) -> bytes:
         """All bundles, as the library takes them. Raises BadBundles."""
@@ -107,7 +115,7 @@ class Followed:
 
     def awaits(self, domain: str) -> bool:
         """Whether the bundle of a trust domain is to come from an address, and did not yet."""
-        these = (name for at, name in self._addresses if (at, name) not in self._kept)
+        these = (it.domain for it in self._addresses if it not in self._kept)
         return not self.is_there or domain in these
 
     # -- Threads
@@ -121,12 +129,12 @@ class Followed:
         self._taker = taker
         if every is not None and (self._files or self._folder is not None):
             every = min(every, threading.TIMEOUT_MAX)
-            self._go(("files", None), functools.partial(self._look, every), most=every)
+            self._go(_Key("files", None), functools.partial(self._look, every), most=every)
         for key, it in self._addresses.items():
             if isinstance(it, Endpoint):
                 self._go(key, functools.partial(self._ask, key, it))
             else:
-                self._go(key, functools.partial(self._attend, key[0], it))
+                self._go(key, functools.partial(self._attend, key.where, it))
 
     def drop(self) -> None:
         """Lets the threads end. Waits for nothing, since a collector may call it."""
@@ -189,7 +197,7 @@ class Followed:
         said = None if why is None else f"{why}"[:1024]
         if self._faults.get(key) == said:
             return
-        where = key[0] if key[1] is None else f"{key[1]}, {key[0]}"
+        where = key.where if key.domain is None else f"{key.domain}, {key.where}"
         with contextlib.suppress(Exception):  # (who is warned must not end the following)
             if said is None:
                 del self._faults[key]
@@ -212,7 +220,7 @@ class Followed:
         kept = self._in_files.copy()
         for key in self._listed(kept, fault):
             try:
-                raw = contents(key[0])
+                raw = contents(key.where)
                 if key not in kept or kept[key].raw != raw:
                     kept[key] = _Kept(raw, _judged(key, raw))
             except (OSError, BadBundles) as why:
@@ -231,15 +239,15 @@ class Followed:
         try:
             names = sorted(os.listdir(self._folder))
         except OSError as why:
-            fault((self._folder, None), why)
+            fault(_Key(self._folder, None), why)
             return []
-        fault((self._folder, None), None)
+        fault(_Key(self._folder, None), None)
         these = [pathlib.Path(self._folder, it) for it in names if not it.startswith(".")]
-        files = [(str(it), it.stem) for it in these if it.suffix == ".json"]
+        files = [_Key(str(it), it.stem) for it in these if it.suffix == ".json"]
         for gone in kept.keys() - set(files):
             del kept[gone]
         for gone in self._faults.keys() - set(files):
-            if gone[1] is not None:
+            if gone.domain is not None:
                 del self._faults[gone]
         return files
 
@@ -255,8 +263,9 @@ class Followed:
         """What the server of an endpoint is known by."""
         domain, first = endpoint.domain(), endpoint.authorities
         these = (self._kept.copy() | self._in_files).items()
-        last = next((it.raw for (_, of), it in these if of == domain), None)
-        if domain and last is not None and (first is None or (endpoint.url, domain) in self._kept):
+        last = next((it.raw for key, it in these if key.domain == domain), None)
+        of_its_own = _Key(endpoint.url, domain) in self._kept
+        if domain and last is not None and (first is None or of_its_own):
             return last
         return None if first is None else contents(first)
 
@@ -264,24 +273,25 @@ class Followed:
         """Takes what a Workload API gives, until it ends."""
         for bundles in watch(api, self._ends):
             if not bundles:  # (it always has that of its own trust domain)
-                self._fault((address, None), BadBundles("it gives no bundle"))
+                self._fault(_Key(address, None), BadBundles("it gives no bundle"))
                 continue
             for name, raw in sorted(bundles.items()):
+                key = _Key(address, name)
                 try:
                     bearable(raw)
-                    self._adopt((address, name), raw, keys=True)
+                    self._adopt(key, raw, keys=True)
                 except (BadBundles, ValueError) as why:
-                    self._fault((address, name), why)
+                    self._fault(key, why)
                 else:
-                    self._fault((address, name), None)
-            these = {(address, None), *((address, name) for name in bundles)}
+                    self._fault(key, None)
+            these = {_Key(address, None), *(_Key(address, name) for name in bundles)}
             for gone in self._kept.keys() - these:
                 del self._kept[gone]
                 self._has_news = True
             for gone in self._faults.keys() - these:
                 del self._faults[gone]
             self._hand_on()
-            self._well((address, None))
+            self._well(_Key(address, None))
         return _SHORTEST
 
     def _adopt(self, key: _Key, raw: bytes, keys: bool = False) -> None:

@@ -18,20 +18,19 @@ from typing import NamedTuple, TypeVar
 
 from . import _library as lib
 from . import _scripts
-from . import _statements as said
+from . import _statements
 from .errors import Error, Forked
 from .stores import WITHDRAWN, Claim, Found
 
 DEFAULT_LONGEST = 3600
 DEFAULT_AHEAD = 30
 DEFAULT_WAIT = 2.0
-_MOST_WAIT = 86_400.0
-"""Some calls of the system take no more than some weeks."""
 CELL = 33
+_MOST_WAIT = 86_400.0  # (calls of the system take some weeks at the most)
 _LONGEST_ERROR = 1024
 _LOG = logging.getLogger("svid")
 _WITHDRAWAL = struct.Struct(">32sQ")
-_FAULTS = {**said.FAULTS, **_scripts.FAULTS}
+_FAULTS = {**_statements.FAULTS, **_scripts.FAULTS}
 _Self = TypeVar("_Self", bound="GroupStore")
 
 
@@ -100,7 +99,7 @@ class GroupStore(abc.ABC):
         """Ends all connections, and the calls that are under way."""
 
     def put(self, claims: Sequence[Claim]) -> list[Found]:
-        """Is that of `Store`. Raises StoreFault, for all claims of a call where one has no answer.
+        """As `Store.put`. Raises StoreFault, for all claims of a call where one has no answer.
 
         A token that was withdrawn after it was claimed has the owner WITHDRAWN within a second.
         """
@@ -112,7 +111,7 @@ class GroupStore(abc.ABC):
         return found
 
     def put_each(self, claims: Sequence[Claim]) -> list[Found | StoreFault]:
-        """Is put, where each claim has an answer of its own, or why it has none.
+        """As `put`, but each claim has an answer of its own, or why it has none.
 
         So one server of a Cluster that is away stops none of the others.
         """
@@ -121,17 +120,17 @@ class GroupStore(abc.ABC):
             if self._look(end)[1]:
                 raise StoreFault("run")
             self._hear(end)
-        all = self._put_each(claims, end)
+        answers = self._put_each(claims, end)
         with self._lock:
             return [
                 it._replace(owner=WITHDRAWN)
                 if isinstance(it, Found) and claim.key in self._withdrawn
                 else it
-                for claim, it in zip(claims, all)
+                for claim, it in zip(claims, answers)
             ]
 
     def withdraw(self, key: bytes, expires: int) -> None:
-        """Is that of `Store`. Raises StoreFault."""
+        """As `Store.withdraw`. Raises StoreFault."""
         self._withdraw(key, expires, self._until())
         with self._lock:
             self._know([(key, expires)])
@@ -195,14 +194,14 @@ class GroupStore(abc.ABC):
     def _same_process(self) -> None:
         if self._process != os.getpid():
             raise Forked
-        if self._end.is_said:
+        if self._end.is_set:
             raise StoreFault("closed")
 
 
 def terms_of(longest: int, ahead: int) -> tuple[int, int, int]:
     """The terms of a member: lasts, the margin for members' clocks, and back."""
-    margin = max(ahead, said.LEAST_MARGIN // 1000)
-    return lib.quick.svid_claim_until(longest, 2 * ahead), margin, said.STEP_BACK // 1000
+    margin = max(ahead, _statements.LEAST_MARGIN // 1000)
+    return lib.quick.svid_claim_until(longest, 2 * ahead), margin, _statements.STEP_BACK // 1000
 
 
 def _watch(of: weakref.ref[GroupStore], end: End) -> None:
@@ -210,28 +209,28 @@ def _watch(of: weakref.ref[GroupStore], end: End) -> None:
     why = ""
     while True:
         store = of()
-        if store is None or end.is_said:
-            end.say()
+        if store is None or end.is_set:
+            end.set()
             return
         begun = time.monotonic()
         fault: Exception | None = None
         try:
-            state, _ = store._look(begun + said.STATE_WAIT / 1000)
+            state, _ = store._look(begun + _statements.STATE_WAIT / 1000)
             store._forget(state.time)
         except Exception as now:
             fault = now
         try:  # (the server that has the withdrawals may be there though another one is not)
-            store._hear(time.monotonic() + said.HEAR_WAIT / 1000)
+            store._hear(time.monotonic() + _statements.HEAR_WAIT / 1000)
         except Exception as now:
             fault = fault or now
         compares = getattr(fault, "name", "") == "run"
-        if fault and not (why or end.is_said or compares):
+        if fault and not (why or end.is_set or compares):
             # (a record that somebody keeps must not keep the store)
             _warn("the group's store can't be looked at: %s", str(fault))
         if not compares:
             why = (str(fault) or "unknown") if fault else ""
         del store, fault
-        end.wait(max(0.0, begun + said.STATE_EVERY / 1000 - time.monotonic()))
+        end.wait(max(0.0, begun + _statements.STATE_EVERY / 1000 - time.monotonic()))
 
 
 def _warn(text: str, *words: object) -> None:
@@ -265,7 +264,7 @@ def found_of(answer: Answer, claim: Claim, n: int) -> Found | StoreFault:
     cell = answer.cells[n * CELL : (n + 1) * CELL]
     if cell[0] == 1:
         return Found(cell[1:], answer.time, answer.deaf)
-    return StoreFault(said.OF_CELL.get(cell[0], "answer"))
+    return StoreFault(_statements.OF_CELL.get(cell[0], "answer"))
 
 
 def withdrawals_of(these: bytes) -> list[tuple[bytes, int]]:
@@ -286,19 +285,19 @@ def brief(text: str) -> str:
 
 
 class End:
-    """The end of a store, which ends all waiting."""
+    """The end of a store: an event that also ends the polling of whoever polls it."""
 
     def __init__(self) -> None:
-        self._heard, self._said = socket.socketpair()
-        self.is_said = False
+        self._reader, self._writer = socket.socketpair()
+        self.is_set = False
 
     def fileno(self) -> int:
-        return self._heard.fileno()
+        return self._reader.fileno()
 
-    def say(self) -> None:
-        self.is_said = True
-        self._said.close()
+    def set(self) -> None:
+        self.is_set = True
+        self._writer.close()
 
     def wait(self, seconds: float) -> None:
         """Waits for so long, or until the end."""
-        select.select([self._heard], [], [], seconds)
+        select.select([self._reader], [], [], seconds)

@@ -14,7 +14,6 @@ import threading
 import time
 import weakref
 from collections.abc import Callable, Iterable
-from typing import Union
 
 from . import _library as lib
 from ._bundles import Path
@@ -40,7 +39,7 @@ _MOST = lib.PAYLOAD_MOST
 """The most bytes of messages that one write takes."""
 
 _Parts = Callable[[], Iterable[bytes]]
-_Told = Callable[[Union[Exception, None]], None]
+_Told = Callable[[Exception | None], None]
 
 
 class Journal:

@@ -12,7 +12,7 @@ import threading
 from collections.abc import Callable, Iterator, Sequence
 
 from . import _library as lib
-from . import _statements as said
+from . import _statements
 from ._bundles import Path
 from ._journal import Journal
 from .records import Use, batches, entries_of
@@ -54,9 +54,9 @@ class LocalStore:
     def __init__(self, folder: Path, longest: int, ahead: int, clock: Callable[[], int]) -> None:
         """Opens the folder, and reads it. Raises what `Journal` does."""
         until = lib.quick.svid_claim_until  # (the sum, or the greatest number)
-        self._back = said.STEP_BACK // 1000
+        self._back = _statements.STEP_BACK // 1000
         self._lasts = until(longest, until(ahead, ahead))
-        self._margin = until(max(ahead, said.LEAST_MARGIN // 1000), self._back)
+        self._margin = until(max(ahead, _statements.LEAST_MARGIN // 1000), self._back)
         self._clock = clock
         self._lock = threading.Lock()  # guards what follows
         self._entries: dict[bytes, _Entry] = {}
@@ -71,7 +71,7 @@ class LocalStore:
             raise
 
     def put(self, claims: Sequence[Claim]) -> list[Found]:
-        """Is that of `Store`."""
+        """As `Store.put`."""
         with self._lock:
             now, told = self._now()
             these = [(it.key, self._entry(it, now)) for it in claims]
@@ -94,7 +94,7 @@ class LocalStore:
         return found
 
     def withdraw(self, key: bytes, expires: int) -> None:
-        """Is that of `Store`. What was claimed before the one validator knows to be withdrawn."""
+        """As `Store.withdraw`, but a claim stays: the one validator has the withdrawal itself."""
         self.put([Claim(key, WITHDRAWN, expires)])
 
     def close(self) -> None:

@@ -16,7 +16,7 @@ import threading
 import time
 import weakref
 from collections.abc import Callable, Sequence
-from typing import Any, NamedTuple, TypeVar, Union
+from typing import Any, NamedTuple, TypeVar
 
 from . import _library as lib
 from ._claims import Claims, Due, up
@@ -56,9 +56,9 @@ class _Outcome(NamedTuple):
     store: int
 
 
-_Steps = queue.SimpleQueue[Union[_Deed, bytes, Exception]]
+_Steps = queue.SimpleQueue[_Deed | bytes | Exception]
 """What comes to a request: what is to be done, an answer of the store, or why nothing comes."""
-_Ends = queue.SimpleQueue[Union[_Outcome, Exception]]
+_Ends = queue.SimpleQueue[_Outcome | Exception]
 """What comes to a withdrawal."""
 
 
@@ -99,16 +99,25 @@ class Member(Handle):
         store: Store | None,
         longest: int,
         ahead: int,
+        step: int,
+        validator_id: bytes,
         own: list[bytes],
-        clock: Callable[[float | None], int],
+        bundles: bytes,
         bundled: bool,
-        **terms: Any,
+        clock: Callable[[float | None], int],
     ) -> None:
         """Opens it. It judges no token before `begin`.
 
         clock: gives the time of now. bundled: it has bundles, or none are to come.
         """
-        super().__init__(longest=longest, ahead=ahead, own=own, **terms)
+        super().__init__(
+            longest=longest,
+            ahead=ahead,
+            step=step,
+            validator_id=validator_id,
+            own=own,
+            bundles=bundles,
+        )
         self._wait = min(wait, threading.TIMEOUT_MAX)
         self._longest = longest
         self._journal = journal

@@ -14,8 +14,6 @@ from cryptography.hazmat.primitives.serialization import load_der_public_key
 from ._library import NO_MEMORY, OK, RSA_BITS, SPKI_ROOM, USUAL_RSA_BITS, Told, address, quick
 from ._words import no_memory
 
-__all__ = ["USUAL_RSA_BITS", "Verifier", "Verifies"]
-
 Verifies = Callable[[str, bytes, bytes, bytes], bool]
 """Whether a key made a signature: called with the algorithm's name (as "ES256"), the key as JSON
 (RFC 7517), the bytes that are signed, and the signature's bytes. It returns True or False; anything

@@ -13,7 +13,7 @@ import threading
 import time
 import weakref
 from collections.abc import Callable, Iterable, Iterator
-from typing import TypeVar, Union
+from typing import TypeVar
 
 from . import _library as lib
 from ._allow import allows, patterns
@@ -22,7 +22,7 @@ from ._follow import Followed
 from ._journal import Journal
 from ._local import LocalStore
 from ._member import Member
-from ._signatures import USUAL_RSA_BITS, Verifier, Verifies
+from ._signatures import Verifier, Verifies
 from ._token import says
 from .errors import BadMessages, NotAllowed, Refused, Unavailable, UnknownDomain
 from .records import Accepted, Report, Use
@@ -38,8 +38,7 @@ _CLAIMS = ("strict", "bound")
 _LEAST_WAIT = 0.001  # (the library counts milliseconds)
 _LEAST_REFRESH = 0.01
 
-Token = Union[str, bytes]
-Seconds = Union[int, "Unlimited"]
+Token = str | bytes
 
 
 class Unlimited:
@@ -51,6 +50,7 @@ class Unlimited:
 
 UNLIMITED = Unlimited()
 """As `longest`: a token may live for as long as it wants."""
+Seconds = int | Unlimited
 Self = TypeVar("Self", bound="Validator")
 
 
@@ -90,7 +90,7 @@ class Validator:
         validator_id: bytes | None = None,
         refresh: float | None = 1.0,
         verifies: Verifies | None = None,
-        rsa_bits: int = USUAL_RSA_BITS,
+        rsa_bits: int = lib.USUAL_RSA_BITS,
         state: Path | None = None,
         wait: float = 2.0,
         clock: Callable[[], float] = time.time,

@@ -14,12 +14,12 @@ import struct
 import threading
 import time
 from collections.abc import Callable, Iterator, Sequence
-from typing import Any, NamedTuple, Union
+from typing import Any, NamedTuple
 
 import psycopg
 from psycopg import conninfo, pq
 
-from . import _statements as said
+from . import _statements
 from ._group import (
     CELL,
     DEFAULT_AHEAD,
@@ -45,7 +45,7 @@ _INTEGERS = (20, 21, 23)
 _BYTES = 17
 _BINARY = pq.Format.BINARY
 _NAME = re.compile(r"(?!pg_)[A-Za-z0-9_-]{1,63}")
-_Value = Union[bytes, str, int, None]
+_Value = bytes | str | int | None
 
 
 class PostgresStore(GroupStore):
@@ -94,11 +94,11 @@ class PostgresStore(GroupStore):
         """Begins without a thread."""
         self._begin_group(servers, replicas, wait, terms)
         self._statements = {
-            name: text.replace("{S}", f'"{group}"') for name, text in said.STATEMENTS.items()
+            name: text.replace("{S}", f'"{group}"') for name, text in _statements.STATEMENTS.items()
         }
         self._group = group
         self._servers = _Servers(servers, self._statements["role"], self._end)
-        self._calls = threading.BoundedSemaphore(said.MOST_CALLS)
+        self._calls = threading.BoundedSemaphore(_statements.MOST_CALLS)
         # (_lock guards what follows)
         self._idle: list[_Connection] = []
         self._left: list[str] = []  # sessions that may do yet what was given up
@@ -108,7 +108,7 @@ class PostgresStore(GroupStore):
     def close(self) -> None:
         """Ends all connections, and the calls that are under way."""
         if self._process == os.getpid():
-            self._end.say()
+            self._end.set()
             with self._lock:
                 idle, self._idle = self._idle, []
             for it in idle:
@@ -121,7 +121,7 @@ class PostgresStore(GroupStore):
         """
         self._same_process()
         if self._epoch is not None:  # (who hangs here must not hinder the next look)
-            end = min(end, time.monotonic() + said.STATE_WAIT / 1000)
+            end = min(end, time.monotonic() + _statements.STATE_WAIT / 1000)
         if not self._turn.acquire(timeout=max(0, end - time.monotonic())):
             raise StoreFault("silent")
         try:
@@ -130,7 +130,7 @@ class PostgresStore(GroupStore):
             now = time.monotonic()
             half = min(now + 1, (now + end) / 2)
             while due and time.monotonic() < half:
-                due = self._call("expire", [], end)[0][0] == said.PIECES
+                due = self._call("expire", [], end)[0][0] == _statements.PIECES
             return state, wait
         finally:
             self._turn.release()
@@ -240,9 +240,11 @@ class PostgresStore(GroupStore):
         answer = _answered(rows, count)
         if answer.status == 0 and answer.epoch == epoch:
             return answer
-        if answer.status != said.QUARANTINE or answer.epoch != epoch:
+        if answer.status != _statements.QUARANTINE or answer.epoch != epoch:
             self._look(end)
-        raise StoreFault(said.OF_STATUS.get(answer.status, "answer") if answer.status else "epoch")
+        raise StoreFault(
+            _statements.OF_STATUS.get(answer.status, "answer") if answer.status else "epoch"
+        )
 
     def _call(
         self, name: str, values: Sequence[_Value], end: float, confirm: bool = False
@@ -269,13 +271,13 @@ class PostgresStore(GroupStore):
         try:
             yield one
         except _Answered as why:
-            fault = said.CODES.get(why.code, "server")
+            fault = _statements.CODES.get(why.code, "server")
             self._give(one, keep=fault == "held")
             more = f"{self._lacking(end)}" if fault == "rights" else ""
-            raise StoreFault(fault, more if fault in said.FAULTS else str(why)) from why
+            raise StoreFault(fault, more if fault in _statements.FAULTS else str(why)) from why
         except BaseException as why:
             with self._lock:
-                if len(self._left) < said.MOST_LEFT:
+                if len(self._left) < _statements.MOST_LEFT:
                     self._left.append(one.session)
             self._give(one, keep=False)
             if isinstance(why, psycopg.Error):
@@ -295,7 +297,7 @@ class PostgresStore(GroupStore):
             except StoreFault:
                 one.close()
         at = self._servers.await_primary(end)
-        dial = min(end, time.monotonic() + said.DIAL_WAIT / 1000)
+        dial = min(end, time.monotonic() + _statements.DIAL_WAIT / 1000)
         try:
             one, role = _reach(at, self._servers.role, self._end, dial)
             if not role.primary:
@@ -316,7 +318,7 @@ class PostgresStore(GroupStore):
             if not keep:
                 ended += self._idle
                 self._idle = []
-            elif self._end.is_said or len(self._idle) > said.MOST_CALLS:
+            elif self._end.is_set or len(self._idle) > _statements.MOST_CALLS:
                 ended.append(one)
             else:
                 self._idle.append(one)
@@ -349,19 +351,19 @@ def _marked(marks: list[Claim], one: Claim) -> list[Claim]:
     lost too, while it has not expired.
     """
     marks = [*marks, one]
-    older, last = marks[: -said.RECENT_MARKS], marks[-said.RECENT_MARKS :]
+    older, last = marks[: -_statements.RECENT_MARKS], marks[-_statements.RECENT_MARKS :]
     if older:
         newest = older.pop()
         while older and older[-1].expires <= newest.expires:
             older.pop()
-        if len(older) == said.MOST_MARKS - said.RECENT_MARKS:
+        if len(older) == _statements.MOST_MARKS - _statements.RECENT_MARKS:
             older.pop()  # (the one before it in time says nearly as much)
         older.append(newest)
     return older + last
 
 
 def _expiry(expires: int) -> int:
-    return min(expires, said.MOST_EXPIRY)
+    return min(expires, _statements.MOST_EXPIRY)
 
 
 def _arrays(claims: Sequence[Claim]) -> list[_Value]:
@@ -447,7 +449,7 @@ class _Connection:
         poll.register(self._pg.socket, events)
         poll.register(self._ends, select.POLLIN)
         ready = poll.poll(max(0, (end - time.monotonic()) * 1000))
-        if self._ends.is_said:
+        if self._ends.is_set:
             raise StoreFault("closed")
         if not ready:
             raise StoreFault("silent")
@@ -545,7 +547,7 @@ class _Servers:
                         target=self._watch, args=(one,), name="svid-server", daemon=True
                     ).start()
             while not self._is_looked_at():
-                if self._ends.is_said:
+                if self._ends.is_set:
                     raise StoreFault("closed")
                 if not self._changed.wait(end - time.monotonic()):
                     raise StoreFault("silent")
@@ -563,7 +565,7 @@ class _Servers:
                 raise StoreFault("stale")
 
     def _is_looked_at(self) -> bool:
-        oldest = time.monotonic() - said.MOST_AGE / 1000
+        oldest = time.monotonic() - _statements.MOST_AGE / 1000
         return all(it.at is not None and it.at >= oldest for it in self.all)
 
     def _primary(self) -> _Server:
@@ -572,7 +574,7 @@ class _Servers:
         faults = []
         for one in self.all:
             if one.role is None or not one.role.primary:
-                why = one.fault or said.FAULTS["standby"]
+                why = one.fault or _statements.FAULTS["standby"]
                 faults.append(f"address {one.number}: {why}")
             elif first is None or first.role is None:
                 first = one
@@ -599,17 +601,17 @@ class _Servers:
     def _watch(self, at: _Server) -> None:
         """Looks at a server until the end."""
         one: _Connection | None = None
-        while not self._ends.is_said:
+        while not self._ends.is_set:
             begun = time.monotonic()
             one = self._look(at, one, begun)
-            self._ends.wait(max(0.0, begun + said.LOOK_EVERY / 1000 - time.monotonic()))
+            self._ends.wait(max(0.0, begun + _statements.LOOK_EVERY / 1000 - time.monotonic()))
         if one:
             one.close()
         with self._changed:
             self._changed.notify_all()
 
     def _look(self, at: _Server, one: _Connection | None, begun: float) -> _Connection | None:
-        role, fault, end = None, "", begun + said.LOOK_WAIT / 1000
+        role, fault, end = None, "", begun + _statements.LOOK_WAIT / 1000
         try:
             if one is None:
                 one, role = _reach(at, self.role, self._ends, end)

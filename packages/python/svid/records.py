@@ -14,12 +14,15 @@ from ._token import payload, says
 from ._words import no_memory, reason, said
 from .errors import BadMessages
 
+__all__ = ["Accepted", "Report", "Use"]
+
 _ENTRY = struct.Struct("@QQQ32s16s")
 """`svid_entry`, as the C library has it in memory."""
 _LEAST = 64
 """So many bytes an entry takes in messages, or more."""
 
 
+# (Each check makes one of these two. A frozen one would take four times as long.)
 @dataclass(slots=True, unsafe_hash=True)
 class Use:
     """One entry of a record: a token was accepted, or withdrawn."""

@@ -19,10 +19,10 @@ import urllib.parse
 from collections.abc import Callable, Iterator, Mapping, Sequence
 from typing import Any, NamedTuple, TypeVar
 
-from redis import connection, exceptions  # type: ignore
-from redis.crc import key_slot  # type: ignore
+from redis import connection, exceptions  # type: ignore[import]
+from redis.crc import key_slot  # type: ignore[import]
 
-from . import _scripts as said
+from . import _scripts
 from ._group import (
     CELL,
     DEFAULT_AHEAD,
@@ -49,7 +49,9 @@ _MOST_REPLICAS = 64
 _SHARDS = 16  # of a Cluster
 _PASSWORD = "REDISCLI_AUTH"
 _SETTINGS = ("appendonly", "appendfsync", "no-appendfsync-on-rewrite", "maxmemory-policy")
-_SCRIPTS = {it: f"{said.SCRIPTS['common']}\n{text}".encode() for it, text in said.SCRIPTS.items()}
+_SCRIPTS = {
+    it: f"{_scripts.SCRIPTS['common']}\n{text}".encode() for it, text in _scripts.SCRIPTS.items()
+}
 _DIGESTS = {it: hashlib.sha1(text).hexdigest() for it, text in _SCRIPTS.items()}
 # (redis-py takes the first word away from errors that it knows)
 _WORDS = {
@@ -138,7 +140,7 @@ class RedisStore(GroupStore):
 
         Raises ValueError for what can't be used, and OSError for a file that can't be read.
         """
-        self._begin(servers, group, replicas, wait, terms_of(longest, ahead), said.COMPARE_WAIT)
+        self._begin(servers, group, replicas, wait, terms_of(longest, ahead), _scripts.COMPARE_WAIT)
         self._watch()
 
     def _begin(
@@ -168,7 +170,7 @@ class RedisStore(GroupStore):
     def close(self) -> None:
         """Ends all connections, and the calls that are under way."""
         if self._process == os.getpid():
-            self._end.say()
+            self._end.set()
             with self._lock:
                 for it in self._open:
                     it.interrupt()
@@ -191,8 +193,8 @@ class RedisStore(GroupStore):
         return self._shards
 
     def _shard_of(self, key: bytes, end: float) -> _Shard:
-        all = self._all(end)
-        return all[0] if len(all) == 1 else all[key[0] >> 4]
+        shards = self._all(end)
+        return shards[0] if len(shards) == 1 else shards[key[0] >> 4]
 
     def _parts(self, these: Mapping[_Shard, _T], end: float) -> list[dict[_Shard, _T]]:
         """Shards, with what is theirs: those of one server together."""
@@ -207,15 +209,15 @@ class RedisStore(GroupStore):
         self._same_process()
         if self._epoch is not None:  # (who hangs here must not hinder the next look)
             end = min(end, time.monotonic() + STATE_WAIT / 1000)
-        all = self._all(end)
-        if len(all) == 1:
+        shards = self._all(end)
+        if len(shards) == 1:
             self._servers.look(end)
 
         def look(part: dict[_Shard, None]) -> None:
             with self._connection(part, end) as one:
                 self._agree(one, list(part), end)
 
-        for answer in _side_by_side(look, self._parts(dict.fromkeys(all), end)):
+        for answer in _side_by_side(look, self._parts(dict.fromkeys(shards), end)):
             if answer is not None:
                 raise answer
         return self._state(), 0
@@ -294,27 +296,27 @@ class RedisStore(GroupStore):
         waits, pause = [], 0
         fault: StoreFault | None = None
         for it, (what, more, checked, *rest) in zip(shards, answers):
+            if what == b"ok":
+                self._adopt(it, counts[it], checked, at, *rest)
+                continue
             with self._lock:
                 if counts[it] < it.seen:  # (a later look was answered first)
                     continue
-                it.seen, it.checked = counts[it], checked
-                if what == b"ok":
-                    self._adopt(it, counts[it], at, *rest)
-                    continue
-                it.agreed = None
+                it.seen, it.checked, it.agreed = counts[it], checked, None
             if what == b"wait":
                 waits.append(it)
-                pause = max(pause, min(more, said.PAUSE))
+                pause = max(pause, min(more, _scripts.PAUSE))
             else:
                 fault = StoreFault(what.decode(), more.decode(errors="replace"))
         if fault:
             raise fault
         return waits, pause / 1000
 
-    @staticmethod
     def _adopt(
+        self,
         it: _Shard,
         count: int,
+        checked: bytes,
         at: tuple[str, int],
         record: bytes,
         epoch: bytes,
@@ -322,12 +324,15 @@ class RedisStore(GroupStore):
         moment: int,
         latest: int,
     ) -> None:
-        """Takes what a server has of a shard. The caller has the lock."""
-        if (same := epoch == it.known.epoch) and it.known.latest > latest:
-            latest = it.known.latest
-        mark = it.known.mark if same else b""
-        it.known = _Known(record, epoch, deaf, latest, (count, moment), mark)
-        it.agreed = at
+        """Takes what a server has of a shard."""
+        with self._lock:
+            if count < it.seen:  # (a later look was answered first)
+                return
+            if (same := epoch == it.known.epoch) and it.known.latest > latest:
+                latest = it.known.latest
+            mark = it.known.mark if same else b""
+            it.known = _Known(record, epoch, deaf, latest, (count, moment), mark)
+            it.seen, it.checked, it.agreed = count, checked, at
 
     def _put_each(self, claims: Sequence[Claim], end: float) -> list[Found | StoreFault]:
         found: dict[int, Found | StoreFault] = {}
@@ -442,7 +447,7 @@ class RedisStore(GroupStore):
             commands.append(("EVALSHA", _DIGESTS[name], 1, it.key, *values))
         if replicas:
             left = int((end - time.monotonic()) * 500)  # (it is looked at ten times a second)
-            commands.append(("WAIT", replicas, max(1, min(left, said.WAIT_MOST))))
+            commands.append(("WAIT", replicas, max(1, min(left, _scripts.WAIT_MOST))))
         answers = one.call(commands, end, late)
         if any(isinstance(it, exceptions.NoScriptError) for it in answers):
             one.checked([("SCRIPT LOAD", _SCRIPTS[name])], end)
@@ -496,7 +501,7 @@ class RedisStore(GroupStore):
         with self._lock:
             self._open.add(one)
             pool.made += 1  # (a connection that is new may lead to a server that is)
-        if self._end.is_said:
+        if self._end.is_set:
             self._give(one, False)
             raise StoreFault("closed")
         return one
@@ -504,7 +509,7 @@ class RedisStore(GroupStore):
     def _give(self, one: _Connection, keep: bool) -> None:
         pool = self._pool(one.at)
         with self._lock:
-            if keep and not self._end.is_said and len(pool.idle) <= MOST_CALLS:
+            if keep and not self._end.is_set and len(pool.idle) <= MOST_CALLS:
                 pool.idle.append(one)
                 return
             if not keep:
@@ -725,12 +730,12 @@ class _Connection:
     def _fault(self, why: Exception) -> StoreFault:
         if isinstance(why, StoreFault):
             return why
-        if self._ends.is_said:
+        if self._ends.is_set:
             return StoreFault("closed")
         if isinstance(why, (exceptions.TimeoutError, TimeoutError)):
             return StoreFault("silent")
         word = next((it for of, it in _WORDS.items() if isinstance(why, of)), "")
-        name = said.CODES.get(word or str(why).partition(" ")[0], "server")
+        name = _scripts.CODES.get(word or str(why).partition(" ")[0], "server")
         more = f"{self.at.name}: {brief(str(why))}"
         return StoreFault(name, more if name == "server" else f": {more}")
 
@@ -789,7 +794,7 @@ class _Servers:
         if not self._any(servers, end, ("INFO", "server"), is_one):
             return False
         if any(it.database or "host" not in it.words for it in self._all):
-            raise StoreFault("unfit", said.FAULTS["named"])
+            raise StoreFault("unfit", _scripts.FAULTS["named"])
         return True
 
     def holder(self, slot: int, end: float) -> _Server:
@@ -828,7 +833,9 @@ class _Servers:
         faults: list[StoreFault] = []
         for n in range(len(servers)):
             at = servers[(self._first + n) % len(servers)]
-            soon = end if len(servers) == 1 else min(end, time.monotonic() + said.ASK_WAIT / 1000)
+            soon = (
+                end if len(servers) == 1 else min(end, time.monotonic() + _scripts.ASK_WAIT / 1000)
+            )
             try:
                 with contextlib.closing(_Connection(at, self._ends, soon)) as one:
                     (answer,) = one.checked([command], soon)
@@ -880,7 +887,7 @@ class _Servers:
     def _ask(self, end: float) -> list[Any]:
         """What each server says: the primary, or why not."""
         now = time.monotonic()
-        end = min(end, now + said.ASK_WAIT / 1000, (now + end) / 2)
+        end = min(end, now + _scripts.ASK_WAIT / 1000, (now + end) / 2)
         answers: list[Any] = [StoreFault("silent")] * len(self._all)
 
         def ask(n: int) -> None:

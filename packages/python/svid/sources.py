@@ -21,13 +21,15 @@ import urllib.error
 import urllib.request
 from collections.abc import Callable, Iterator
 from dataclasses import dataclass
-from typing import Any, Union
+from typing import Any
 from urllib.parse import urlsplit
 
 from cryptography import x509
 from cryptography.x509.oid import ExtensionOID
 
 from . import _library as lib
+
+__all__ = ["Endpoint", "WorkloadApi"]
 
 LIMIT = 15.0
 """How many seconds one answer of an endpoint may take, and the first one of a Workload API."""
@@ -63,7 +65,7 @@ class Endpoint:
     spiffe_id: str | None = None
     """The server's SPIFFE ID (profile https_spiffe). None where the server has a certificate for
     its name (https_web)."""
-    authorities: Union[str, "os.PathLike[str]", None] = None
+    authorities: str | os.PathLike[str] | None = None
     """The file of those that vouch for the server. With https_web: certificates as PEM; None are
     the system's. With https_spiffe: a bundle of the ID's trust domain. It counts until the first
     bundle came, if the endpoint gives the bundle of that domain. None is the last good bundle of

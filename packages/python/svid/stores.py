@@ -72,7 +72,7 @@ class TellingStore(Store, Protocol):
     """
 
     def withdrawals(self, after: str) -> tuple[Sequence[tuple[bytes, int]], str]:
-        """The withdrawals that came after a position, as key and expiry, and the position behind.
+        """The withdrawals after a position, as key and expiry, and the position after those.
 
         The first position is "". The validator asks again until the position stays. A position that
         the store does not know reads all again.

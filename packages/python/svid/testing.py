@@ -27,6 +27,8 @@ from cryptography.hazmat.primitives.asymmetric import ec, utils
 from . import _library as lib
 from .stores import WITHDRAWN, Claim, Found
 
+__all__ = ["LIFE", "Clock", "Issuer", "MemoryStore"]
+
 LIFE = 300
 """For how many seconds a token of `Issuer` lives."""
 
@@ -157,20 +159,20 @@ class MemoryStore:
         self._deaf = 0
 
     def put(self, claims: Sequence[Claim]) -> list[Found]:
-        """Is that of `Store`."""
+        """As `Store.put`."""
         with self._lock:
             now = int(self._now())
             return [Found(self._put(it, now), now, self._deaf) for it in claims]
 
     def withdraw(self, key: bytes, expires: int) -> None:
-        """Is that of `Store`."""
+        """As `Store.withdraw`."""
         with self._lock:
             _, earlier = self._entries.get(key, (WITHDRAWN, 0))
             self._entries[key] = WITHDRAWN, max(earlier, self._until(expires))
             self._withdrawals.append((key, expires))
 
     def withdrawals(self, after: str) -> tuple[list[tuple[bytes, int]], str]:
-        """Is that of `TellingStore`."""
+        """As `TellingStore.withdrawals`."""
         with self._lock:
             known = int(after or 0)
             if known > len(self._withdrawals):  # (they were lost)

@@ -5,6 +5,7 @@ import contextlib
 import datetime
 import functools
 import hashlib
+import ipaddress
 import json
 import logging
 import os
@@ -92,6 +93,63 @@ def certificate(key):
     made = made.not_valid_after(begun + datetime.timedelta(days=999)).sign(key, hashes.SHA256())
     der = made.public_bytes(serialization.Encoding.DER)
     return base64.b64encode(der).decode()
+
+
+class Authority:
+    """Signs certificates."""
+
+    def __init__(self, above=None):
+        """above: the authority that signed its certificate; by default it did that itself."""
+        self.key = ec.generate_private_key(ec.SECP256R1())
+        self.name = "root" if above is None else "authority"
+        self.certificate = (above or self).made(self.key, is_authority=True, subject=self.name)
+
+    def made(self, key, *, is_authority=False, uris=(), signs=(), subject=None):
+        """A certificate that it signs. signs: what its owner may sign by the key's usage."""
+
+        def named(text):
+            return x509.Name([x509.NameAttribute(x509.NameOID.COMMON_NAME, text)] if text else [])
+
+        at = datetime.datetime.utcnow()
+        names = [x509.UniformResourceIdentifier(it) for it in uris]
+        names.append(x509.IPAddress(ipaddress.ip_address("127.0.0.1")))
+        usage = {"digital_signature": True, "key_cert_sign": is_authority, "crl_sign": False}
+        others = "content_commitment key_encipherment data_encipherment key_agreement"
+        usage |= dict.fromkeys(others.split(), False) | dict.fromkeys(signs, True)
+        usage |= {"encipher_only": False, "decipher_only": False}
+        builder = (
+            x509.CertificateBuilder()
+            .issuer_name(named(self.name))
+            .subject_name(named(subject))
+            .serial_number(x509.random_serial_number())
+            .public_key(key.public_key())
+            .not_valid_before(at - datetime.timedelta(hours=1))
+            .not_valid_after(at + datetime.timedelta(hours=1))
+            .add_extension(x509.BasicConstraints(is_authority, None), True)
+            .add_extension(x509.KeyUsage(**usage), True)
+            .add_extension(x509.SubjectAlternativeName(names), not is_authority)
+        )
+        return builder.sign(self.key, hashes.SHA256())
+
+    def server(self, folder, *uris, **terms):
+        """The file of a server's key and certificate."""
+        key = ec.generate_private_key(ec.SECP256R1())
+        made = self.made(key, uris=uris, **terms)
+        path = folder / f"{len(os.listdir(folder))}.pem"
+        path.write_bytes(pem(key) + made.public_bytes(serialization.Encoding.PEM))
+        return path
+
+    def pem(self, folder):
+        """Its certificate in a file, behind a comment."""
+        path = folder / f"{len(os.listdir(folder))}.pem"
+        text = self.certificate.public_bytes(serialization.Encoding.PEM)
+        path.write_bytes("# the authority Zoë\n".encode() + text)
+        return path
+
+    def entry(self):
+        """Itself as an entry of a bundle."""
+        der = self.certificate.public_bytes(serialization.Encoding.DER)
+        return {"use": "x509-svid", "kty": "EC", "x5c": [base64.b64encode(der).decode()]}
 
 
 def pem(key):

@@ -8,6 +8,7 @@ import pathlib
 import re
 import signal
 import socket
+import ssl
 import subprocess
 import sys
 import threading
@@ -17,7 +18,7 @@ import types
 import pytest
 import redis
 import svid
-from making import PATIENCE, fresh, until, validator
+from making import PATIENCE, Authority, fresh, until, validator
 from svid import redis as store_of_redis
 from svid._group import End, GroupStore
 from svid.redis import RedisStore, State, StoreFault
@@ -92,9 +93,10 @@ def test_every_test_of_a_store_is_run(binary):
 class Machine:
     """A server, on a socket of its own."""
 
-    def __init__(self, folder, *more):
+    def __init__(self, folder, *more, port=0):
+        folder.mkdir(exist_ok=True)
         self.url = f"unix://{folder}/socket"
-        self.words = ["redis-server", "--port", "0", "--unixsocket", f"{folder}/socket"]
+        self.words = ["redis-server", "--port", str(port), "--unixsocket", f"{folder}/socket"]
         self.words += ["--dir", str(folder), "--appendonly", "yes", "--appendfsync", "always"]
         self.words += ["--save", "", "--logfile", f"{folder}/log", *more]
         self.socket = f"{folder}/socket"
@@ -215,6 +217,16 @@ def test_a_number_of_a_life_never_goes_back(machine):
         assert machine.client().get(key) == b"1000"
 
 
+def test_claims_of_tokens_that_expire_at_any_time(machine):
+    """One that expires too late stops no other one of its call."""
+    with store_of(machine) as store:
+        put(store, claim(1))
+        these = [claim(2), claim(3)._replace(expires=2**64 - 1), claim(4)._replace(expires=0)]
+        good, late, over = store.put_each(these)
+        assert (good.owner, late.name, over.owner) == (b"o" * 32, "late", b"o" * 32)
+        assert store.put_each(these[1:2])[0].name == "late"
+
+
 def test_a_server_that_lost_its_scripts_gets_them_again(machine):
     with store_of(machine) as store:
         put(store, claim(1))
@@ -242,7 +254,8 @@ def test_a_call_ends_though_the_server_does_not_answer(machine):
 
 
 def test_close_ends_calls(machine):
-    store = store_of(machine)
+    """At once, and not when they would end by themselves."""
+    store = store_of(machine, wait=9 * PATIENCE)
     put(store, claim(1))
     raised = []
 
@@ -362,9 +375,7 @@ def test_who_does_not_reach_the_primary_looks_for_another_one(tmp_path):
     """Also where it has no connection yet whose end would tell that."""
     machines = []
     try:
-        for n in "ab":
-            (tmp_path / n).mkdir()
-            machines.append(Machine(tmp_path / n))
+        machines += [Machine(tmp_path / n) for n in "ab"]
         one, two = machines
         two.client().replicaof("127.0.0.1", "1")
         with unwatched(one.url, two.url) as store:
@@ -377,6 +388,98 @@ def test_who_does_not_reach_the_primary_looks_for_another_one(tmp_path):
     finally:
         for it in machines:
             it.kill()
+
+
+def test_an_address_that_leads_to_another_server(machine, tmp_path):
+    """Who is told that the server is a replica by now connects again."""
+    other, address = Machine(tmp_path / "other"), tmp_path / "address"
+    try:
+        address.symlink_to(machine.socket)
+        with RedisStore(f"unix://{address}", wait=PATIENCE) as store:
+            put(store, claim(1))
+            machine.client().replicaof("127.0.0.1", "1")
+            with pytest.raises(StoreFault, match="it is a replica"):
+                store.put([claim(1)])
+            address.unlink()
+            address.symlink_to(other.socket)
+            assert put(store, claim(1, b"x"))[0].owner == b"x" * 32
+    finally:
+        other.kill()
+
+
+def test_a_cluster_whose_servers_do_not_know_their_names(tmp_path):
+    """They tell no host, which then is the one that was asked."""
+    more = ["--cluster-enabled", "yes", "--cluster-preferred-endpoint-type", "unknown-endpoint"]
+    with held_ports(2) as (port, bus):
+        made = Machine(tmp_path / "one", *more, "--cluster-port", str(bus), port=port)
+    try:
+        made.client().execute_command("CLUSTER ADDSLOTSRANGE", 0, 16383)
+        with RedisStore(f"redis://127.0.0.1:{port}", wait=PATIENCE) as store:
+            assert put(store, claim(1), claim(200))[1].owner == b"o" * 32
+            assert len(store._shards) == 16
+    finally:
+        made.kill()
+
+
+@contextlib.contextmanager
+def held_ports(count):
+    """Ports that nobody else has, for a server that the block starts."""
+    with contextlib.ExitStack() as all:
+        held = [all.enter_context(socket.socket()) for _ in range(count)]
+        for it in held:
+            it.setsockopt(socket.SOL_SOCKET, socket.SO_REUSEADDR, 1)
+            it.bind(("127.0.0.1", 0))
+        yield [it.getsockname()[1] for it in held]
+
+
+@pytest.mark.parametrize("host", ["127.0.0.1", "localhost"])
+def test_a_server_of_another_name(host, tmp_path):
+    """By TLS. Its certificate is good, and that of 127.0.0.1."""
+    authority, context = Authority(), ssl.SSLContext(ssl.PROTOCOL_TLS_SERVER)
+    context.load_cert_chain(authority.server(tmp_path))
+    heard = []
+
+    def serve():
+        with contextlib.suppress(OSError), listening.accept()[0] as bare:
+            with context.wrap_socket(bare, server_side=True) as one:
+                heard.append(one.recv(9))
+
+    with socket.create_server(("127.0.0.1", 0)) as listening:
+        thread = threading.Thread(target=serve, daemon=True)
+        thread.start()
+        port, known = listening.getsockname()[1], authority.pem(tmp_path)
+        url = f"rediss://{host}:{port}?ssl_ca_certs={known}"
+        store = store_of_redis._Servers([url], End())
+        with pytest.raises(StoreFault) as raised:
+            store.is_cluster(time.monotonic() + PATIENCE)
+        thread.join(PATIENCE)
+    is_other = "certificate verify failed" in str(raised.value)
+    assert (is_other, len(heard)) == ((False, 1) if host == "127.0.0.1" else (True, 0))
+
+
+def test_all_answers_of_a_call_have_its_time_together(monkeypatch):
+    """A server may answer one command after the other, each of them in time."""
+    now = [0.0]
+
+    class Slow:
+        _sock = types.SimpleNamespace(settimeout=lambda _: None)
+
+        def connect(self):
+            """Takes no time."""
+
+        pack_commands = send_packed_command = lambda self, it: it
+
+        def read_response(self):
+            now[0] += 0.4
+            return b"OK"
+
+    monkeypatch.setattr(store_of_redis, "time", types.SimpleNamespace(monotonic=lambda: now[0]))
+    at = types.SimpleNamespace(name="slow", connection=lambda _: Slow())
+    one = store_of_redis._Connection(at, End(), 1.0)
+    assert one.call([("PING",)] * 2, 1.0) == [b"OK"] * 2
+    with pytest.raises(StoreFault) as raised:
+        one.call([("PING",)] * 9, now[0] + 1.0)
+    assert raised.value.name == "silent" and now[0] < 3
 
 
 def test_many_calls_share_a_look(monkeypatch):
@@ -425,14 +528,14 @@ def test_members_compare_with_pauses(machine):
         compare, compared = store._compare, []
         store._compare = lambda *given: compared.append(1) or compare(*given)
         put(store, claim(1))
-        assert len(compared) <= 500 / store_of_redis.said.PAUSE + 5
+        assert len(compared) <= 500 / store_of_redis._scripts.PAUSE + 5
 
 
 def test_a_connection_that_is_made_while_it_closes_ends(machine, monkeypatch):
     class Late(store_of_redis._Connection):
         def __init__(self, *given):
             super().__init__(*given)
-            store._end.say()
+            store._end.set()
 
     with unwatched(machine.url) as store:
         put(store, claim(1))
@@ -476,7 +579,7 @@ class Told(GroupStore):
         self.time, self.looks, self.told, self.is_away = 1000, [], [], False
 
     def close(self):
-        self._end.say()
+        self._end.set()
 
     def _look(self, end):
         self.looks.append(time.monotonic())
@@ -524,7 +627,7 @@ def test_a_store_is_looked_at_once_a_second(monkeypatch):
 
 
 def test_each_outage_is_warned_of(monkeypatch, caplog):
-    monkeypatch.setattr("svid._group.said.STATE_EVERY", 10)
+    monkeypatch.setattr("svid._group._statements.STATE_EVERY", 10)
     with Told() as store:
         store._watch()
         for is_away in (True, False, True, False):
@@ -555,7 +658,7 @@ def test_withdrawals_are_heard_though_a_server_is_away():
             self._begin_group(["server"], 1, 2.0, (7200, 120, 60))
 
         def close(self):
-            self._end.say()
+            self._end.set()
 
         def _look(self, end):
             raise StoreFault("silent")

@@ -1,13 +1,9 @@
 """Bundles over sockets: endpoints by a server of Python, a Workload API by gRPC's own server."""
 
-import base64
 import concurrent.futures
 import contextlib
-import datetime
 import http.server
-import ipaddress
 import json
-import os
 import queue
 import ssl
 import threading
@@ -16,72 +12,12 @@ import time
 import grpc
 import pytest
 import svid
-from cryptography import x509
-from cryptography.hazmat.primitives import hashes, serialization
-from cryptography.hazmat.primitives.asymmetric import ec
-from making import NOW, PATIENCE, entry, pem, private_key, token, until, validator
+from making import NOW, PATIENCE, Authority, entry, private_key, token, until, validator
 from svid import _follow, sources
 from test_bundles import ACCEPTED, JWKS, SPIRE, judged, rotation, soon, told
 
 ID = "spiffe://example.org/spire/server"
 GOOD = json.dumps(SPIRE).encode()
-
-
-class Authority:
-    """Signs certificates."""
-
-    def __init__(self, above=None):
-        """above: the authority that signed its certificate; by default it did that itself."""
-        self.key = ec.generate_private_key(ec.SECP256R1())
-        self.name = "root" if above is None else "authority"
-        self.certificate = (above or self).made(self.key, is_authority=True, subject=self.name)
-
-    def made(self, key, *, is_authority=False, uris=(), signs=(), subject=None):
-        """A certificate that it signs. signs: what its owner may sign by the key's usage."""
-
-        def named(text):
-            return x509.Name([x509.NameAttribute(x509.NameOID.COMMON_NAME, text)] if text else [])
-
-        at = datetime.datetime.utcnow()
-        names = [x509.UniformResourceIdentifier(it) for it in uris]
-        names.append(x509.IPAddress(ipaddress.ip_address("127.0.0.1")))
-        usage = {"digital_signature": True, "key_cert_sign": is_authority, "crl_sign": False}
-        others = "content_commitment key_encipherment data_encipherment key_agreement"
-        usage |= dict.fromkeys(others.split(), False) | dict.fromkeys(signs, True)
-        usage |= {"encipher_only": False, "decipher_only": False}
-        builder = (
-            x509.CertificateBuilder()
-            .issuer_name(named(self.name))
-            .subject_name(named(subject))
-            .serial_number(x509.random_serial_number())
-            .public_key(key.public_key())
-            .not_valid_before(at - datetime.timedelta(hours=1))
-            .not_valid_after(at + datetime.timedelta(hours=1))
-            .add_extension(x509.BasicConstraints(is_authority, None), True)
-            .add_extension(x509.KeyUsage(**usage), True)
-            .add_extension(x509.SubjectAlternativeName(names), not is_authority)
-        )
-        return builder.sign(self.key, hashes.SHA256())
-
-    def server(self, folder, *uris, **terms):
-        """The file of a server's key and certificate."""
-        key = ec.generate_private_key(ec.SECP256R1())
-        made = self.made(key, uris=uris, **terms)
-        path = folder / f"{len(os.listdir(folder))}.pem"
-        path.write_bytes(pem(key) + made.public_bytes(serialization.Encoding.PEM))
-        return path
-
-    def pem(self, folder):
-        """Its certificate in a file, behind a comment."""
-        path = folder / f"{len(os.listdir(folder))}.pem"
-        text = self.certificate.public_bytes(serialization.Encoding.PEM)
-        path.write_bytes("# the authority Zoë\n".encode() + text)
-        return path
-
-    def entry(self):
-        """Itself as an entry of a bundle."""
-        der = self.certificate.public_bytes(serialization.Encoding.DER)
-        return {"use": "x509-svid", "kty": "EC", "x5c": [base64.b64encode(der).decode()]}
 
 
 def bundle_of(authority, *entries, **members):
@@ -262,6 +198,15 @@ def test_what_an_endpoint_may_answer(authority, tmp_path, quick, caplog, given, 
             assert served.url in told(caplog)[-1]
             served.status, served.headers, served.text = 200, {}, rotation(1).encode()
             soon(checks, ACCEPTED, token(key=private_key("ES256", 1)))
+
+
+def test_a_server_of_another_name(authority, tmp_path, quick, caplog):
+    """Its certificate is good, and that of another host."""
+    with Served(authority.server(tmp_path)) as served:
+        url = served.url.replace("127.0.0.1", "localhost")
+        with following(svid.Endpoint(url, authorities=authority.pem(tmp_path))) as checks:
+            faulty(checks, caplog, "certificate verify failed")
+            assert served.asked == 0
 
 
 @pytest.mark.parametrize("known", ["the system", "a file", "a bundle"])
