@@ -47,7 +47,7 @@ final class Follower {
     private final Taker taker;
     private final List<Thread> threads = new ArrayList<>();
 
-    /** It guards what follows. */
+    /** It guards {@code held}, {@code faults}, {@code sockets} and {@code isClosing}. */
     private final Object gate = new Object();
     private final Map<String, Held> held = new TreeMap<>(); // by trust domain
     private final Map<String, String> faults = new HashMap<>(); // by source: what was last wrong with it
@@ -349,14 +349,14 @@ final class Follower {
         }
     }
 
-    /** What a source is called behind the name of a trust domain whose bundle it gives. */
+    /** What follows the name of a trust domain in the name of a source: which Workload API gives its bundle. */
     private static String ofApi(String source) {
         return " of " + source;
     }
 
     // -- Bundles
 
-    /** Puts a bundle in the place of the last good one, if it is one. Whether that is another one than before. */
+    /** Replaces the last good bundle of a trust domain. False if it is the same one. */
     private boolean adopt(String domain, Held given) throws IOException {
         synchronized (gate) {
             Held last = held.get(domain);

@@ -42,14 +42,14 @@ final class Journal implements AutoCloseable {
     private final Thread thread;
     private List<byte[]> found = new ArrayList<>();
 
-    /** Held over a snapshot. It guards the next journal, and what says whether one is due. */
+    /** Held over a snapshot. It guards {@code next}, and what {@link #wantsSnapshot} reads. */
     private final Object switching = new Object();
     private volatile boolean wants;
     private volatile long keptLen; // how many bytes the snapshot has
     private volatile long pauseEnd; // until when none is due
     private volatile int next = -1; // the journal that is to grow
 
-    /** Held over a write. It guards the five below. */
+    /** Held over a write. It guards {@code file}, {@code room}, {@code older}, {@code isMarked} and {@code broken}. */
     private final Object writing = new Object();
     private int file = -1; // the journal that grows
     private long room; // its length
@@ -57,7 +57,7 @@ final class Journal implements AutoCloseable {
     private boolean isMarked = true; // its last frame is a mark, or it has none
     private Exception broken; // why nothing is kept any more
 
-    /** It guards the three below. */
+    /** It guards {@code commit}, {@code isSnapshotting} and {@code isClosing}. */
     private final Object gate = new Object();
     private Commit commit; // what the next write takes
     private boolean isSnapshotting; // in the background

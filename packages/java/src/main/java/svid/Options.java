@@ -72,7 +72,7 @@ public final class Options {
         return audiences(Arrays.asList(audiences));
     }
 
-    /** The same, of several audiences. */
+    /** Options of a validator with these audiences, as {@link #audiences(String...)} gives them. */
     public static Options audiences(Collection<String> audiences) {
         if (audiences.isEmpty()) {
             throw new IllegalArgumentException("name an audience: without one, no token is for this service");
@@ -216,9 +216,8 @@ public final class Options {
 
     /**
      * The store of the group. In {@link Mode#STRICT} and {@link Mode#BOUND} it is required (in {@code BOUND} a {@link #state} will do), and
-     * each token is claimed there. In all modes
-     * but
-     * {@code STRICT} its withdrawals are heard of within some two seconds. {@link Validator#withdraw(String)} tells it.
+     * each token is claimed there. In all modes but {@code STRICT} its withdrawals are heard of within some two seconds. {@link
+     * Validator#withdraw(String)} tells it.
      */
     public Options store(Store shared) {
         Options made = new Options(this);
@@ -248,7 +247,7 @@ public final class Options {
         return callers(Arrays.asList(patterns));
     }
 
-    /** The same, of several patterns. */
+    /** Who may call, as {@link #callers(IdPattern...)} says it. */
     public Options callers(Collection<IdPattern> patterns) {
         Options made = new Options(this);
         made.callers = named(patterns);

@@ -60,7 +60,7 @@ final class PostgresMember implements AutoCloseable {
     private String unfit; // why nothing is accepted
 
     /**
-     * What the members agree on, in seconds: the longest time from a claim to an expiry, the margin behind that, and of it the step back.
+     * What the members agree on, in seconds: the longest time from a claim to an expiry, the margin after that, and of it the step back.
      */
     record Terms(long lasts, long margin, long back) {}
 

@@ -11,10 +11,8 @@ import java.util.Objects;
 
 /**
  * The store of a group in PostgreSQL 15 or later, over plain JDBC with the driver of PostgreSQL. It is a member of the same store as svidd
- * with
- * {@code --store postgres://..}: services with this package and sidecars accept a token once together. An administrator makes the store by
- * what
- * {@code svidd schema} prints.
+ * with {@code --store postgres://..}: services with this package and sidecars accept a token once together. An administrator makes the
+ * store by what {@code svidd schema} prints.
  *
  * <p>It looks at the store once a second, by a thread of its own, until {@link #close}. Any number of threads may call it.
  */

@@ -80,7 +80,7 @@ public final class Sources {
     }
 
     /**
-     * The same, by other authorities.
+     * The bundle endpoint of a trust domain, as {@link #web(String, URI)} has it, whose server is known by other authorities.
      *
      * @param authorities a file of certificates as PEM, which is read for each request
      */
@@ -99,7 +99,8 @@ public final class Sources {
     }
 
     /**
-     * The same where the server is one of that trust domain itself, or where its trust domain has no other source.
+     * The bundle endpoint of a trust domain, as {@link #spiffe(String, URI, SpiffeId)} has it, where the server is one of that trust domain
+     * itself, or where its trust domain has no other source.
      *
      * @param first a file with a bundle of the ID's trust domain, which counts until a good bundle of it was read
      */
@@ -125,7 +126,8 @@ public final class Sources {
     }
 
     /**
-     * The same, at the address that the variable SPIFFE_ENDPOINT_SOCKET of the environment has.
+     * The bundles of a Workload API, as {@link #workload(String)} has them, at the address that the variable SPIFFE_ENDPOINT_SOCKET of the
+     * environment has.
      *
      * @throws IllegalArgumentException where it has none
      * @throws IllegalStateException where a package that it needs is not there

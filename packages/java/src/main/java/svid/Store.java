@@ -6,8 +6,7 @@ import java.util.Objects;
 
 /**
  * The store of a group, where validators of the modes {@link Mode#STRICT} and {@link Mode#BOUND} claim tokens, and those of all modes share
- * withdrawals. Write it over the client of your
- * database.
+ * withdrawals. Write it over the client of your database.
  *
  * <p>It keeps the first claim of each token key:
  *

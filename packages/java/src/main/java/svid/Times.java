@@ -30,8 +30,8 @@ final class Times {
 
     /** A time as an instant. What lies after the last one is the last one. */
     static Instant instantOf(long seconds) {
-        boolean isBehind = Long.compareUnsigned(seconds, Instant.MAX.getEpochSecond()) >= 0;
-        return isBehind ? Instant.MAX : Instant.ofEpochSecond(seconds);
+        boolean isTooLate = Long.compareUnsigned(seconds, Instant.MAX.getEpochSecond()) >= 0;
+        return isTooLate ? Instant.MAX : Instant.ofEpochSecond(seconds);
     }
 
     /** An expiry in seconds: the last instant stands for whatever lies after it. */

@@ -53,9 +53,8 @@ final class UnixChannel extends AbstractNioByteChannel {
 
     @Override
     protected boolean doConnect(SocketAddress remote, SocketAddress local) throws IOException {
-        boolean isDone = false;
         try {
-            isDone = socket().connect(remote);
+            boolean isDone = socket().connect(remote);
             if (!isDone) {
                 selectionKey().interestOps(SelectionKey.OP_CONNECT);
             }

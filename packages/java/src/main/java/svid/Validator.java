@@ -22,9 +22,8 @@ import java.util.function.LongSupplier;
  * default each token is accepted once ({@link Options#mode}). Tokens are judged at the record's <i>moment</i>, the greatest time that it
  * has seen, so a clock that is set back makes no expired token good.
  *
- * <p>Each method throws {@link SvidException.Closed} after {@link #close}, {@link SvidException.OutOfMemory}, and, where it looks at the
- * clock,
- * {@link SvidException.Jump} and {@link SvidException.NoClock}. Whatever a check throws, the token was not let in.
+ * <p>Each method throws {@link SvidException.Closed} after {@link #close}, and {@link SvidException.OutOfMemory}. One that looks at the
+ * clock also throws {@link SvidException.Jump} and {@link SvidException.NoClock}. Whatever a check throws, the token was not let in.
  */
 public final class Validator implements AutoCloseable {
     private static final Cleaner CLEANER = Cleaner.create();
@@ -44,11 +43,11 @@ public final class Validator implements AutoCloseable {
     /**
      * Opens a validator with an empty record. To go on with a saved one, {@link #take} it.
      *
-     * @param bundles the keys of each trust domain as JSON: an object from trust domain names to JWK sets, such as
-     *     <code>{"example.org": {"keys": [..]}}</code>
      * <p>With a store it waits until the store answers, but no longer than {@link Options#wait(java.time.Duration)}. It opens the validator
      * all the same, which then accepts tokens once the store is there.
      *
+     * @param bundles the keys of each trust domain as JSON: an object from trust domain names to JWK sets, such as
+     *     <code>{"example.org": {"keys": [..]}}</code>
      * @throws SvidException.BadBundles where the bundles can't be read
      * @throws SvidException.TooMuch where they are too long
      * @throws SvidException.Held where another process has the state folder
@@ -60,6 +59,11 @@ public final class Validator implements AutoCloseable {
      */
     public static Validator open(Options options, byte[] bundles) {
         return open(options, bundles, null);
+    }
+
+    /** Opens a validator as {@link #open(Options, byte[])} does, with the bundles as a text. */
+    public static Validator open(Options options, String bundles) {
+        return open(options, Options.utf8("the bundles", bundles));
     }
 
     /**
@@ -112,11 +116,6 @@ public final class Validator implements AutoCloseable {
         }
     }
 
-    /** The same, with the bundles as a text. */
-    public static Validator open(Options options, String bundles) {
-        return open(options, Options.utf8("the bundles", bundles));
-    }
-
     /**
      * Accepts a token, as often as {@link Options#mode} says: by default once, and the record gains its use.
      *
@@ -161,11 +160,12 @@ public final class Validator implements AutoCloseable {
     }
 
     private Admission checked(LongSupplier clock, String token, byte[] caller) throws Refusal {
-        if (caller == null == (options.mode() == Mode.BOUND)) {
+        boolean hasCaller = caller != null;
+        if (hasCaller != (options.mode() == Mode.BOUND)) {
             throw new IllegalArgumentException("give a caller in the mode BOUND, and in no other one");
         }
         try {
-            return member.check(token.getBytes(StandardCharsets.UTF_8), clock, caller == null ? null : digest(caller));
+            return member.check(token.getBytes(StandardCharsets.UTF_8), clock, hasCaller ? digest(caller) : null);
         } finally {
             Reference.reachabilityFence(this);
         }
@@ -213,7 +213,7 @@ public final class Validator implements AutoCloseable {
     }
 
     /**
-     * The same in {@link Mode#BOUND}, as {@link #check(String, byte[])} does.
+     * Accepts the one bearer token of a request in {@link Mode#BOUND}, as {@link #check(String, byte[])} does.
      *
      * @param caller bytes that tell who presents the token, as its address or its certificate
      * @throws Denied with the answer that is due: of a good token {@link Denied.NotAllowed}
@@ -225,8 +225,8 @@ public final class Validator implements AutoCloseable {
     }
 
     /**
-     * The same, where only some may call. The token of another caller is judged, and not used up. If the same may call in all requests, say
-     * that by {@link Options#callers(IdPattern...)} instead.
+     * Accepts the one bearer token of a request where only some may call. The token of another caller is judged, and not used up. If the
+     * same may call in all requests, say that by {@link Options#callers(IdPattern...)} instead.
      *
      * @param callers patterns of the IDs that may call; no pattern lets nobody in
      * @throws Denied with the answer that is due: of a good token {@link Denied.NotAllowed}
@@ -237,7 +237,9 @@ public final class Validator implements AutoCloseable {
         return admit(values, Objects.requireNonNull(callers), null);
     }
 
-    /** The same, for all callers where there is no list, and without a caller where that does not count. */
+    /**
+     * Accepts the one bearer token of a request, for all callers where there is no list, and without a caller where that does not count.
+     */
     Admission admit(List<String> values, Collection<IdPattern> callers, byte[] caller) throws Denied {
         try {
             return admitted(bearer(values), callers, caller);
@@ -451,15 +453,14 @@ public final class Validator implements AutoCloseable {
         }
     }
 
-    /** The same, with the bundles as a text. */
+    /** Replaces the bundles as {@link #renew(byte[])} does, by a text. */
     public void renew(String bundles) {
         renew(Options.utf8("the bundles", bundles));
     }
 
     /**
      * Frees the record and the bundles. It waits for calls of the library by other threads, and for what is on its way to the disk. Threads
-     * that wait for an answer get
-     * {@link SvidException.Closed}. Closing twice does nothing.
+     * that wait for an answer get {@link SvidException.Closed}. Closing twice does nothing.
      */
     @Override
     public void close() {

@@ -171,12 +171,16 @@ final class Workload implements Closeable {
 
     private static IOException fault(StatusRuntimeException why) {
         String said = why.getMessage();
-        return switch (why.getStatus().getCode()) {
-            case INVALID_ARGUMENT -> new ForGood("it refuses the call itself: " + said, why);
-            case PERMISSION_DENIED -> new IOException("it has no identity for this process: register it as a workload: " + said, why);
-            case UNAVAILABLE -> new IOException(why.getCause() == null ? said : why.getCause().getMessage(), why);
-                default -> new IOException(said, why);
-        };
+        switch (why.getStatus().getCode()) {
+            case INVALID_ARGUMENT:
+                return new ForGood("it refuses the call itself: " + said, why);
+            case PERMISSION_DENIED:
+                return new IOException("it has no identity for this process: register it as a workload: " + said, why);
+            case UNAVAILABLE:
+                return new IOException(why.getCause() == null ? said : why.getCause().getMessage(), why);
+            default:
+                return new IOException(said, why);
+        }
     }
 
     private void isSilent() {

@@ -15,6 +15,7 @@ import java.nio.file.Files;
 import java.nio.file.Path;
 import java.time.Duration;
 import java.time.Instant;
+import java.util.ArrayList;
 import java.util.List;
 import java.util.Map;
 import java.util.concurrent.Callable;
@@ -34,6 +35,8 @@ public class LeakTest {
     private static final int LIVES = 1000;
     /** So many lives open sockets, or wait for a look at files. */
     private static final int FEW = 20;
+    /** So many lives show the same tokens. */
+    private static final int ALIKE = 50;
     /** So many bytes of the heap a life may leave: the JVM itself learns while it runs. What a life could leave has more. */
     private static final int MOST = 200;
 
@@ -117,6 +120,22 @@ public class LeakTest {
         becomes("allocations of the library", allocations, LeakTest::allocations);
     }
 
+    /** What a life shows to its validator: a good token, one that it withdraws, and one with a bad signature. */
+    private record Tokens(String good, String withdrawn, String bad) {}
+
+    /** Those of each start of a life. Lives have records of their own, so that some share them: to sign takes long. */
+    private final List<Tokens> tokens = new ArrayList<>();
+
+    private Tokens tokens(int number, int start) {
+        if (number % ALIKE == 0 && start == 0) {
+            tokens.clear();
+        }
+        while (tokens.size() <= start) {
+            tokens.add(new Tokens(token(), token(), issuer.wrong(Issuer.Wrong.SIGNATURE, "/a", "ledger")));
+        }
+        return tokens.get(start);
+    }
+
     private String token() {
         return issuer.token("/a", "ledger");
     }
@@ -126,8 +145,8 @@ public class LeakTest {
     }
 
     /** Makes each public call. */
-    private void use(Validator validator, Mode mode) throws Exception {
-        String token = token();
+    private static void use(Validator validator, Mode mode, Tokens tokens) throws Exception {
+        String token = tokens.good;
         Admission admission = checked(validator, mode, token);
         admission.claims();
         if (mode == Mode.ONCE || mode == Mode.STRICT) {
@@ -135,11 +154,10 @@ public class LeakTest {
         } else {
             checked(validator, mode, token);
         }
-        String other = token();
-        validator.judge(other);
-        validator.withdraw(other);
-        assertThrows(Refusal.class, () -> checked(validator, mode, other));
-        assertThrows(Refusal.class, () -> checked(validator, mode, issuer.wrong(Issuer.Wrong.SIGNATURE, "/a", "ledger")));
+        validator.judge(tokens.withdrawn);
+        validator.withdraw(tokens.withdrawn);
+        assertThrows(Refusal.class, () -> checked(validator, mode, tokens.withdrawn));
+        assertThrows(Refusal.class, () -> checked(validator, mode, tokens.bad));
         assertThrows(Refusal.class, () -> validator.judge("no token"));
         assertThrows(Denied.class, () -> validator.admit(List.of("Basic a")));
         Validator.says(token);
@@ -170,7 +188,7 @@ public class LeakTest {
             boolean hasStore = mode.hasStore() || number % 8 < 4;
             Validator closed;
             try (Validator validator = Validator.open(hasStore ? options.store(new MemoryStore()) : options, issuer.bundles())) {
-                use(validator, mode);
+                use(validator, mode, tokens(number, 0));
                 renew(validator, issuer.bundles());
                 closed = validator;
             }
@@ -187,7 +205,7 @@ public class LeakTest {
             Path folder = room.resolve("state" + number);
             for (int start = 0; start < 2; start++) {
                 try (Validator validator = Validator.open(options(mode).state(folder), issuer.bundles())) {
-                    use(validator, mode);
+                    use(validator, mode, tokens(number, start));
                     assertThrows(SvidException.Held.class, () -> Validator.open(options(mode).state(folder), issuer.bundles()));
                 }
             }
@@ -213,7 +231,7 @@ public class LeakTest {
         leavesNothing(LIVES / 5, number -> {
             Options options = options(Mode.STRICT).store(none).wait(Duration.ofMillis(10));
             try (Validator validator = Validator.open(options, issuer.bundles())) {
-                assertThrows(SvidException.Unavailable.class, () -> validator.check(token()));
+                assertThrows(SvidException.Unavailable.class, () -> validator.check(tokens(number, 0).good));
             }
         });
     }
@@ -224,7 +242,7 @@ public class LeakTest {
         leavesNothing(LIVES / 5, number -> {
             Path folder = room.resolve("state" + number);
             Validator validator = Validator.open(options(Mode.ONCE).state(folder), issuer.bundles());
-            validator.check(token());
+            validator.check(tokens(number, 0).good);
         });
     }
 
@@ -237,11 +255,11 @@ public class LeakTest {
             leavesNothing(FEW, number -> {
                 Files.write(file, issuer.bundle());
                 try (Validator validator = Validator.open(options(Mode.ONCE), Sources.file("example.org", file))) {
-                    use(validator, Mode.ONCE);
+                    use(validator, Mode.ONCE, tokens(number, 0));
                 }
                 try (Validator validator = Validator.open(options(Mode.ONCE), Sources.workload(agent.address))) {
                     until(validator::isReady);
-                    use(validator, Mode.ONCE);
+                    use(validator, Mode.ONCE, tokens(number, 0));
                 }
                 for (String it : List.of("unix://" + room.resolve("none.sock"), "tcp://127.0.0.1:1")) {
                     try (Workload stream = new Workload(it, 1000, Workload.IDLE)) {

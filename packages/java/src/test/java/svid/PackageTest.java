@@ -44,9 +44,11 @@ public class PackageTest {
 
     private static Path jar;
 
+    /** packages/java/test has built it. */
     @BeforeClass
     public static void build() throws Exception {
-        jar = built("first");
+        String given = System.getProperty("svid.jar");
+        jar = given == null ? built("first") : Path.of(given);
     }
 
     private static Path built(String name) throws Exception {

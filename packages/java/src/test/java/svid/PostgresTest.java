@@ -8,6 +8,9 @@ import static org.junit.Assert.assertTrue;
 import java.io.BufferedReader;
 import java.io.File;
 import java.io.IOException;
+import java.io.InputStream;
+import java.io.OutputStream;
+import java.io.UncheckedIOException;
 import java.nio.charset.StandardCharsets;
 import java.nio.file.Files;
 import java.nio.file.Path;
@@ -116,14 +119,25 @@ public class PostgresTest {
         return found[0];
     }
 
-    /** Runs tests of go/claims/postgres over the client. */
+    /** Runs tests of go/claims/postgres over the client. Its process only hands calls to this one, and answers back. */
     private static void runs(String tests) throws Exception {
         Path out = room.resolve("out");
         ProcessBuilder words = new ProcessBuilder(binary(), "-test.v", "-test.timeout", "50m", "-test.run", "^(" + tests + ")$");
-        String java = Path.of(System.getProperty("java.home"), "bin/java").toString();
-        words.environment().put("SVID_STORE_CLIENT",
-                java + " -Dsvid.library=" + System.getProperty("svid.library") + " -cp " + System.getProperty("java.class.path")
-                        + " svid.StoreClient");
+        Path folder = Files.createTempDirectory(room, "client");
+        Path calls = folder.resolve("calls");
+        Path answers = folder.resolve("answers");
+        HeaderTest.ran("mkfifo", calls.toString(), answers.toString());
+        Path client = Files.writeString(folder.resolve("client"), "cat '" + answers + "' & exec cat >'" + calls + "'\n");
+        words.environment().put("SVID_STORE_CLIENT", "/bin/bash " + client);
+        Thread serving = new Thread(() -> {
+            try (InputStream in = Files.newInputStream(calls); OutputStream to = Files.newOutputStream(answers)) {
+                StoreClient.serve(in, to);
+            } catch (IOException why) {
+                throw new UncheckedIOException(why);
+            }
+        });
+        serving.setDaemon(true);
+        serving.start();
         words.environment().put("TMPDIR", "/tmp");
         words.directory(GO.resolve("claims/postgres").toFile()).redirectErrorStream(true).redirectOutput(out.toFile());
         int status = words.start().waitFor();
@@ -131,6 +145,8 @@ public class PostgresTest {
         Matcher passed = Pattern.compile("^--- PASS: ", Pattern.MULTILINE).matcher(all);
         assertEquals(all.substring(Math.max(0, all.length() - 8000)), 0, status);
         assertEquals(tests.split("\\|").length, (int) passed.results().count());
+        serving.join(1000 * Making.PATIENCE);
+        assertFalse("the client has not ended", serving.isAlive());
     }
 
     @Test

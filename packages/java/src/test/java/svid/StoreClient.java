@@ -1,7 +1,10 @@
 package svid;
 
 import java.io.BufferedReader;
+import java.io.IOException;
+import java.io.InputStream;
 import java.io.InputStreamReader;
+import java.io.OutputStream;
 import java.io.PrintStream;
 import java.net.URI;
 import java.nio.charset.StandardCharsets;
@@ -18,8 +21,8 @@ import java.util.concurrent.Executors;
 /**
  * Makes calls of a member of a store in PostgreSQL for the tests of go/claims/postgres, which run over each client.
  *
- * <p>A line of standard input is a call: its number, the name, the store, and what it takes. A line of standard output is the answer: the
- * number, and what it returns, or {@code fault NAME TEXT}.
+ * <p>A call is a line: its number, the name, the store, and what it takes. So is an answer: the number, and what it returns, or
+ * {@code fault NAME TEXT}.
  */
 public final class StoreClient {
     private static final HexFormat HEX = HexFormat.of();
@@ -32,23 +35,24 @@ public final class StoreClient {
             List.of("this user may not", "the group's store ", "the server of the group's store", "the owner of");
 
     private final Map<String, PostgresMember> stores = new ConcurrentHashMap<>();
-    private final PrintStream out = new PrintStream(System.out, true, StandardCharsets.UTF_8);
+    private final PrintStream out;
 
-    private StoreClient() {}
+    private StoreClient(OutputStream out) {
+        this.out = new PrintStream(out, true, StandardCharsets.UTF_8);
+    }
 
-    /** Answers calls until the input ends. */
-    public static void main(String[] words) throws Exception {
-        StoreClient client = new StoreClient();
-        ExecutorService threads = Executors.newCachedThreadPool(work -> {
-            Thread thread = new Thread(work);
-            thread.setDaemon(true);
-            return thread;
-        });
-        try (BufferedReader in = new BufferedReader(new InputStreamReader(System.in, StandardCharsets.UTF_8))) {
+    /** Answers calls until they end. */
+    static void serve(InputStream calls, OutputStream answers) throws IOException {
+        StoreClient client = new StoreClient(answers);
+        ExecutorService threads = Executors.newCachedThreadPool();
+        try (BufferedReader in = new BufferedReader(new InputStreamReader(calls, StandardCharsets.UTF_8))) {
             for (String line = in.readLine(); line != null; line = in.readLine()) {
                 String[] call = line.split(" ");
                 threads.execute(() -> client.answer(call));
             }
+        } finally {
+            client.stores.values().forEach(PostgresMember::close);
+            threads.shutdownNow();
         }
     }
 
@@ -156,7 +160,9 @@ public final class StoreClient {
         }
         String[] user = String.valueOf(from.getRawUserInfo()).split(":", 2);
         to.append("user=").append(user[0]);
-        return user.length == 1 ? to.toString() :
-                to.append("&password=").append(user[1]).toString();
+        if (user.length > 1) {
+            to.append("&password=").append(user[1]);
         }
+        return to.toString();
     }
+}

@@ -81,7 +81,7 @@ public final class Issuer {
         return json(Map.of("keys", keys.stream().map(Issuer::jwk).toList(), "spiffe_refresh_hint", 60));
     }
 
-    /** The same, as {@link svid.Validator#open(svid.Options, byte[])} takes it. */
+    /** The bundle with the name of its trust domain, as {@link svid.Validator#open(svid.Options, byte[])} takes it. */
     public byte[] bundles() {
         String bundle = new String(bundle(), StandardCharsets.UTF_8);
         return ("{\"" + trustDomain + "\":" + bundle + "}").getBytes(StandardCharsets.UTF_8);
@@ -106,25 +106,14 @@ public final class Issuer {
         Map<String, Object> claims = new LinkedHashMap<>(Map.of("aud", List.of(audience)));
         Key by = newest();
         switch (how) {
-            case EXPIRED:
-                claims.put("exp", now - 1);
-                break;
-            case NOT_YET:
-                claims.put("nbf", now + LIFE.toSeconds() / 2);
-                claims.put("exp", now + LIFE.toSeconds());
-
-                break;
-            case AUDIENCE:
-                claims.put("aud", List.of("not " + audience));
-                break;
-            case SIGNATURE:
-                by = new Key(by.id, key().pair);
-                break;
-            case KEY:
-                by = key();
-                break;
-            default:
+            case EXPIRED -> claims.put("exp", now - 1);
+            case NOT_YET -> claims.put("nbf", now + LIFE.toSeconds() / 2);
+            case AUDIENCE -> claims.put("aud", List.of("not " + audience));
+            case SIGNATURE -> by = new Key(by.id, key().pair);
+            case KEY -> by = key();
+            case MALFORMED -> {
                 return "no token";
+            }
         }
         return token(by, path, claims);
     }
