@@ -418,6 +418,51 @@ func TestAStreamIsMadeAnew(t *testing.T) {
 	}
 }
 
+// Each thing that a server may say of the streams, and that tells of a loss, is seen: of claims and of withdrawals.
+func TestWhatTellsOfALoss(t *testing.T) {
+	t.Parallel()
+	a := open(t, newMachine(t), claimstest.Options{Name: "tells", Terms: claimstest.Usual})
+	c := one(1)
+	for n := 0; n < 2; n++ {
+		claimstest.Put(t, a, one(1))
+		claimstest.Withdraw(t, a, claims.Withdrawal{Key: claimstest.Key(), Expires: c.Expires})
+	}
+	claimstest.Put(t, a, c)
+	claimstest.State(t, a)
+	good, err := a.examine(patient(t), a.known.Load())
+	if err != nil || good.lost != "" || good.last == 0 || good.lastWithdrawal == 0 || good.own.position == 0 {
+		t.Fatalf("%+v, %v", good, err)
+	}
+	rows := map[string]func(x *exam){
+		"nothing":         nil,
+		"an earlier time": func(x *exam) { x.now = a.time.Load() - int64(seconds(x.is.Back+1)) },
+		"before it began": func(x *exam) { x.is.Began = x.now + int64(seconds(x.is.Back+1)) },
+		"the own claim":   func(x *exam) { x.own.position++ },
+		"its owner":       func(x *exam) { x.own.claim.Owner[0]++ },
+	}
+	for k, name := range map[kind]string{ofClaims: "claims", ofWithdrawals: "withdrawals"} {
+		k := k
+		rows["another stream of "+name] = func(x *exam) { x.all[k].Created = x.all[k].Created.Add(1) }
+		rows["the last of the "+name] = func(x *exam) { x.all[k].State.Last-- }
+		rows["the first of the "+name] = func(x *exam) { x.all[k].State.First++ }
+		rows["one of the "+name] = func(x *exam) { x.all[k].State.Deleted++ }
+	}
+	for name, change := range rows {
+		x := good
+		for i, info := range good.all {
+			copied := *info
+			x.all[i] = &copied
+		}
+		is := *good.is
+		if x.is = &is; change != nil {
+			change(&x)
+		}
+		if lost, err := a.missed(patient(t), x); err != nil || (lost == "") != (change == nil) {
+			t.Errorf("%s: %q, %v", name, lost, err)
+		}
+	}
+}
+
 // A server that lost the last claims with its power, or all, ends the epoch before anybody accepts one of them.
 func TestALostTail(t *testing.T) {
 	t.Parallel()

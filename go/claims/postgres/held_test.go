@@ -61,6 +61,11 @@ func TestAClaimThatIsNotCommitted(t *testing.T) {
 	if f := claimstest.Try(a, patience.Long, held)[0]; f.Err == nil || !claimstest.OfOthers() && !errors.Is(f.Err, errHeld) {
 		t.Errorf("%+v", f)
 	}
+	patient, cancel := context.WithTimeout(context.Background(), patience.Long)
+	defer cancel()
+	if _, err := a.Withdraw(patient, claims.Withdrawal{Key: held.Key, Expires: held.Expires}); err == nil || !claimstest.OfOthers() && !errors.Is(err, errHeld) {
+		t.Errorf("a withdrawal: %v", err)
+	}
 	begun.Rollback()
 	mine(t, a, held)
 }
