@@ -1,8 +1,10 @@
 package nats
 
 import (
+	"bufio"
 	"bytes"
 	"context"
+	"crypto/rand"
 	"encoding/json"
 	"errors"
 	"fmt"
@@ -415,6 +417,33 @@ func TestAStreamIsMadeAnew(t *testing.T) {
 			}
 			haveEnded(t, m, o, before, a, b)
 		}
+	}
+}
+
+// A reads is a reader that is a function.
+type reads func(b []byte) (int, error)
+
+func (r reads) Read(b []byte) (int, error) { return r(b) }
+
+// If the server comes into doubt while a claim is on its way, an older copy may have taken that: it is looked at before the claim is answered.
+func TestADoubtWhileAClaimIsOnItsWay(t *testing.T) {
+	t.Parallel()
+	a := open(t, newMachine(t), claimstest.Options{Name: "doubt", Terms: claimstest.Usual})
+	claimstest.Put(t, a, one(1))
+	doubted := uint64(0)
+	a.mu.Lock()
+	a.random = bufio.NewReaderSize(reads(func(b []byte) (int, error) { // (each question takes some bytes)
+		if doubted == 0 {
+			a.doubt()
+			doubted = a.doubts.Load()
+		}
+		return rand.Read(b)
+	}), 16)
+	a.mu.Unlock()
+	c := one(1)
+	wantOwner(t, claimstest.Put(t, a, c)[0], c.Owner)
+	if settled := a.settled.Load(); doubted == 0 || settled < doubted {
+		t.Errorf("answered by a server that was looked at before doubt %d, and not behind %d", settled, doubted)
 	}
 }
 
