@@ -627,8 +627,10 @@ func (s *suite) withdrawals(t *testing.T) {
 			t.Fatalf("%v behind %q", more, last)
 		}
 	}
-	if again, _ := Withdrawals(t, a, "no position"); !has(again, first) || !has(again, late) || !has(again, third) {
-		t.Fatalf("%v", again)
+	for _, position := range []string{"no position", last + "0"} { // (the second one is behind the end, as of a store that has lost its last ones)
+		if again, _ := Withdrawals(t, a, position); !has(again, first) || !has(again, late) || !has(again, third) {
+			t.Fatalf("%v behind %q", again, position)
+		}
 	}
 }
 

@@ -1,8 +1,10 @@
 package nats
 
 import (
+	"bufio"
 	"bytes"
 	"context"
+	"crypto/rand"
 	"encoding/json"
 	"errors"
 	"fmt"
@@ -414,6 +416,78 @@ func TestAStreamIsMadeAnew(t *testing.T) {
 				continue // (the clock has no entries)
 			}
 			haveEnded(t, m, o, before, a, b)
+		}
+	}
+}
+
+// A reads is a reader that is a function.
+type reads func(b []byte) (int, error)
+
+func (r reads) Read(b []byte) (int, error) { return r(b) }
+
+// If the server comes into doubt while a claim is on its way, an older copy may have taken that: it is looked at before the claim is answered.
+func TestADoubtWhileAClaimIsOnItsWay(t *testing.T) {
+	t.Parallel()
+	a := open(t, newMachine(t), claimstest.Options{Name: "doubt", Terms: claimstest.Usual})
+	claimstest.Put(t, a, one(1))
+	doubted := uint64(0)
+	a.mu.Lock()
+	a.random = bufio.NewReaderSize(reads(func(b []byte) (int, error) { // (each question takes some bytes)
+		if doubted == 0 {
+			a.doubt()
+			doubted = a.doubts.Load()
+		}
+		return rand.Read(b)
+	}), 16)
+	a.mu.Unlock()
+	c := one(1)
+	wantOwner(t, claimstest.Put(t, a, c)[0], c.Owner)
+	if settled := a.settled.Load(); doubted == 0 || settled < doubted {
+		t.Errorf("answered by a server that was looked at before doubt %d, and not behind %d", settled, doubted)
+	}
+}
+
+// Each thing that a server may say of the streams, and that tells of a loss, is seen: of claims and of withdrawals.
+func TestWhatTellsOfALoss(t *testing.T) {
+	t.Parallel()
+	a := open(t, newMachine(t), claimstest.Options{Name: "tells", Terms: claimstest.Usual})
+	c := one(1)
+	for n := 0; n < 2; n++ {
+		claimstest.Put(t, a, one(1))
+		claimstest.Withdraw(t, a, claims.Withdrawal{Key: claimstest.Key(), Expires: c.Expires})
+	}
+	claimstest.Put(t, a, c)
+	claimstest.State(t, a)
+	good, err := a.examine(patient(t), a.known.Load())
+	if err != nil || good.lost != "" || good.last == 0 || good.lastWithdrawal == 0 || good.own.position == 0 {
+		t.Fatalf("%+v, %v", good, err)
+	}
+	rows := map[string]func(x *exam){
+		"nothing":         nil,
+		"an earlier time": func(x *exam) { x.now = a.time.Load() - int64(seconds(x.is.Back+1)) },
+		"before it began": func(x *exam) { x.is.Began = x.now + int64(seconds(x.is.Back+1)) },
+		"the own claim":   func(x *exam) { x.own.position++ },
+		"its owner":       func(x *exam) { x.own.claim.Owner[0]++ },
+	}
+	for k, name := range map[kind]string{ofClaims: "claims", ofWithdrawals: "withdrawals"} {
+		k := k
+		rows["another stream of "+name] = func(x *exam) { x.all[k].Created = x.all[k].Created.Add(1) }
+		rows["the last of the "+name] = func(x *exam) { x.all[k].State.Last-- }
+		rows["the first of the "+name] = func(x *exam) { x.all[k].State.First++ }
+		rows["one of the "+name] = func(x *exam) { x.all[k].State.Deleted++ }
+	}
+	for name, change := range rows {
+		x := good
+		for i, info := range good.all {
+			copied := *info
+			x.all[i] = &copied
+		}
+		is := *good.is
+		if x.is = &is; change != nil {
+			change(&x)
+		}
+		if lost, err := a.missed(patient(t), x); err != nil || (lost == "") != (change == nil) {
+			t.Errorf("%s: %q, %v", name, lost, err)
 		}
 	}
 }

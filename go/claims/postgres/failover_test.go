@@ -297,11 +297,20 @@ func TestWhatIsGivenUpEndsAtTheServer(t *testing.T) {
 	s.do(t, "SELECT pg_reload_conf()")
 	a := open(t, Options{URLs: []string{s.URL}, Name: "svid"})
 	standby.Postgres.Pause()
-	for again := 0; again < 20; again++ {
+	again := 0
+	logtest.Await(t, "calls that wait for the standby", func() bool {
+		again++
 		these := []claims.Claim{claim(1), claim(1)}
 		if f := claimstest.Try(a, 30*time.Millisecond, these[again%2:]...)[0]; f.Err == nil {
 			t.Fatalf("answered, and no standby has it: %+v", f)
 		}
+		return again >= 20 && (claimstest.OfOthers() || // (they look meanwhile)
+			s.Do(`DO $$ BEGIN ASSERT (SELECT count(*) FROM pg_stat_activity WHERE wait_event = 'SyncRep') >= 8; END $$`) == nil)
+	})
+	ended, end := context.WithCancel(context.Background())
+	end()
+	for n := 0; n < 20; n++ {
+		a.State(ended) // (What could not be ended now is to be ended later.)
 	}
 	logtest.Await(t, "the processes to end", func() bool {
 		claimstest.Try(a, 30*time.Millisecond, claim(1))

@@ -1,7 +1,9 @@
 package postgres
 
 import (
+	"context"
 	"database/sql"
+	"errors"
 	"testing"
 	"time"
 
@@ -10,6 +12,7 @@ import (
 	"svid.example/go/v3/claims"
 	"svid.example/go/v3/claims/claimstest"
 	"svid.example/go/v3/internal/logtest"
+	"svid.example/go/v3/internal/patience"
 )
 
 // A member that claims a token and does not commit that holds up nobody who claims another one, also in a call that has both.
@@ -54,6 +57,40 @@ func TestAClaimThatIsNotCommitted(t *testing.T) {
 		}
 		return failed == 0
 	})
+	// (nor is its own call held up, which holds up others: so many may be under way)
+	if f := claimstest.Try(a, patience.Long, held)[0]; f.Err == nil || !claimstest.OfOthers() && !errors.Is(f.Err, errHeld) {
+		t.Errorf("%+v", f)
+	}
+	patient, cancel := context.WithTimeout(context.Background(), patience.Long)
+	defer cancel()
+	if _, err := a.Withdraw(patient, claims.Withdrawal{Key: held.Key, Expires: held.Expires}); err == nil || !claimstest.OfOthers() && !errors.Is(err, errHeld) {
+		t.Errorf("a withdrawal: %v", err)
+	}
 	begun.Rollback()
 	mine(t, a, held)
+}
+
+// A context that ends just as its answer comes ends no later call on that connection.
+func TestAContextThatEndsWithItsAnswer(t *testing.T) {
+	t.Parallel()
+	s := start(t)
+	patient, cancel := context.WithTimeout(context.Background(), patience.Long)
+	defer cancel()
+	c, err := dial(patient, s.URL)
+	if err != nil {
+		t.Fatal(err)
+	}
+	defer c.close()
+	for n := 0; n < 500; n++ {
+		ctx, cancel := context.WithCancel(context.Background())
+		end, err := c.within(ctx)
+		if err != nil {
+			t.Fatal(err)
+		}
+		cancel()
+		end()
+		if _, err := c.query(context.Background(), "SELECT 1"); err != nil {
+			t.Fatalf("call %d: %v", n, err)
+		}
+	}
 }

@@ -335,8 +335,10 @@ func TestPasswords(t *testing.T) {
 	s := start(t)
 	s.do(t, "CONFIG", "SET", "requirepass", "sesame")
 	file := t.TempDir() + "/password"
-	if err := os.WriteFile(file, []byte("sesame\n"), 0o600); err != nil {
-		t.Fatal(err)
+	for ending, text := range map[string]string{"": "sesame\n", ".crlf": "sesame\r\nmore\r\n", ".bare": "sesame"} {
+		if err := os.WriteFile(file+ending, []byte(text), 0o600); err != nil {
+			t.Fatal(err)
+		}
 	}
 	for name, row := range map[string]struct {
 		url, variable string
@@ -345,6 +347,8 @@ func TestPasswords(t *testing.T) {
 		"none":        {s.URL, "", false},
 		"url":         {strings.Replace(s.URL, "redis://", "redis://:sesame@", 1), "", true},
 		"file":        {s.URL + "?password_file=" + file, "", true},
+		"file, CR LF": {s.URL + "?password_file=" + file + ".crlf", "", true},
+		"bare file":   {s.URL + "?password_file=" + file + ".bare", "", true},
 		"environment": {s.URL, "sesame", true},
 	} {
 		if claimstest.OfOthers() && row.variable != "" {

@@ -584,6 +584,28 @@ func TestLateAnswers(t *testing.T) {
 	stays(t, before, a, b)
 }
 
+// A context that ends behind its answer ends no later call on that connection.
+func TestAContextThatEndsLater(t *testing.T) {
+	t.Parallel()
+	s := start(t)
+	a := openedOwn(t, Options{URLs: []string{s.URL}})
+	c, err := a.connection(limited(t), a.shards[0])
+	if err != nil {
+		t.Fatal(err)
+	}
+	defer a.give(c)
+	for n := 0; n < 3; n++ {
+		ctx, cancel := context.WithCancel(context.Background())
+		if _, err := c.do(ctx, cmd("TIME")); err != nil {
+			t.Fatal(err)
+		}
+		cancel()
+		if _, err := c.do(context.Background(), cmd("BLPOP", "none", 3*lookEvery.Seconds())); err != nil { // (in which the end would be seen)
+			t.Fatalf("call %d: %v", n, err)
+		}
+	}
+}
+
 // A server with replicas that is killed and started again keeps all, over and over.
 func TestKilledOverAndOver(t *testing.T) {
 	t.Parallel()
