@@ -27,6 +27,38 @@ func TestTheLogHasItsLevels(t *testing.T) {
 	none.Event("nothing")
 }
 
+// A log of errors alone has the tokens that could not be judged. One of decisions has the others too, which are no errors.
+func TestWhichDecisionsAreErrors(t *testing.T) {
+	for event, row := range map[string]struct {
+		o     Options
+		token string
+		level string
+	}{
+		"accepted":              {Options{Mode: Reuse}, token("a"), "info"},
+		"refused NotAllowed":    {Options{Mode: Reuse, Allow: []string{"spiffe://example.org/other"}}, token("a"), "info"},
+		"refused Expired":       {Options{Mode: Reuse, Now: func() uint64 { return moment + 600 }}, token("a"), "info"},
+		"refused NotThreeParts": {Options{Mode: Reuse}, "a.b", "info"},
+		"unavailable":           {Options{Mode: Once, Journal: &disk{fault: errors.New("no space left on device")}}, token("a"), "error"},
+	} {
+		for level, lines := range map[Level]int{Errors: map[string]int{"info": 0, "error": 1}[row.level], Decisions: 1} {
+			var out bytes.Buffer
+			o := row.o
+			o.Log = NewLog(&out, level)
+			request(ready(t, engine(t, o)).Handler(), "GET", "/check", "Bearer "+row.token)
+			words := strings.Fields(event)
+			if n := strings.Count(out.String(), "\n"); n != lines {
+				t.Errorf("%s: %d lines, and %d are due: %s", event, n, lines, &out)
+			}
+			if lines > 0 && !strings.Contains(out.String(), `"level":"`+row.level+`","event":"`+words[0]+`"`) {
+				t.Errorf("%s: %s", event, &out)
+			}
+			if lines > 0 && len(words) > 1 && !strings.Contains(out.String(), `"reason":"`+words[1]+`"`) {
+				t.Errorf("%s: %s", event, &out)
+			}
+		}
+	}
+}
+
 func TestTheStandardLoggersLinesAreErrors(t *testing.T) {
 	var out bytes.Buffer
 	NewLog(&out, Errors).Standard("http").Println("a line")
