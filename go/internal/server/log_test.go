@@ -4,6 +4,7 @@ import (
 	"bytes"
 	"encoding/json"
 	"errors"
+	"fmt"
 	"strings"
 	"testing"
 	"time"
@@ -67,17 +68,30 @@ func TestTheStandardLoggersLinesAreErrors(t *testing.T) {
 	}
 }
 
-// What a refused token says of itself is cut before it is logged.
+// What a refused token says of itself is cut before it is logged: between two letters, and with a sign that it is cut.
 func TestTheLogHoldsLittleOfARefusedToken(t *testing.T) {
-	var out bytes.Buffer
-	e := ready(t, engine(t, Options{Mode: Once, Log: NewLog(&out, Decisions)}))
-	long := strings.Repeat("\u00e9", 20000)
-	one := example.Token("ES256", map[string]any{"sub": "spiffe://example.org/" + long, "aud": []string{long, "b", "c", "d", "e", "f"}, "exp": moment + 9})
-	if w := request(e.Handler(), "GET", "/check", "Bearer "+one); w.Code != 401 {
-		t.Fatal(w.Code)
-	}
-	if n := out.Len(); n > 2000 || n == 0 {
-		t.Errorf("%d bytes are logged", n)
+	const letter = "\u00e9"
+	for _, odd := range []string{"", "a"} { // (of two bytes, so one of these texts would be cut within a letter)
+		var out bytes.Buffer
+		e := ready(t, engine(t, Options{Mode: Once, Log: NewLog(&out, Decisions)}))
+		long, path := odd+strings.Repeat(letter, 5000), "spiffe://example.org/"+strings.Repeat("a", 1000)
+		header, payload := fmt.Sprintf(`{"alg":"ES256","kid":%q}`, long), fmt.Sprintf(`{"sub":%q,"aud":[%q,"b","c","d","e","f"],"exp":%d}`, path, long, moment+9)
+		if w := request(e.Handler(), "GET", "/check", "Bearer "+example.Sign("ES256", header, payload)); w.Code != 401 {
+			t.Fatal(w.Code)
+		}
+		var line struct {
+			Claimed struct {
+				Sub, Kid string
+				Aud      []string
+			}
+		}
+		if err := json.Unmarshal(out.Bytes(), &line); err != nil {
+			t.Fatal(err)
+		}
+		said := line.Claimed
+		if want := odd + strings.Repeat(letter, (mostLogged-len(odd))/2) + ".."; said.Kid != want || len(said.Aud) != 4 || said.Aud[0] != want || said.Sub != path[:mostLogged]+".." {
+			t.Errorf("%+v", said)
+		}
 	}
 }
 
