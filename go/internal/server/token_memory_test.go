@@ -5,6 +5,7 @@ package server
 import (
 	"context"
 	"encoding/json"
+	"errors"
 	"fmt"
 	"strings"
 	"testing"
@@ -197,4 +198,23 @@ func TestLongTokensLeaveNothing(t *testing.T) {
 		})
 		now += 100_000
 	}
+}
+
+// So is one whose claim was answered once its request had its answer.
+func TestClaimsThatAreAnsweredTooLateLeaveNothing(t *testing.T) {
+	b := newBench(t)
+	holdsNoMore(t, "200 claims that were late", func(turn int) {
+		for i := 0; i < 200; i++ {
+			call := len(b.batches)
+			r := b.asks(fmt.Sprint("late ", turn, " ", i))
+			for len(b.batches) == call {
+				b.pass(nextCall)
+			}
+			b.step(Gone{r, context.Canceled})
+			b.answers(call, nil)
+			if b.others = nil; !errors.Is(r.Err, context.Canceled) || r.Accepted != (svid.Accepted{}) {
+				t.Fatal(r.Err)
+			}
+		}
+	})
 }
