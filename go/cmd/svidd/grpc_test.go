@@ -117,3 +117,35 @@ func TestConnectionsThatEndedAreForgotten(t *testing.T) {
 		return len(s.conns) == 0
 	})
 }
+
+// Whatever a connection of Envoy takes, it takes within a minute, or it ends: who reads nothing holds nothing for long.
+func TestAConnectionThatTakesNothingEnds(t *testing.T) {
+	for fault, written := range map[error]int{nil: 3, os.ErrDeadlineExceeded: 0} {
+		c := &slowConn{fault: fault}
+		w := &writing{c}
+		n, err := w.Write([]byte("abc"))
+		if due := time.Until(c.until); due <= 0 || due > requestWait {
+			t.Errorf("a write may take %v", due)
+		}
+		if n != written || err != fault || c.closed != (fault != nil) {
+			t.Errorf("%v: %d bytes are written, %v, and it is closed: %v", fault, n, err, c.closed)
+		}
+	}
+}
+
+// A slowConn fails at each write, or takes all.
+type slowConn struct {
+	net.Conn
+	fault  error
+	until  time.Time
+	closed bool
+}
+
+func (c *slowConn) SetWriteDeadline(at time.Time) error { c.until = at; return nil }
+func (c *slowConn) Close() error                        { c.closed = true; return nil }
+func (c *slowConn) Write(b []byte) (int, error) {
+	if c.fault != nil {
+		return 0, c.fault
+	}
+	return len(b), nil
+}

@@ -109,7 +109,15 @@ func TestRequestsAreAnsweredWhileItDrains(t *testing.T) {
 		})
 	}
 	p.want(token(t, "draining", lasting), 200, "")
-	// A second signal ends it at once.
+	if err := p.signal(syscall.SIGHUP); err != nil {
+		t.Fatal(err)
+	}
+	p.await("SIGHUP", func() bool { return len(p.events("signal")) == 2 })
+	if status, body := p.get("/readyz"); status != 503 || body != "draining\n" {
+		t.Errorf("behind SIGHUP: %d %s", status, body)
+	}
+	p.want(token(t, "behind SIGHUP", lasting), 200, "")
+	// A second signal to end it does so at once.
 	p.end()
 }
 

@@ -7,6 +7,8 @@ import (
 	"net/http/httptest"
 	"os"
 	"path/filepath"
+	"sort"
+	"strings"
 	"sync/atomic"
 	"testing"
 	"time"
@@ -48,6 +50,49 @@ func TestTheAgentGivesATokenForHalfOfItsLife(t *testing.T) {
 	clock.Add(1)
 	if next := fetch(); next.Token == first.Token || next.Expires <= first.Expires {
 		t.Errorf("behind half of its life the token expires at %d, as that of before at %d", next.Expires, first.Expires)
+	}
+}
+
+// A token is given again to who asks for the same subject and audiences, in whatever order, and to nobody else.
+func TestTheAgentGivesATokenToWhoAskedForIt(t *testing.T) {
+	d, _ := deskOf(t, "")
+	asked := []string{"a ledger", "a ledger audit", "a audit ledger", "a audit", "b ledger"}
+	given := map[string]string{}
+	for _, words := range append(asked, asked...) {
+		subject, audience := "spiffe://example.org/"+words[:1], strings.Fields(words)[1:]
+		one, err := d.fetch(subject, append([]string(nil), audience...))
+		if err != nil {
+			t.Fatal(err)
+		}
+		sort.Strings(audience)
+		if one.Subject != subject || fmt.Sprint(one.Audience) != fmt.Sprint(audience) {
+			t.Errorf("%s: a token of %s for %s", words, one.Subject, one.Audience)
+		}
+		name := fmt.Sprint(subject, audience)
+		if before, ok := given[name]; ok && before != one.Token {
+			t.Errorf("%s: another token each time", words)
+		}
+		given[name] = one.Token
+	}
+}
+
+// The headers that say where a request came from are those of the connection, whatever a client wrote there.
+func TestTheConnectionSaysWhereARequestCameFrom(t *testing.T) {
+	for remote, want := range map[string][]string{"192.0.2.1:1234": {"192.0.2.1"}, "@": nil} {
+		r := httptest.NewRequest(http.MethodGet, "/check", nil)
+		r.RemoteAddr = remote
+		for _, name := range []string{"X-Real-Ip", "X-Forwarded-For"} {
+			r.Header.Add(name, "198.51.100.1")
+			r.Header.Add(name, "198.51.100.2")
+		}
+		OfConnection(http.HandlerFunc(func(_ http.ResponseWriter, r *http.Request) {
+			if got := r.Header["X-Real-Ip"]; fmt.Sprint(got) != fmt.Sprint(want) {
+				t.Errorf("%s: X-Real-Ip is %q", remote, got)
+			}
+			if got := r.Header["X-Forwarded-For"]; got != nil {
+				t.Errorf("%s: X-Forwarded-For is %q", remote, got)
+			}
+		})).ServeHTTP(httptest.NewRecorder(), r)
 	}
 }
 

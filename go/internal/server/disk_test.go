@@ -240,6 +240,42 @@ func TestReadyzTellsOfADiskThatKeepsNothing(t *testing.T) {
 	}
 }
 
+// A write that fails while an earlier one is tried again is tried too: the machine is not ready before the disk has taken both.
+func TestEachWriteThatFailedIsTriedAgain(t *testing.T) {
+	b := benchOf(t, Options{Mode: Once, Journal: &disk{}})
+	full := errors.New("no space left on device")
+	next := func() (w *Write) {
+		t.Helper()
+		for _, effect := range b.others {
+			if it, ok := effect.(Append); ok {
+				w = it.Write
+			}
+		}
+		if b.others = nil; w == nil {
+			t.Fatal("nothing is written")
+		}
+		return w
+	}
+	ends := func(w *Write, err error) {
+		w.Err = err
+		b.step(Kept{w})
+	}
+	isReady := func() bool { return b.machine.Ready(b.now, false, false) == nil }
+	b.asks("a")
+	ends(next(), full)
+	b.step(doing((*Machine).keepAgain))
+	again := next()
+	b.asks("b")
+	ends(next(), full)
+	if ends(again, nil); isReady() {
+		t.Error("it is ready, and the disk has not taken the second one")
+	}
+	b.step(doing((*Machine).keepAgain))
+	if ends(next(), nil); !isReady() {
+		t.Error("the disk has taken both, and it is not ready")
+	}
+}
+
 // The client of a token that could not be judged hears one word, which names nothing of the inside. The log has the error.
 func TestAClientHearsAWordOfWhatFailed(t *testing.T) {
 	const secret = "/var/lib/svidd/journal.1: nats://10.0.0.7:4222"

@@ -46,3 +46,22 @@ func TestAWithdrawalThatFoundNoMemoryComesAgain(t *testing.T) {
 		}
 	}
 }
+
+// The store may tell of tokens that have expired meanwhile. Those that it tells of besides are withdrawn all the same.
+func TestAWithdrawalOfAnExpiredTokenHoldsUpNoOther(t *testing.T) {
+	o := inStrict(Options{})
+	o.Mode = Reuse
+	e := newShop().use(t, ready(t, engine(t, o)))
+	gone := token("withdrawn")
+	use, err := e.Find(gone)
+	if err != nil {
+		t.Fatal(err)
+	}
+	h := &Heard{These: []claims.Withdrawal{{Key: svid.TokenKey{1}, Expires: moment}, {Key: use.Key, Expires: use.Expires}}, Whole: true}
+	if e.step(h); h.Err != nil {
+		t.Errorf("the record takes no withdrawals: %v", h.Err)
+	}
+	if err := check(e, gone); err != svid.Withdrawn {
+		t.Errorf("a withdrawn token: %v", err)
+	}
+}

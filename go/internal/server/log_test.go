@@ -4,6 +4,7 @@ import (
 	"bytes"
 	"encoding/json"
 	"errors"
+	"fmt"
 	"strings"
 	"testing"
 	"time"
@@ -27,6 +28,38 @@ func TestTheLogHasItsLevels(t *testing.T) {
 	none.Event("nothing")
 }
 
+// A log of errors alone has the tokens that could not be judged. One of decisions has the others too, which are no errors.
+func TestWhichDecisionsAreErrors(t *testing.T) {
+	for event, row := range map[string]struct {
+		o     Options
+		token string
+		level string
+	}{
+		"accepted":              {Options{Mode: Reuse}, token("a"), "info"},
+		"refused NotAllowed":    {Options{Mode: Reuse, Allow: []string{"spiffe://example.org/other"}}, token("a"), "info"},
+		"refused Expired":       {Options{Mode: Reuse, Now: func() uint64 { return moment + 600 }}, token("a"), "info"},
+		"refused NotThreeParts": {Options{Mode: Reuse}, "a.b", "info"},
+		"unavailable":           {Options{Mode: Once, Journal: &disk{fault: errors.New("no space left on device")}}, token("a"), "error"},
+	} {
+		for level, lines := range map[Level]int{Errors: map[string]int{"info": 0, "error": 1}[row.level], Decisions: 1} {
+			var out bytes.Buffer
+			o := row.o
+			o.Log = NewLog(&out, level)
+			request(ready(t, engine(t, o)).Handler(), "GET", "/check", "Bearer "+row.token)
+			words := strings.Fields(event)
+			if n := strings.Count(out.String(), "\n"); n != lines {
+				t.Errorf("%s: %d lines, and %d are due: %s", event, n, lines, &out)
+			}
+			if lines > 0 && !strings.Contains(out.String(), `"level":"`+row.level+`","event":"`+words[0]+`"`) {
+				t.Errorf("%s: %s", event, &out)
+			}
+			if lines > 0 && len(words) > 1 && !strings.Contains(out.String(), `"reason":"`+words[1]+`"`) {
+				t.Errorf("%s: %s", event, &out)
+			}
+		}
+	}
+}
+
 func TestTheStandardLoggersLinesAreErrors(t *testing.T) {
 	var out bytes.Buffer
 	NewLog(&out, Errors).Standard("http").Println("a line")
@@ -35,17 +68,30 @@ func TestTheStandardLoggersLinesAreErrors(t *testing.T) {
 	}
 }
 
-// What a refused token says of itself is cut before it is logged.
+// What a refused token says of itself is cut before it is logged: between two letters, and with a sign that it is cut.
 func TestTheLogHoldsLittleOfARefusedToken(t *testing.T) {
-	var out bytes.Buffer
-	e := ready(t, engine(t, Options{Mode: Once, Log: NewLog(&out, Decisions)}))
-	long := strings.Repeat("\u00e9", 20000)
-	one := example.Token("ES256", map[string]any{"sub": "spiffe://example.org/" + long, "aud": []string{long, "b", "c", "d", "e", "f"}, "exp": moment + 9})
-	if w := request(e.Handler(), "GET", "/check", "Bearer "+one); w.Code != 401 {
-		t.Fatal(w.Code)
-	}
-	if n := out.Len(); n > 2000 || n == 0 {
-		t.Errorf("%d bytes are logged", n)
+	const letter = "\u00e9"
+	for _, odd := range []string{"", "a"} { // (of two bytes, so one of these texts would be cut within a letter)
+		var out bytes.Buffer
+		e := ready(t, engine(t, Options{Mode: Once, Log: NewLog(&out, Decisions)}))
+		long, path := odd+strings.Repeat(letter, 5000), "spiffe://example.org/"+strings.Repeat("a", 1000)
+		header, payload := fmt.Sprintf(`{"alg":"ES256","kid":%q}`, long), fmt.Sprintf(`{"sub":%q,"aud":[%q,"b","c","d","e","f"],"exp":%d}`, path, long, moment+9)
+		if w := request(e.Handler(), "GET", "/check", "Bearer "+example.Sign("ES256", header, payload)); w.Code != 401 {
+			t.Fatal(w.Code)
+		}
+		var line struct {
+			Claimed struct {
+				Sub, Kid string
+				Aud      []string
+			}
+		}
+		if err := json.Unmarshal(out.Bytes(), &line); err != nil {
+			t.Fatal(err)
+		}
+		said := line.Claimed
+		if want := odd + strings.Repeat(letter, (mostLogged-len(odd))/2) + ".."; said.Kid != want || len(said.Aud) != 4 || said.Aud[0] != want || said.Sub != path[:mostLogged]+".." {
+			t.Errorf("%+v", said)
+		}
 	}
 }
 

@@ -552,3 +552,63 @@ func TestTheEndWaitsForCalls(t *testing.T) {
 		t.Errorf("%v, ended %d times", r.Err, b.count(Ended{}))
 	}
 }
+
+// The end waits for what the group is to be told, and for what the disk is to have, also for what came while other uses were on their way.
+func TestTheEndWaitsForAllThatIsToGoOut(t *testing.T) {
+	for what, o := range map[string]Options{"the group": {Mode: Once, Grouped: true, Journal: &disk{}}, "the disk": inStrict(Options{Journal: &disk{}})} {
+		b := benchOf(t, o)
+		b.step(Joined{}, CaughtUp{}, Run{})
+		var onTheirWay []Event // what ends a value, or a write for which nobody waits
+		uses, puts := 0, 0
+		work := func() { // does at once what requests wait for
+			for len(b.others) > 0 || puts < len(b.batches) {
+				effects := b.others
+				b.others = nil
+				for ; puts < len(b.batches); puts++ {
+					b.answers(puts, nil)
+				}
+				for _, effect := range effects {
+					switch effect := effect.(type) {
+					case Append:
+						if o.Mode == Once {
+							b.step(Kept{effect.Write})
+							continue
+						}
+						uses += len(effect.Uses)
+						onTheirWay = append(onTheirWay, Kept{effect.Write})
+					case Send:
+						uses += len(effect.Uses)
+						onTheirWay = append(onTheirWay, Landed{effect.Put})
+					case Snapshot:
+						b.step(Snapshotted{})
+					}
+				}
+			}
+		}
+		for _, id := range []string{"a", "b", "c"} {
+			r := b.asks(id)
+			for work(); !r.answered; work() {
+				b.pass(nextCall)
+			}
+			if r.Err != nil {
+				t.Fatal(r.Err)
+			}
+		}
+		if uses != 1 {
+			t.Errorf("%s: %d uses are on their way, and the others share the next turn", what, uses)
+		}
+		b.step(End{})
+		for work(); len(onTheirWay) > 0; work() {
+			if b.machine.known.Ended {
+				t.Errorf("%s: it ended with %d of 3 uses", what, uses)
+			}
+			next := onTheirWay[0]
+			onTheirWay = onTheirWay[1:]
+			b.step(next)
+			b.pass(keepPause)
+		}
+		if uses != 3 || !b.machine.known.Ended {
+			t.Errorf("%s: %d of 3 uses went out, and it ended: %v", what, uses, b.machine.known.Ended)
+		}
+	}
+}

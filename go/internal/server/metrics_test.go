@@ -65,3 +65,14 @@ func TestMetricsAreWellFormed(t *testing.T) {
 }
 
 var prometheusName = regexp.MustCompile(`^[a-z]+(_[a-z]+)+$`)
+
+// A store is connected once it was reached, and not before.
+func TestAStoreIsConnectedOnceItWasReached(t *testing.T) {
+	e := ready(t, engine(t, inStrict(Options{})))
+	for _, want := range []string{"0", "1"} {
+		if text := request(e.Handler(), "GET", "/metrics").Body.String(); !strings.Contains(text, "\nsvidd_store_connected "+want+"\n") {
+			t.Errorf("/metrics does not say %s:\n%s", want, text)
+		}
+		newShop().use(t, e)
+	}
+}

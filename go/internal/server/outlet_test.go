@@ -205,6 +205,25 @@ func TestAnOutletThatFailsForLong(t *testing.T) {
 	}
 }
 
+// The writer fails within the line that says how many were lost: the next such line says it, and nothing else is lost.
+func TestAnOutletThatFailsAsItCounts(t *testing.T) {
+	out := newSink()
+	o := NewOutlet(out)
+	out.fail(0)
+	fmt.Fprintln(o, "lost")
+	await(t, "a line that is lost", func() bool { return o.Dropped() == 1 })
+	const taken = "again\n{\"dr"
+	out.fail(len(taken))
+	fmt.Fprintln(o, "again")
+	await(t, "half of the line that counts", func() bool { return out.String() == taken })
+	out.fail(-1)
+	fmt.Fprintln(o, "last")
+	o.Close(time.Minute)
+	if got := out.String(); !strings.HasPrefix(got, taken+"\nlast\n{") || !strings.Contains(got, `"dropped":1,`) || o.Dropped() != 1 {
+		t.Errorf("%d dropped: %q", o.Dropped(), got)
+	}
+}
+
 // Close waits for what came, but not for a writer that hangs, and behind it every line is dropped.
 func TestTheEndOfAnOutlet(t *testing.T) {
 	defer soon(t)()

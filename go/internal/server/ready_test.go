@@ -61,7 +61,7 @@ func TestReadyzTellsOfAStoreThatIsAway(t *testing.T) {
 		away.Store(true)
 		e.lookAhead()
 		if mode == Strict {
-			await(t, "that time to be over", e.isAway)
+			await(t, "that time to be over, however often it is looked at meanwhile", func() bool { e.lookAhead(); return e.isAway() })
 		}
 		if err := e.Ready(); errors.Is(err, errAway) != (mode == Strict) {
 			t.Errorf("%s: ready is %v", mode, err)

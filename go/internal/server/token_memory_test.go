@@ -5,6 +5,7 @@ package server
 import (
 	"context"
 	"encoding/json"
+	"errors"
 	"fmt"
 	"strings"
 	"testing"
@@ -64,6 +65,33 @@ func TestReusedTokensLeaveNothing(t *testing.T) {
 	one := token("a")
 	holdsNoMore(t, "200 requests of one token", func(int) {
 		for i := 0; i < 200; i++ {
+			if err := check(e, one); err != nil {
+				t.Fatal(err)
+			}
+		}
+	})
+}
+
+// So is one that is judged again, since the bundles were replaced while it was judged.
+func TestTokensThatAreJudgedAgainLeaveNothing(t *testing.T) {
+	var replace func()
+	e := ready(t, engine(t, Options{Mode: Reuse, Now: func() uint64 { // (the engine looks at its clock behind what it has of a token)
+		if do := replace; do != nil {
+			replace = nil
+			do()
+		}
+		return moment
+	}}))
+	one, sets := token("a"), [2]json.RawMessage{example.JWKSet(), otherwise(t, example.JWKSet())}
+	replaced := 0
+	holdsNoMore(t, "200 requests of a token whose bundles are replaced", func(int) {
+		for i := 0; i < 200; i++ {
+			replace = func() {
+				replaced++
+				if err := e.SetBundles(map[string]json.RawMessage{"example.org": sets[replaced%2]}); err != nil {
+					t.Error(err)
+				}
+			}
 			if err := check(e, one); err != nil {
 				t.Fatal(err)
 			}
@@ -170,4 +198,23 @@ func TestLongTokensLeaveNothing(t *testing.T) {
 		})
 		now += 100_000
 	}
+}
+
+// So is one whose claim was answered once its request had its answer.
+func TestClaimsThatAreAnsweredTooLateLeaveNothing(t *testing.T) {
+	b := newBench(t)
+	holdsNoMore(t, "200 claims that were late", func(turn int) {
+		for i := 0; i < 200; i++ {
+			call := len(b.batches)
+			r := b.asks(fmt.Sprint("late ", turn, " ", i))
+			for len(b.batches) == call {
+				b.pass(nextCall)
+			}
+			b.step(Gone{r, context.Canceled})
+			b.answers(call, nil)
+			if b.others = nil; !errors.Is(r.Err, context.Canceled) || r.Accepted != (svid.Accepted{}) {
+				t.Fatal(r.Err)
+			}
+		}
+	})
 }

@@ -77,8 +77,7 @@ func TestAStoreThatTakesNoClaims(t *testing.T) {
 	if err := check(e, token("a")); err == nil {
 		t.Fatal("it is accepted")
 	}
-	e.lookAhead()
-	await(t, "that time to be over", e.isAway)
+	await(t, "that time to be over, however often it is looked at meanwhile", func() bool { e.lookAhead(); return e.isAway() })
 	if err := e.Ready(); err == nil || err.Error() != "the group's store takes no claims: insufficient resources" {
 		t.Errorf("ready is %v", err)
 	}

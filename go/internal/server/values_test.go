@@ -2,6 +2,7 @@ package server
 
 import (
 	"bytes"
+	"fmt"
 	"strings"
 	"testing"
 
@@ -78,26 +79,39 @@ func TestMessagesThatAreTakenAtOnce(t *testing.T) {
 	swallowing[16] = 3
 	late := batchOf(svid.Use{Key: svid.TokenKey{3}, Expires: moment + 100, At: moment + 31})
 	expired := batchOf(svid.Use{Key: svid.TokenKey{4}, Expires: moment, At: moment - 1})
+	first := carriers.Value{Message: make([]byte, takePiece)} // is no message, and a piece of its own
 	for what, row := range map[string]struct {
-		messages    [][]byte
-		aside, uses int
+		messages [][]byte
+		aside    []int // these are put aside
+		uses     int
 	}{
-		"nothing":                {nil, 0, 0},
-		"two":                    {[][]byte{honest, other}, 0, 2},
-		"one that swallows":      {[][]byte{swallowing, honest}, 1, 1},
-		"one that is too far":    {[][]byte{honest, late, other}, 1, 2},
-		"one that has expired":   {[][]byte{honest, expired, other}, 0, 2},
-		"garbage at the end":     {[][]byte{honest, other, []byte("garbage")}, 1, 2},
-		"a bad use":              {[][]byte{append(honest[:81:81], 7), other}, 1, 1},
-		"an empty one":           {[][]byte{{}, other}, 0, 1},
-		"two halves of one":      {[][]byte{honest[:50], honest[50:], other}, 2, 1},
-		"one, and then the same": {[][]byte{honest, honest}, 0, 1},
+		"nothing":                {nil, nil, 0},
+		"two":                    {[][]byte{honest, other}, nil, 2},
+		"one that swallows":      {[][]byte{swallowing, honest}, []int{0}, 1},
+		"one that is too far":    {[][]byte{honest, late, other}, []int{1}, 2},
+		"one that has expired":   {[][]byte{honest, expired, other}, nil, 2},
+		"garbage at the end":     {[][]byte{honest, other, []byte("garbage")}, []int{2}, 2},
+		"a bad use":              {[][]byte{append(honest[:81:81], 7), other}, []int{0}, 1},
+		"an empty one":           {[][]byte{{}, other}, nil, 1},
+		"two halves of one":      {[][]byte{honest[:50], honest[50:], other}, []int{0, 1}, 1},
+		"one, and then the same": {[][]byte{honest, honest}, nil, 1},
 	} {
 		for _, kind := range []carriers.Kind{carriers.Uses, carriers.Claims} {
-			e := ready(t, engine(t, Options{Mode: Once}))
-			aside := takeAll(e, kind, row.messages...)
-			if uses, err := svid.Uses(saved(t, e)); err != nil || len(uses) != row.uses || aside != row.aside {
-				t.Errorf("%s: %d aside and %d uses (%v), want %d and %d", what, aside, len(uses), err, row.aside, row.uses)
+			for _, values := range [][]carriers.Value{{}, {first}} {
+				front := len(values)
+				for _, message := range row.messages {
+					values = append(values, carriers.Value{Kind: kind, Message: message})
+				}
+				e := ready(t, engine(t, Options{Mode: Once}))
+				var aside []int
+				for i, err := range e.Take(values) {
+					if err != nil && i >= front {
+						aside = append(aside, i-front)
+					}
+				}
+				if uses, err := svid.Uses(saved(t, e)); err != nil || len(uses) != row.uses || fmt.Sprint(aside) != fmt.Sprint(row.aside) {
+					t.Errorf("%s, behind %d: %d aside and %d uses (%v), want %d and %d", what, front, aside, len(uses), err, row.aside, row.uses)
+				}
 			}
 		}
 	}

@@ -95,6 +95,22 @@ func TestAWithdrawalOfAClockThatIsAhead(t *testing.T) {
 	}
 }
 
+// It is told again a second behind the moment from which on the log's server would take it: another member's clock may have begun that second later.
+func TestAWithdrawalIsToldAgainInTime(t *testing.T) {
+	b := benchOf(t, Options{Mode: Reuse, Grouped: true})
+	b.step(Joined{}, CaughtUp{}, Run{}, &Withdraw{Key: svid.TokenKey{1}, Expires: moment + 300})
+	put := b.others[len(b.others)-1].(Send).Put
+	const early = 3
+	put.At = moment - b.machine.Ahead - early
+	b.step(Landed{put})
+	b.others = nil
+	for second := 1; second <= early+2; second++ {
+		if b.pass(time.Second); (b.count(Send{}) > 0) != (second > early) {
+			t.Errorf("behind %d seconds it is told %d times", second, b.count(Send{}))
+		}
+	}
+}
+
 // A slowGroup stores what it is given, by a clock that is behind.
 type slowGroup struct{ behind time.Duration }
 
