@@ -125,7 +125,7 @@ RUNS = {
         "valgrind": "refused nulls",
     },
     # the helpers that stand in svid.h itself
-    "helpers": {"bare": "names answers batches"},
+    "helpers": {"bare": "names answers rooms batches", "sanitized": "rooms", "valgrind": "rooms"},
 }
 CALLS = [
     pytest.param(name, build, part, id=f"{name}-{part}-{build}")

@@ -104,12 +104,14 @@ def test_pkg_config(prefix, option, due):
 
 
 def test_installed_twice_and_removed(tmp_path):
-    """A file that was changed is whole again, and one removal takes all, with the folders that were made."""
+    """A file that was changed is whole again, by whatever name of the folder, and one removal takes all, with the folders that were made."""
     install(tmp_path / "new/prefix")
-    page = tmp_path / "new/prefix/share/man/man1/svid.1"
+    page, said_of_it = tmp_path / "new/prefix/share/man/man1/svid.1", tmp_path / "new/prefix/lib/pkgconfig/svid.pc"
     page.write_text("other")
-    install(tmp_path / "new/prefix")
+    before = said_of_it.read_text()
+    install("new/prefix", where=tmp_path)
     assert below(tmp_path / "new/prefix")[0] == {*FILES, FOLDERS} and page.read_bytes() == (TOP / "tools/packaging/man/svid.1").read_bytes()
+    assert said_of_it.read_text() == before and before.startswith(f"prefix={tmp_path}/new/prefix\n")
     said = install("--remove", tmp_path / "new/prefix")
     assert said == "".join(f"removed {tmp_path}/new/prefix/{name}\n" for name in FILES)
     assert below(tmp_path) == (set(), set())
@@ -128,6 +130,7 @@ def test_what_others_made_stays(tmp_path):
 def test_a_package_has_no_list_of_folders(tmp_path):
     install("/usr", DESTDIR=str(tmp_path))
     assert below(tmp_path)[0] == {f"usr/{name}" for name in FILES}
+    assert str(tmp_path) not in (tmp_path / "usr/lib/pkgconfig/svid.pc").read_text()
     install("--remove", "/usr", DESTDIR=str(tmp_path))
     assert below(tmp_path)[0] == set()
 

@@ -570,6 +570,15 @@ def test_a_fault_by_what_a_program_has_in_it(more, version, names, due):
         assert said.get("justification", said["status"]) == due
 
 
+@pytest.mark.parametrize("more, versions", [({}, ("1.20.3", "1.19.8")), ({"since": "1.19.9"}, ("1.19.8", "1.19.10"))])
+def test_a_fault_that_one_program_still_has(more, versions):
+    """It is neither fixed nor absent, whatever the other one has."""
+    one, other = [({"stdlib": version}, {"html/template.F"}) for version in versions]
+    for programs in [one, other], [other, one]:
+        with pytest.raises(SystemExit, match="Say in its row whether the fault is reached"):
+            VEX.statement(ROW | more, programs)
+
+
 def test_a_program_says_what_is_in_it(release, tmp_path):
     output("dpkg-deb", "-x", release / f"svid_{VERSION}_arm64.deb", tmp_path)
     modules, names = VEX.inside(tmp_path / "usr/bin/svidd")

@@ -2,6 +2,7 @@
  *
  *   helpers names      each status has a name and a sentence of its own, and no other number has one
  *   helpers answers    the check that asks a verifier, by its answers
+ *   helpers rooms      the same, in rooms between pages that can't be touched
  *   helpers batches    the message of one use */
 #include "harness.h"
 #include <limits.h>
@@ -129,6 +130,36 @@ static void answers(void) {
     holds(mallinfo2().uordblks < before + 8192, "each call holds memory");
 }
 
+/* It touches nothing but the rooms that it is given, and reads none of them before something was written there. */
+static void rooms(void) {
+    svid_validator v = { 0 };
+    svid_told told;
+    svid_use used;
+    verifier it = { 2, 1, 0, 0 };
+    at = "svid_validator_verify";
+    holds(svid_validator_open(&v, &TERMS, (const uint8_t *)"ledger", 6, (const uint8_t *)text, bundles_of(3, 0), &told) == SVID_OK, "it does not open");
+    for (int n = 0; n < 4; n++) {
+        uint8_t *nothing = n < 2 ? between(NULL, 0, n) : NULL, *out = between(NULL, SVID_ID_ROOM, n % 2);
+        make_token("{\"alg\":\"ES256\",\"kid\":\"none\"}", "ledger", n);
+        answered = svid_validator_verify(&v, NOW, token, token_len, says, &it, nothing, 0, out, SVID_ID_ROOM, &used, &told);
+        holds(answered == SVID_NO_KEY, "no key, and no room for rows");
+        make_token("{\"alg\":\"ES256\"}", "ledger", n);
+        answered = svid_validator_verify(&v, NOW, token, token_len, says, &it, nothing, 0, out, SVID_ID_ROOM, &used, &told);
+        holds(answered == SVID_TOO_SHORT && told.len > 0, "no room for rows");
+        size_t due = told.len;
+        uint8_t *less = between(NULL, due - 1, n % 2), *rows = between(NULL, due, n % 2);
+        answered = svid_validator_verify(&v, NOW, token, token_len, says, &it, less, due - 1, out, SVID_ID_ROOM, &used, &told);
+        holds(answered == SVID_TOO_SHORT && told.len == due && it.calls == 2 * n, "a byte less than rows take");
+        answered = svid_validator_verify(&v, NOW, token, token_len, says, &it, rows, due, nothing, 0, &used, &told);
+        holds(answered == SVID_TOO_SHORT && told.len == SVID_ID_ROOM, "no room for the ID");
+        it.calls = 2 * n;
+        answered = svid_validator_verify(&v, NOW, token, token_len, says, &it, rows, due, out, SVID_ID_ROOM, &used, &told);
+        holds(answered == SVID_OK && it.calls == 2 * n + 2 && told.len == 22 && !memcmp(out, "spiffe://example.org/a", 22), "just enough room");
+    }
+    svid_validator_close(&v);
+    printf("rooms of the length that is due, and of a byte less");
+}
+
 static void batches(void) {
     svid_use used = { 0 };
     uint8_t due[SVID_BATCH_OF_LEN] = { 'J', 'S', 'R', 2, 1 }, got[SVID_BATCH_OF_LEN];
@@ -147,6 +178,6 @@ static void batches(void) {
 }
 
 int main(int count, char **words) {
-    static const part parts[] = { { "names", names }, { "answers", answers }, { "batches", batches } };
+    static const part parts[] = { { "names", names }, { "answers", answers }, { "rooms", rooms }, { "batches", batches } };
     return run_part(count, words, parts, COUNT(parts));
 }

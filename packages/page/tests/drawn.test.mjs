@@ -85,6 +85,16 @@ test("each thing stands at its time", async () => {
   assert.deepEqual((await chosen()).map((it) => it.slice(0, 27)), [-100, -20].map((it) => `used at ${dateOf(BigInt(NOW + it))}`));
 });
 
+test("a key that expires long after all others leaves them their width", async () => {
+  const keys = Array.from({ length: 40 }, (_, n) => use(n + 1, 1, -10, n ? 310 : 1e8));
+  await drop(...keys);
+  const bars = (await drawn()).map((it) => it.lane.find(([kind]) => kind === "bar"));
+  assert.deepEqual(bars[0], ["bar", "0%", "80%"]);
+  await press("End");
+  assert.deepEqual((await drawn()).at(-1).lane.find(([kind]) => kind === "bar"), ["bar", "0%", "100%"]);
+  assert.match(await page.text("chosen"), /Expires at/);
+});
+
 test("each validator has its colour, and how many entries it made", async () => {
   await drop(use(1, 1, -10, 100), use(2, 2, -10, 200), use(3, 1, -10, 300));
   assert.deepEqual((await drawn()).map((it) => it.colours), [["validator-0"], ["validator-1"], ["validator-0"]]);

@@ -167,6 +167,8 @@ test("files of both versions are joined, and what changed is told", async () => 
   assert.match(rows[0], /used twice, 2 entries/);
   assert.equal(rows.filter((it) => it.includes("withdrawn")).length, 1);
   assert.equal(await page.run(() => document.querySelectorAll("#rows .gained").length), 12);
+  // (a field that keeps its file says nothing where the same one is opened again)
+  assert.equal(await page.run(() => document.getElementById("files").value), "");
   await openFiles(join(EXAMPLES, "shared.messages"));
   assert.match(await page.text("record-change"), /0 new, 12 known/);
   await openFiles(join(EXAMPLES, "two-uses.batch"), await fileOf("later.messages", batch(NOW + 120, [{ exp: NOW + 999, key: Buffer.alloc(32, 1), validatorId: Buffer.alloc(16, 2), at: NOW + 110 }], 1)));
@@ -252,6 +254,11 @@ test("a file of a header field fills the field of the token", async () => {
   }, token);
   await page.settled();
   assert.equal(await page.text("token-said"), `The library took the token out of a header field: the ${token.length} characters behind "Authorization: Bearer".`);
+});
+
+test("a browser does not open what is dropped on the page", async () => {
+  const isOpened = (kind) => page.run((it) => document.body.dispatchEvent(new DragEvent(it, { bubbles: true, cancelable: true, dataTransfer: new DataTransfer() })), kind);
+  assert.deepEqual([await isOpened("dragover"), await isOpened("drop")], [false, false]);
 });
 
 test("a clock that is ahead of this computer's is told", async () => {
@@ -355,6 +362,11 @@ test("the timeline is walked by keys, and the chosen key is told", async () => {
     assert.deepEqual([it.id, it.inSight], [id, true], key);
     assert.match(it.said, /^[0-9a-f]{64}/);
   }
+  const drawn = await page.run((n) => new Promise((resolve) => {
+    document.getElementById("rows").scrollTop = n * 30;
+    requestAnimationFrame(() => requestAnimationFrame(() => resolve([0, 9].map((more) => !!document.getElementById(`row-${n + more}`)))));
+  }), 5000);
+  assert.deepEqual(drawn, [true, true], "rows that are scrolled to are not drawn");
   await page.press("End");
   await page.run(() => new Promise((resolve) => requestAnimationFrame(() => requestAnimationFrame(resolve))));
   const last = await chosen();
@@ -380,10 +392,11 @@ test("everything is reached by the Tab key, in the order of the page, and shows 
     const it = await page.run(() => {
       const { activeElement: on } = document, style = getComputedStyle(on), box = on.closest(".token") ?? on;
       const outline = getComputedStyle(box);
-      return { name: on === document.body ? "" : on.id || on.className || on.textContent, isShown: on !== document.body && (style.outlineStyle !== "none" || outline.outlineStyle !== "none") };
+      const { left, right, top, bottom } = on.getBoundingClientRect(), isInSight = right > 0 && bottom > 0 && left < innerWidth && top < innerHeight;
+      return { name: on === document.body ? "" : on.id || on.className || on.textContent, isInSight, isShown: on !== document.body && (style.outlineStyle !== "none" || outline.outlineStyle !== "none") };
     });
     if (!it.name || reached.includes(it.name)) break;
-    assert.ok(it.isShown, `${it.name} does not show the focus`);
+    assert.ok(it.isShown && it.isInSight, `${it.name} does not show the focus, or is out of sight`);
     reached.push(it.name);
   }
   assert.deepEqual(reached, ["skip", "example", "open", "token", "bundles", "own", "time", "longest", "live", "slider", "use", "withdraw", "verifies the signature", 'passed over: its kid is not that of the token, "example"', "save", "forget", "rows", "What this page rests on"]);
@@ -497,17 +510,109 @@ test("nothing is cut off or laid over at any width, in light and dark", async ()
   await page.size(WIDTHS.wide, 900);
 });
 
-test("the clock moves what is said and nothing else", async () => {
-  await page.click("forget");
-  await page.click("example");
-  if ((await page.run(() => document.getElementById("live").getAttribute("aria-pressed"))) !== "true") await page.click("live");
-  const boxes = () => page.run(() => [...document.querySelectorAll("section, form, h2, tr, button, #time-said")].map((it) => { const { x, y, width, height } = it.getBoundingClientRect(); return [x, y, width, height]; }));
-  const before = await boxes(), time = await page.run(() => document.getElementById("time").value);
+/** Waits until the time of the field is that of another second, and the page shows it. */
+async function tick() {
+  const time = await page.run(() => document.getElementById("time").value);
   await page.run((old) => new Promise((resolve) => {
     const said = document.getElementById("time-said");
     new MutationObserver((_, watch) => document.getElementById("time").value !== old && (watch.disconnect(), resolve())).observe(said, { childList: true, characterData: true, subtree: true });
   }), time);
   await page.settled();
+}
+
+test("of two tokens the later one is shown, whichever answer comes first", async () => {
+  await page.click("example");
+  const token = await page.run(() => document.getElementById("token").value);
+  await page.run(() => {
+    const verify = SubtleCrypto.prototype.verify, held = new Promise((resolve) => (window.goOn = resolve));
+    window.ended = new Promise((resolve) => {
+      SubtleCrypto.prototype.verify = async function (...words) {
+        SubtleCrypto.prototype.verify = verify;
+        await held;
+        const answer = await verify.apply(this, words);
+        setTimeout(resolve);
+        return answer;
+      };
+    });
+    document.getElementById("token").value = document.getElementById("token").value.slice(0, -2) + "AA";
+    document.getElementById("token").dispatchEvent(new InputEvent("input", { bubbles: true }));
+  });
+  await page.write({ token: "no token" });
+  assert.equal(await page.text("verdict-said"), "Refused: NotThreeParts");
+  await page.run(() => (window.goOn(), window.ended));
+  await page.settled();
+  assert.deepEqual([await page.text("verdict-said"), await page.text("token-shown")], ["Refused: NotThreeParts", "no token\u200b"]);
+  await page.write({ token });
+  assert.equal(await page.text("verdict-said"), "Accepted");
+});
+
+test("a tick of the clock replaces nothing that says the same, and what is open stays open", async () => {
+  await page.click("example");
+  await page.run(() => {
+    document.querySelector("#keys details").open = true;
+    window.kept = [...document.querySelectorAll("#results *, #record *, #token-shown *")].filter((it) => !it.closest("dl:has(.time)"));
+  });
+  await tick();
+  const replaced = await page.run(() => window.kept.filter((it) => !it.isConnected).map((it) => it.outerHTML.slice(0, 80)));
+  assert.deepEqual(replaced, []);
+  assert.equal(await page.run(() => document.querySelector("#keys details").open), true);
+  await page.run(() => (document.querySelector("#keys details").open = false));
+});
+
+test("each field has a name, no browser keeps or checks what is in it, and what changes is said aloud", async () => {
+  const fields = await page.run(() => [...document.querySelectorAll("input, textarea")].map(({ id, labels, form, spellcheck, autocomplete, ariaLabel, type }) => {
+    const isText = ["text", "textarea"].includes(type);
+    return { id, isNamed: labels.length > 0 || Boolean(ariaLabel), isKept: isText && (autocomplete || form?.autocomplete) !== "off", isChecked: isText && ["token", "bundles", "domain", "own"].includes(id) && spellcheck };
+  }));
+  assert.deepEqual(fields.map((it) => it.id), ["files", "token", "bundles", "domain", "own", "time", "longest", "slider"]);
+  assert.deepEqual(fields.filter((it) => !it.isNamed || it.isKept || it.isChecked), []);
+  const silent = await page.run(() => ["verdict-said", "verdict-why", "token-said", "bundles-said", "record-change", "chosen"].filter((id) => !document.getElementById(id).closest("[role=status]")));
+  assert.deepEqual(silent, []);
+});
+
+test("after the module stopped, a new one judges, and the record is as it was", async () => {
+  const tab = await browser.open(process.env.SVID_PAGE, (it) => it.send("Page.addScriptToEvaluateOnNewDocument", { source: `(${() => {
+    const { Instance } = WebAssembly, { setInterval: ticks } = window;
+    let made = 0;
+    WebAssembly.Instance = class {
+      constructor(...words) {
+        const { exports } = new Instance(...words), isFirst = ++made === 1;
+        const svid_validator_open = (...given) => {
+          if (window.stops && isFirst) throw new WebAssembly.RuntimeError("unreachable");
+          return exports.svid_validator_open(...given);
+        };
+        this.exports = { ...exports, svid_validator_open };
+      }
+    };
+    window.setInterval = (body, time) => ((window.ticking = time), ticks(body, time));
+  }})()` }));
+  await tab.click("example");
+  await tab.click("use");
+  await tab.run(() => (window.stops = true));
+  await tab.write({ longest: "3600" });
+  assert.deepEqual([await tab.text("verdict-said"), (await tab.text("verdict-why")).slice(0, 33)], ["Not judged", "The library stopped: unreachable."]);
+  await tab.write({ longest: "" });
+  assert.equal(await tab.text("verdict-said"), "Refused: Replayed");
+  // (how often the time is looked at, while *Now* is pressed)
+  assert.ok((await tab.run(() => window.ticking)) <= 1000);
+  await tab.close();
+});
+
+test("where a browser has no cryptography, the page says why no key can be used", async () => {
+  const tab = await browser.open(process.env.SVID_PAGE, (it) => it.send("Page.addScriptToEvaluateOnNewDocument", { source: "Object.defineProperty(Crypto.prototype, 'subtle', { value: undefined })" }));
+  const [bundles, token] = await Promise.all(["bundles.json", "token.txt"].map((it) => readFile(join(EXAMPLES, it), "utf8")));
+  await tab.write({ bundles, token: token.trim(), own: "ledger", time: String(NOW) });
+  assert.equal(await tab.text("verdict-said"), "Refused: BadSignature");
+  assert.match(await tab.text("keys"), /can't be used: WebCrypto works only on https, localhost and files/);
+  await tab.close();
+});
+
+test("the clock moves what is said and nothing else", async () => {
+  await page.click("forget");
+  await page.click("example");
+  const boxes = () => page.run(() => [...document.querySelectorAll("section, form, h2, tr, button, #time-said")].map((it) => { const { x, y, width, height } = it.getBoundingClientRect(); return [x, y, width, height]; }));
+  const before = await boxes();
+  await tick();
   assert.deepEqual(await boxes(), before);
 });
 

@@ -24,11 +24,16 @@ test("what changed is counted", () => {
 
 test("calls leave nothing in the memory of the module", async () => {
   const library = await Library.load(readFileSync(process.env.SVID_MODULE));
-  const messages = readFileSync(new URL("../../../examples/shared.messages", import.meta.url)), validatorId = new Uint8Array(16);
+  const example = (name) => readFileSync(new URL(`../../../examples/${name}`, import.meta.url)), validatorId = new Uint8Array(16);
+  const messages = example("shared.messages"), bundles = example("bundles.json").toString(), token = example("token.txt").toString().trim();
   const call = () => {
     assert.equal(library.report(messages).status, 0);
     const took = library.withValidator({ validatorId }, "ledger", "{}", (validator) => [validator.take(0n, messages).status, validator.tell().status]);
     assert.deepEqual(took, { status: 0, value: [0, 0] });
+    const said = library.withValidator({ validatorId }, "ledger", bundles, (validator) => [validator.ask(token).rows.length, validator.judge(0n, undefined, token).status]);
+    assert.deepEqual(said, { status: 0, value: [1, 123] });
+    assert.equal(library.candidates(bundles, token).length, 1);
+    assert.deepEqual([library.says(token).status, library.signature(token).status, library.bearerToken(`Bearer ${token}`).status, library.parseId("spiffe://a").status, library.isOneBundle(bundles)], [0, 0, 0, 0, false]);
   };
   for (let n = 0; n < 100; n++) call();
   const before = library.calls.memory.buffer.byteLength;

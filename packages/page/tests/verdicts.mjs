@@ -105,6 +105,27 @@ export function testVerdicts(start) {
     });
   }
 
+  test("a token of other letters is counted in bytes, and a part that is too long is said to be so", async () => {
+    await page.write({ ...fresh(), token: `${"A".repeat(65535)}é` });
+    assert.match((await shown()).why, /65,537 bytes/);
+    await page.write({ token: `e30.${"A".repeat(65536)}.AA` });
+    assert.equal((await shown()).said, "Refused: TooLong");
+    assert.equal(await page.text("payload"), "This part is too long to be read.");
+  });
+
+  test("a time of any length is told", async () => {
+    for (const [change, said, why] of [
+      [{ nbf: NOW * 1000 }, "Refused: NotYet", /^It is valid from after the year 9999 on, in [\d,]+ years\.$/],
+      [`{"sub":"${SUB}","aud":"ledger","exp":18446744073709551615,"nbf":18446744073709551614}`, "Refused: NotYet", /^It is valid from after the year 9999 on, in [\d,]+ years\.$/],
+      [{ exp: NOW * 1000 }, "Accepted", /until after the year 9999, in [\d,]+ years\.$/],
+    ]) {
+      await page.write({ ...fresh(), token: typeof change === "string" ? await sign(key, header, change) : await signed(change) });
+      const it = await shown();
+      assert.equal(it.said, said);
+      assert.match(it.why, why);
+    }
+  });
+
   // What becomes of a token by these bundles.
   async function verdictOf(bundles, token, domain = "") {
     await page.write({ ...fresh(), bundles, domain, token });
@@ -319,6 +340,7 @@ export function testVerdicts(start) {
     await page.click("withdraw");
     assert.equal((await shown()).said, "Refused: Withdrawn");
     assert.deepEqual([await disabled("use"), await disabled("withdraw")], ["true", "true"]);
+    assert.match(await page.text("rows"), /this token.*withdrawn/);
     assert.match(await page.text("record-said"), /1 use, 1 withdrawal, 0 keys used twice/);
     await page.click("forget");
   });
@@ -377,6 +399,8 @@ export function testVerdicts(start) {
       assert.deepEqual([it.said, it.why], [`Refused: ${name}`, why]);
       if (marked) assert.equal(it.marked, marked);
       assert.equal(it.states[ORDER.indexOf(name)], "holds");
+      // (of a part that is no base64url no member is there to be marked)
+      assert.deepEqual(it.members, { Sub: ["sub"], SignatureSpelling: ["signature"] }[name] ?? [], name);
       assert.equal((await keysSaid()).length, 2, name);
       assert.equal(await page.run(() => document.getElementById("bundles").getAttribute("aria-invalid")), "false");
     }
@@ -412,9 +436,15 @@ export function testVerdicts(start) {
     await page.write({ time: "yesterday" });
     assert.match(await page.text("time-said"), /Write seconds/);
     assert.deepEqual([(await shown()).said, await page.text("verdict-why")], ["Not judged", "The time can't be read."]);
-    await page.write({ time: String(NOW), longest: "an hour" });
-    assert.deepEqual([(await shown()).said, await page.text("verdict-why")], ["Not judged", "The longest life can't be read."]);
-    assert.ok((await shown()).states.every((it) => it === "later"));
+    await page.write({ time: String(NOW), longest: "9999999999999999999" });
+    assert.equal((await shown()).said, "Accepted");
+    for (const longest of ["an hour", "-1", "1.5", "18446744073709551616", "99999999999999999999"]) {
+      await page.write({ longest });
+      assert.deepEqual([(await shown()).said, await page.text("verdict-why")], ["Not judged", "The longest life can't be read."], longest);
+      assert.ok((await shown()).states.every((it) => it === "later"));
+      // (what could be done with the token before)
+      assert.deepEqual(await page.run(() => ["use", "withdraw"].map((id) => document.getElementById(id).getAttribute("aria-disabled"))), ["true", "true"]);
+    }
   });
 
   test("a second check of a token says Replayed, and the slider goes from before the token until after it", async () => {
@@ -424,10 +454,16 @@ export function testVerdicts(start) {
       slider.value = value;
       slider.dispatchEvent(new InputEvent("input", { bubbles: true }));
     }, it).then(() => page.settled());
+    await page.click("live");
     for (const [at, said] of [[0, "Refused: NotYet"], [500, "Accepted"], [1000, "Refused: Expired"]]) {
       await slide(at);
       assert.equal((await shown()).said, said);
+      assert.equal(await page.run(() => document.getElementById("live").getAttribute("aria-pressed")), "false");
     }
+    await page.write({ token: await signed({ nbf: 0 }) });
+    await slide(0);
+    assert.deepEqual([(await shown()).said, await page.run(() => document.getElementById("time").value)], ["Accepted", "0"]);
+    await page.write({ token: await signed({ nbf: NOW }) });
     await slide(500);
     await page.click("use");
     assert.equal((await shown()).said, "Refused: Replayed");
