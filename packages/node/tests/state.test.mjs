@@ -122,6 +122,18 @@ test("a validator goes on with its record", async () => {
   for (const it of await readdir(state)) assert.equal((await stat(join(state, it))).mode & 0o777, 0o600);
 });
 
+test("of a token that others accepted a validator says nothing, though its folder has their uses", async () => {
+  const keys = [], text = token(one), others = await Promise.all([0, 1].map(() => Validator.open(terms)));
+  const [first, second] = await Promise.all(others.map(async (it) => (await it.check(text)).use.message)), journal = await begun(state);
+  await journal.keep(first);
+  await journal.close();
+  const validator = await opened(state, { onTwice: (key) => keys.push(key) });
+  assert.equal(await said(validator.check(text)), "Replayed");
+  validator.take(second);
+  assert.deepEqual(keys, []);
+  for (const it of [validator, ...others]) await it.close();
+});
+
 test("each mode keeps withdrawals", async () => {
   const text = token(one);
   for (let start = 0; start < 2; start++) {

@@ -302,6 +302,17 @@ test("of a token that another one accepted too, a validator says so once", async
   for (const it of [first, two, three]) it.close();
 });
 
+test("of its last 65,536 acceptances a validator says so too", async () => {
+  const { Twice } = await imported("src/twice.js"), library = await (await imported("src/library.js")).Library.start();
+  const [own, other] = await Promise.all([0, 1].map(() => Validator.open(terms))), text = token(one), { use } = await own.check(text);
+  const twice = new Twice({ ...Object.fromEntries(["uses", "report", "messageOf"].map((it) => [it, (given) => library[it](given)])), parts: () => [], take() {} }, use.validatorId);
+  twice.take(0n, new Uint8Array());
+  twice.add(use);
+  for (let n = 1; n <= 65_536; n++) twice.add({ key: new Uint8Array(new BigUint64Array([BigInt(n), 0n, 0n, 0n]).buffer), message: use.message });
+  assert.deepEqual(twice.take(0n, (await other.check(text)).use.message).map(hex), [hex(use.key)]);
+  for (const it of [own, other, library]) it.close();
+});
+
 test("a record is saved and put back, in one piece or in many", async () => {
   const validator = await Validator.open(terms), tokens = Array.from({ length: 300 }, () => token(one)), time = now();
   await Promise.all(tokens.map((it) => validator.check(it, time)));
