@@ -321,7 +321,7 @@ async function printed(program, { words = [], isHung = false } = {}) {
     };
     let v = await Validator.open({ audiences: "ledger", follow: ${JSON.stringify(follow)}, wait: 0.3 });`;
   try {
-    return (await promisify(execFile)(process.execPath, [...NODE, ...words, "--input-type=module", "--eval", `${begin}${program}`])).stdout;
+    return (await promisify(execFile)(process.execPath, [...NODE, ...words, "--input-type=module", "--eval", `${begin}${program}`], { timeout: PATIENCE * 1000 })).stdout;
   } finally {
     await server.close();
   }
