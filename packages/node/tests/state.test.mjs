@@ -343,6 +343,19 @@ test("appends go on while a snapshot is written, and a snapshot that fails is to
   assert.deepEqual(await found(state), range(30));
 });
 
+test("a snapshot that fails is not tried again at each request", async () => {
+  const journal = await begun(state, { small: 1 });
+  let count = 0;
+  disturbed((name, _, [path]) => {
+    if (name !== "open" || basename(path) !== "snapshot.new") return;
+    count += 1;
+    throw failed("ENOSPC");
+  });
+  for (const it of range(30)) await journal.keep(use(it));
+  await journal.close();
+  assert.equal(count, 1);
+});
+
 test("a mark stands behind a burst, and at the end", async () => {
   const journal = await begun(state), sizes = async () => (await readFile(join(state, "journal.2"))).toString("latin1").replace(/\0+$/, "").length;
   await journal.keep(use(1));
