@@ -343,6 +343,25 @@ test("appends go on while a snapshot is written, and a snapshot that fails is to
   assert.deepEqual(await found(state), range(30));
 });
 
+test("a folder is held until the snapshot is written that was begun before it is closed", async () => {
+  const held = gate(), begins = gate(), kept = [], journal = await begun(state, { small: 1 }, kept);
+  disturbed(async (name, file) => {
+    if (name !== "write" || (await path(file)) !== "snapshot.new") return;
+    begins.open();
+    await held.passed;
+  });
+  for (const it of range(20)) {
+    kept.push(it);
+    await journal.keep(use(it));
+  }
+  await begins.passed;
+  const closing = journal.close();
+  for (let again = 0; again < 4; again++) assert.equal(await said(Journal.open(state)), "Held");
+  held.open();
+  await closing;
+  assert.deepEqual(await found(state), range(20));
+});
+
 test("a snapshot that fails is not tried again at each request", async () => {
   const journal = await begun(state, { small: 1 });
   let count = 0;

@@ -1,6 +1,7 @@
 // What a validator does beside the vectors: many checks at once, withdrawals, messages, bundles, times, and running out of memory.
 
 import assert from "node:assert/strict";
+import { constants, generateKeyPairSync, sign } from "node:crypto";
 import { readdirSync } from "node:fs";
 import { test } from "node:test";
 import { inspect } from "node:util";
@@ -472,6 +473,30 @@ test("a token says what it says, with no one's word for it", async () => {
     ["ES256", "spiffe://example.org/billing/api", "example.org", "other", audiences, 5n, 32],
   );
   assert.throws(() => validator.says("a.b"), { name: "NotThreeParts" });
+  validator.close();
+});
+
+test("a key verifies by each algorithm that it may sign by", async () => {
+  const { privateKey, publicKey } = generateKeyPairSync("rsa", { modulusLength: 2048 }), entry = { use: "jwt-svid", kid: "r", ...publicKey.export({ format: "jwk" }) };
+  const validator = await Validator.open({ ...terms, bundles: { "example.org": { keys: [entry] } }, mode: "reuse" });
+  const part = (it) => Buffer.from(JSON.stringify(it)).toString("base64url");
+  for (const alg of ["RS256", "PS256", "RS512", "PS512", "RS256"]) {
+    const signed = [{ alg, kid: "r" }, { sub: "spiffe://example.org/a", aud: "ledger", exp: now() + 300 }].map(part).join(".");
+    const padding = alg.startsWith("PS") ? constants.RSA_PKCS1_PSS_PADDING : constants.RSA_PKCS1_PADDING;
+    const made = sign(`SHA${alg.slice(2)}`, Buffer.from(signed), { key: privateKey, padding, saltLength: constants.RSA_PSS_SALTLEN_DIGEST });
+    assert.equal(await said(validator.check(`${signed}.${made.toString("base64url")}`)), "accepted", alg);
+  }
+  validator.close();
+});
+
+test("a verifier gets a key as it stands in the bundles now", async () => {
+  const notes = [], verify = (_, key) => notes.push(JSON.parse(key).note) > 0, noted = (note) => ({ "example.org": { keys: [{ ...one.entry, note }] } });
+  const validator = await Validator.open({ ...terms, bundles: noted("1"), verify, mode: "reuse" });
+  for (const note of ["1", "2", "3"]) {
+    validator.renew(noted(note));
+    assert.equal(await said(validator.check(token(one))), "accepted");
+  }
+  assert.deepEqual(notes, ["1", "2", "3"]);
   validator.close();
 });
 
