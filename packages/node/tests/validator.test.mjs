@@ -3,6 +3,9 @@
 import assert from "node:assert/strict";
 import { constants, generateKeyPairSync, sign } from "node:crypto";
 import { readdirSync } from "node:fs";
+import { cp, mkdtemp, rename, rm } from "node:fs/promises";
+import { tmpdir } from "node:os";
+import { join } from "node:path";
 import { test } from "node:test";
 import { inspect } from "node:util";
 import { PACKAGE, TOP, counted, digest, exhausted, hex, imported, issuer, listed, now, read, said, seen, token } from "./making.mjs";
@@ -498,6 +501,20 @@ test("a verifier gets a key as it stands in the bundles now", async () => {
   }
   assert.deepEqual(notes, ["1", "2", "3"]);
   validator.close();
+});
+
+test("a library that could not be read is read the next time", async () => {
+  const room = await mkdtemp(join(tmpdir(), "svid-library-")), file = join(room, "svid.wasm");
+  try {
+    await cp(PACKAGE, room, { recursive: true });
+    await rename(file, `${file}.away`);
+    const { Validator } = await import(join(room, "index.js"));
+    await assert.rejects(Validator.open(terms), { code: "ENOENT" });
+    await rename(`${file}.away`, file);
+    (await Validator.open(terms)).close();
+  } finally {
+    await rm(room, { recursive: true });
+  }
 });
 
 test("what can't be verified is an error, and never let in", async () => {
