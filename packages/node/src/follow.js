@@ -175,7 +175,7 @@ export class Sources {
   async #judge(domain, source, reading, isOfFolder = false) {
     try {
       const text = await reading(), held = this.#held.get(domain);
-      if (held?.source !== source || !held.text.equals(text)) {
+      if (!held?.text.equals(text)) {
         await readable(domain, text);
         if (this.#ending.signal.aborted) return undefined;
         this.#held.set(domain, { text, source, isOfFolder });

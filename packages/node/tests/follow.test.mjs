@@ -170,7 +170,7 @@ test("bundles that are not taken are handed on again", async () => {
 });
 
 test("https_web: a server that is known by its name is asked again, as its bundle says", async () => {
-  const server = await serving(ofWeb(), answering(text(one, { spiffe_refresh_hint: 1 })));
+  const server = await serving(ofWeb(), answering(text(one, { spiffe_refresh_hint: 1_000_000 })));
   const it = await looking({ "example.org": { url: server.url, authorities: web.cert } }, { usual: 9999, most: 0.02 });
   assert.deepEqual(Object.keys(it.all), ["example.org"]);
   await until(() => server.asked > 2);
@@ -275,7 +275,7 @@ test("https_spiffe: whoever has not the SPIFFE ID is not heard", async () => {
 
 test("https_spiffe: the server of another trust domain is known by that one's bundle, and leads nowhere else", async () => {
   const at = await folder(), file = join(at, "org.json"), other = issuer("k", "P-256", "example.com");
-  await writeFile(file, JSON.stringify({ keys: [one.entry] }));
+  await writeFile(file, JSON.stringify({ keys: [{ ...one.entry, x5c: vouching(spiffe).x5c }] })); // (a key of tokens vouches for no server)
   const server = await serving(certificate(spiffe, "server", `URI:${SERVER}`), answering(text(other)));
   const it = await looking({ "example.com": { url: server.url, id: SERVER }, "example.org": file });
   await until(() => it.faults.some((why) => /the bundle of example\.org has no entry with the use "x509-svid"/.test(why)));
@@ -321,7 +321,7 @@ async function printed(program, { words = [], isHung = false } = {}) {
     };
     let v = await Validator.open({ audiences: "ledger", follow: ${JSON.stringify(follow)}, wait: 0.3 });`;
   try {
-    return (await promisify(execFile)(process.execPath, [...NODE, ...words, "--input-type=module", "--eval", `${begin}${program}`])).stdout;
+    return (await promisify(execFile)(process.execPath, [...NODE, ...words, "--input-type=module", "--eval", `${begin}${program}`], { timeout: PATIENCE * 1000 })).stdout;
   } finally {
     await server.close();
   }

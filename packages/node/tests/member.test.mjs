@@ -745,7 +745,7 @@ test("withdrawals that fail, or are none, are read again, and tell that the stor
   const store = new MemoryStore(), text = token(one), read = store.withdrawals.bind(store);
   const wrong = [undefined, {}, { these: [], last: 7 }, { these: [{ key: new Uint8Array(31), expires: 1 }], last: "1" }, { these: [{ key: new Uint8Array(32), expires: -1 }], last: "1" }];
   store.withdrawals = away;
-  const validator = await bound(store, { wait: 0.1 });
+  const validator = await bound(store, { wait: 1.5 }); // (longer than from one reading to the next)
   assert.equal(validator.ready, false);
   await until(async () => (await validator.check(text, { caller: "10.0.0.7" }).catch((it) => it)).cause?.message === "the store is away");
   store.withdrawals = async (after) => (wrong.length ? wrong.shift() : read(after));
@@ -755,6 +755,23 @@ test("withdrawals that fail, or are none, are read again, and tell that the stor
   await until(() => validator.unready() === sentences("STORE_AWAY"));
   store.withdrawals = read;
   await until(() => validator.ready);
+  validator.close();
+});
+
+test("withdrawals that could not be taken are read again", async () => {
+  const store = new MemoryStore(), text = token(one), read = store.withdrawals.bind(store);
+  let time = now(), told = 0;
+  store.withdrawals = async (after) => {
+    const is = await read(after);
+    told += is.these.length;
+    return is;
+  };
+  const validator = await Validator.open({ ...terms, mode: "reuse", store, step: 100, now: () => time }), { key, expires } = validator.says(text);
+  time += 1000; // (the clock has jumped)
+  await store.withdraw(key, expires);
+  await until(() => told);
+  time -= 1000;
+  await until(async () => (await said(validator.check(text))) === "Withdrawn");
   validator.close();
 });
 

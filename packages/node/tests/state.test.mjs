@@ -122,6 +122,18 @@ test("a validator goes on with its record", async () => {
   for (const it of await readdir(state)) assert.equal((await stat(join(state, it))).mode & 0o777, 0o600);
 });
 
+test("of a token that others accepted a validator says nothing, though its folder has their uses", async () => {
+  const keys = [], text = token(one), others = await Promise.all([0, 1].map(() => Validator.open(terms)));
+  const [first, second] = await Promise.all(others.map(async (it) => (await it.check(text)).use.message)), journal = await begun(state);
+  await journal.keep(first);
+  await journal.close();
+  const validator = await opened(state, { onTwice: (key) => keys.push(key) });
+  assert.equal(await said(validator.check(text)), "Replayed");
+  validator.take(second);
+  assert.deepEqual(keys, []);
+  for (const it of [validator, ...others]) await it.close();
+});
+
 test("each mode keeps withdrawals", async () => {
   const text = token(one);
   for (let start = 0; start < 2; start++) {
@@ -329,6 +341,38 @@ test("appends go on while a snapshot is written, and a snapshot that fails is to
   await journal.close();
   process.off("warning", heard);
   assert.deepEqual(await found(state), range(30));
+});
+
+test("a folder is held until the snapshot is written that was begun before it is closed", async () => {
+  const held = gate(), begins = gate(), kept = [], journal = await begun(state, { small: 1 }, kept);
+  disturbed(async (name, file) => {
+    if (name !== "write" || (await path(file)) !== "snapshot.new") return;
+    begins.open();
+    await held.passed;
+  });
+  for (const it of range(20)) {
+    kept.push(it);
+    await journal.keep(use(it));
+  }
+  await begins.passed;
+  const closing = journal.close();
+  for (let again = 0; again < 4; again++) assert.equal(await said(Journal.open(state)), "Held");
+  held.open();
+  await closing;
+  assert.deepEqual(await found(state), range(20));
+});
+
+test("a snapshot that fails is not tried again at each request", async () => {
+  const journal = await begun(state, { small: 1 });
+  let count = 0;
+  disturbed((name, _, [path]) => {
+    if (name !== "open" || basename(path) !== "snapshot.new") return;
+    count += 1;
+    throw failed("ENOSPC");
+  });
+  for (const it of range(30)) await journal.keep(use(it));
+  await journal.close();
+  assert.equal(count, 1);
 });
 
 test("a mark stands behind a burst, and at the end", async () => {

@@ -1,7 +1,11 @@
 // What a validator does beside the vectors: many checks at once, withdrawals, messages, bundles, times, and running out of memory.
 
 import assert from "node:assert/strict";
+import { constants, generateKeyPairSync, sign } from "node:crypto";
 import { readdirSync } from "node:fs";
+import { cp, mkdtemp, rename, rm } from "node:fs/promises";
+import { tmpdir } from "node:os";
+import { join } from "node:path";
 import { test } from "node:test";
 import { inspect } from "node:util";
 import { PACKAGE, TOP, counted, digest, exhausted, hex, imported, issuer, listed, now, read, said, seen, token } from "./making.mjs";
@@ -302,6 +306,17 @@ test("of a token that another one accepted too, a validator says so once", async
   for (const it of [first, two, three]) it.close();
 });
 
+test("of its last 65,536 acceptances a validator says so too", async () => {
+  const { Twice } = await imported("src/twice.js"), library = await (await imported("src/library.js")).Library.start();
+  const [own, other] = await Promise.all([0, 1].map(() => Validator.open(terms))), text = token(one), { use } = await own.check(text);
+  const twice = new Twice({ ...Object.fromEntries(["uses", "report", "messageOf"].map((it) => [it, (given) => library[it](given)])), parts: () => [], take() {} }, use.validatorId);
+  twice.take(0n, new Uint8Array());
+  twice.add(use);
+  for (let n = 1; n <= 65_536; n++) twice.add({ key: new Uint8Array(new BigUint64Array([BigInt(n), 0n, 0n, 0n]).buffer), message: use.message });
+  assert.deepEqual(twice.take(0n, (await other.check(text)).use.message).map(hex), [hex(use.key)]);
+  for (const it of [own, other, library]) it.close();
+});
+
 test("a record is saved and put back, in one piece or in many", async () => {
   const validator = await Validator.open(terms), tokens = Array.from({ length: 300 }, () => token(one)), time = now();
   await Promise.all(tokens.map((it) => validator.check(it, time)));
@@ -462,6 +477,44 @@ test("a token says what it says, with no one's word for it", async () => {
   );
   assert.throws(() => validator.says("a.b"), { name: "NotThreeParts" });
   validator.close();
+});
+
+test("a key verifies by each algorithm that it may sign by", async () => {
+  const { privateKey, publicKey } = generateKeyPairSync("rsa", { modulusLength: 2048 }), entry = { use: "jwt-svid", kid: "r", ...publicKey.export({ format: "jwk" }) };
+  const validator = await Validator.open({ ...terms, bundles: { "example.org": { keys: [entry] } }, mode: "reuse" });
+  const part = (it) => Buffer.from(JSON.stringify(it)).toString("base64url");
+  for (const alg of ["RS256", "PS256", "RS512", "PS512", "RS256"]) {
+    const signed = [{ alg, kid: "r" }, { sub: "spiffe://example.org/a", aud: "ledger", exp: now() + 300 }].map(part).join(".");
+    const padding = alg.startsWith("PS") ? constants.RSA_PKCS1_PSS_PADDING : constants.RSA_PKCS1_PADDING;
+    const made = sign(`SHA${alg.slice(2)}`, Buffer.from(signed), { key: privateKey, padding, saltLength: constants.RSA_PSS_SALTLEN_DIGEST });
+    assert.equal(await said(validator.check(`${signed}.${made.toString("base64url")}`)), "accepted", alg);
+  }
+  validator.close();
+});
+
+test("a verifier gets a key as it stands in the bundles now", async () => {
+  const notes = [], verify = (_, key) => notes.push(JSON.parse(key).note) > 0, noted = (note) => ({ "example.org": { keys: [{ ...one.entry, note }] } });
+  const validator = await Validator.open({ ...terms, bundles: noted("1"), verify, mode: "reuse" });
+  for (const note of ["1", "2", "3"]) {
+    validator.renew(noted(note));
+    assert.equal(await said(validator.check(token(one))), "accepted");
+  }
+  assert.deepEqual(notes, ["1", "2", "3"]);
+  validator.close();
+});
+
+test("a library that could not be read is read the next time", async () => {
+  const room = await mkdtemp(join(tmpdir(), "svid-library-")), file = join(room, "svid.wasm");
+  try {
+    await cp(PACKAGE, room, { recursive: true });
+    await rename(file, `${file}.away`);
+    const { Validator } = await import(join(room, "index.js"));
+    await assert.rejects(Validator.open(terms), { code: "ENOENT" });
+    await rename(`${file}.away`, file);
+    (await Validator.open(terms)).close();
+  } finally {
+    await rm(room, { recursive: true });
+  }
 });
 
 test("what can't be verified is an error, and never let in", async () => {
