@@ -297,18 +297,24 @@ func TestWhatIsGivenUpEndsAtTheServer(t *testing.T) {
 	s.do(t, "SELECT pg_reload_conf()")
 	a := open(t, Options{URLs: []string{s.URL}, Name: "svid"})
 	standby.Postgres.Pause()
-	for again := 0; again < 20; again++ {
+	waiting := func(holds string) bool {
+		return s.Do("DO $$ BEGIN ASSERT (SELECT count(*) FROM pg_stat_activity WHERE wait_event = 'SyncRep') "+holds+"; END $$") == nil
+	}
+	again := 0
+	logtest.Await(t, "calls to wait", func() bool {
+		again++ // (a busy machine takes its time until a call is made)
 		these := []claims.Claim{claim(1), claim(1)}
-		if f := claimstest.Try(a, 30*time.Millisecond, these[again%2:]...)[0]; f.Err == nil {
+		if f := claimstest.Try(a, time.Duration(again)*5*time.Millisecond, these[again%2:]...)[0]; f.Err == nil {
 			t.Fatalf("answered, and no standby has it: %+v", f)
 		}
-	}
+		return again >= 20 && waiting(">= 4")
+	})
 	logtest.Await(t, "the processes to end", func() bool {
 		claimstest.Try(a, 30*time.Millisecond, claim(1))
 		ctx, cancel := context.WithTimeout(context.Background(), 200*time.Millisecond)
 		defer cancel()
 		a.State(ctx) // (It waits too.)
-		return s.Do(`DO $$ BEGIN ASSERT (SELECT count(*) FROM pg_stat_activity WHERE wait_event = 'SyncRep') < 4; END $$`) == nil
+		return waiting("< 4")
 	})
 }
 
