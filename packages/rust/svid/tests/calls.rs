@@ -353,6 +353,13 @@ fn who_may_call() {
     }
 }
 
+/// That of the other packages, from Python's hashlib.sha256(b"192.0.2.1").
+#[test]
+#[cfg(any(feature = "openssl", feature = "ring"))]
+fn a_caller_is_a_digest() {
+    assert_eq!(hex(&svid::Caller::of("192.0.2.1").0), "37fcff24bf62035b2b08020afc08b4fecd4fcffce57ab23518e3561ff0fe76b9");
+}
+
 /// No call panics, whatever it is given.
 #[test]
 fn bytes_of_any_kind() {

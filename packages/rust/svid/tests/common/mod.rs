@@ -212,6 +212,31 @@ pub fn until(what: &str, mut holds: impl FnMut() -> bool) {
     }
 }
 
+/// A guard that a test which fails does not drop: that waits for its threads, and they may never end.
+pub struct Kept<T>(Option<T>);
+
+impl<T> Kept<T> {
+    pub fn new(it: T) -> Kept<T> {
+        Kept(Some(it))
+    }
+}
+
+impl<T> std::ops::Deref for Kept<T> {
+    type Target = T;
+
+    fn deref(&self) -> &T {
+        self.0.as_ref().expect("it is there until it is dropped")
+    }
+}
+
+impl<T> Drop for Kept<T> {
+    fn drop(&mut self) {
+        if std::thread::panicking() {
+            std::mem::forget(self.0.take());
+        }
+    }
+}
+
 /// What a guard warned of.
 #[derive(Clone, Default)]
 pub struct Heard(Arc<Mutex<Vec<String>>>);
