@@ -179,7 +179,7 @@ pub fn empty(time: &Time) -> Guard<()> {
 }
 
 /// A verifier, and whether it can verify by the algorithm.
-pub trait Verifies: Verify + Default + Sync {
+pub trait Verifies: Verify + Default + Send + Sync {
     const CANT: &'static [&'static str];
     fn of_bits(most: usize) -> Self;
     const MOST_BITS: usize;
