@@ -199,3 +199,16 @@ fn refresh(bundle: &[u8]) -> Duration {
     let hint = serde_json::from_slice::<Map<String, Value>>(bundle).ok().and_then(|it| it.get("spiffe_refresh_hint")?.as_u64());
     Duration::from_secs(hint.filter(|it| *it > 0).map_or(REFRESH.2, |it| it.clamp(REFRESH.0, REFRESH.1)))
 }
+
+#[cfg(test)]
+mod tests {
+    use super::*;
+
+    #[test]
+    fn hints() {
+        for (hint, due) in [("9", 10), ("10", 10), ("86400", 86_400), ("86401", 86_400), ("0", 300), ("-1", 300), ("null", 300)] {
+            assert_eq!(refresh(format!(r#"{{"keys":[],"spiffe_refresh_hint":{hint}}}"#).as_bytes()), Duration::from_secs(due), "{hint}");
+        }
+        assert_eq!(refresh(br#"{"keys":[]}"#), Duration::from_secs(300));
+    }
+}

@@ -1,5 +1,8 @@
 //! Follows the sources of trust bundles.
 
+#[cfg(test)]
+mod tests;
+
 use std::collections::{BTreeMap, HashMap};
 use std::fs::File;
 use std::io::Read;

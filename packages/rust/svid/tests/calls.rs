@@ -54,6 +54,18 @@ impl Verify for Always {
     }
 }
 
+/// Can't verify by each first key, and takes each second one for that of the signature.
+struct Second(AtomicUsize);
+
+impl Verify for Second {
+    fn verify(&self, _: &Candidate<'_>, _: &[u8], _: &[u8]) -> Result<bool, Unverified> {
+        match self.0.fetch_add(1, Ordering::Relaxed) % 2 {
+            0 => Err(Unverified::Unsupported),
+            _ => Ok(true),
+        }
+    }
+}
+
 fn refused(why: Refusal) -> Error {
     Error::Refused(why)
 }
@@ -91,6 +103,14 @@ fn what_a_verifier_answers() {
         assert_eq!(guard.judge(token), Err(due));
         assert_eq!(guard.size().unwrap().uses, 0);
     }
+    // Where a later key made the signature, nothing comes of a key that it can't verify by.
+    let mut two: serde_json::Value = serde_json::from_slice(&bundles()).expect("an object");
+    let keys = two["example.org"]["keys"].as_array_mut().expect("a list");
+    let other = serde_json::json!({"kty": "EC", "use": "jwt-svid", "kid": "ec-1", "crv": "P-256", "x": keys[0]["y"], "y": keys[0]["x"]});
+    keys.insert(0, other);
+    let guard = Guard::open(&Time::at(NOW).of(ledger()), two.to_string().as_str(), Second(AtomicUsize::new(0))).expect("it opens");
+    assert_eq!(guard.judge(token).map(|it| it.path().to_owned()).as_deref(), Ok("/billing/api"));
+    assert!(guard.check(token).is_ok());
     // A token that nobody can verify is refused for what comes before its signature.
     let guard = opened_at(4_102_444_800, Always::new(Err(Unverified::Unsupported)));
     assert_eq!(guard.check(token), Err(refused(Refusal::Expired)));

@@ -147,6 +147,11 @@ fn good(bundle: &str) -> String {
     format!("HTTP/1.1 200 OK\r\ncontent-length: {}\r\ncontent-type: application/json\r\n\r\n{bundle}", bundle.len())
 }
 
+/// A bundle that is to be asked for after a second, which is after ten.
+fn hinted(issuer: &Issuer) -> String {
+    good(&issuer.bundle().replace(":60}", ":1}"))
+}
+
 fn opened(sources: Sources) -> (Guard<OpenSsl>, Heard) {
     let heard = Heard::default();
     (Guard::open(&heard.options(), sources, OpenSsl::new()).expect("it opens"), heard)
@@ -182,8 +187,6 @@ fn warning(sources: Sources) -> String {
 fn a_server_with_a_certificate_for_its_name() {
     let (room, by, mut issuer) = (Room::new("web"), authority(), Issuer::new("example.org"));
     let shows = certified(&Of { names: vec!["localhost"], ..Of::default() }, Some(&by));
-    // (a hint of less than ten seconds is one of ten)
-    let hinted = |issuer: &Issuer| good(&issuer.bundle().replace(":60}", ":1}"));
     let endpoint = Endpoint::begin(&shows, hinted(&issuer));
     let (guard, heard) = opened(Sources::new().https_web("example.org", &endpoint.address, file(&room, pem(&by))));
     until("the bundle", || is_good(&guard, &issuer));
@@ -241,19 +244,25 @@ fn an_answer_that_is_no_bundle() {
     }
 }
 
-/// The last good bundle stays. It is asked again soon, and then less and less often.
+/// The last good bundle stays. It is asked again soon, and then less and less often, until it answers.
 #[test]
 fn an_endpoint_that_fails_for_a_while() {
     let (room, by, issuer) = (Room::new("fails"), authority(), Issuer::new("example.org"));
     let shows = certified(&Of { names: vec!["localhost"], ..Of::default() }, Some(&by));
-    let endpoint = Endpoint::begin(&shows, "HTTP/1.1 500 None\r\ncontent-length: 0\r\n\r\n");
+    let none = "HTTP/1.1 500 None\r\ncontent-length: 0\r\n\r\n";
+    let endpoint = Endpoint::begin(&shows, none);
     let (guard, heard) = opened(Sources::new().https_web("example.org", &endpoint.address, file(&room, pem(&by))));
     until("three questions", || endpoint.count() >= 3);
-    endpoint.answers(good(&issuer.bundle()));
+    endpoint.answers(hinted(&issuer));
     until("the bundle", || is_good(&guard, &issuer));
+    let count = endpoint.count();
+    endpoint.answers(none);
+    until("questions after that", || endpoint.count() > count + 1);
     let times: Vec<Instant> = endpoint.asked.lock().unwrap().iter().map(|it| it.0).collect();
     assert!(times[1] - times[0] >= Duration::from_secs(1) && times[2] - times[1] >= Duration::from_secs(2), "{times:?}");
-    assert_eq!(heard.all().len(), 1, "{:?}", heard.all());
+    // (a second, and what a busy machine takes beside)
+    assert!(times[count + 1] - times[count] < Duration::from_secs(2) + patience() / 20, "{times:?}");
+    assert_eq!((heard.all().len(), is_good(&guard, &issuer)), (2, true), "{:?}", heard.all());
 }
 
 #[test]

@@ -125,6 +125,13 @@ fn a_folder_is_followed() {
     fs::remove_file(file("one.example")).expect("it is there");
     until("the end of a bundle whose file is gone", || check(&guard, &one) == refused(Refusal::UnknownDomain));
     assert_eq!((check(&guard, &other), check(&guard, &named)), (Ok(()), Ok(())));
+    // What was wrong with a file that is gone is forgotten.
+    fs::remove_file(file("other.example")).expect("it is there");
+    until("the end of the other bundle", || check(&guard, &other) == refused(Refusal::UnknownDomain));
+    write(&file("other.example"), "half");
+    until("the warning again", || heard.count("other.example.json: ") == 2);
+    write(&file("other.example"), other.bundle());
+    until("the other bundle", || check(&guard, &other).is_ok());
     // A folder that can't be read takes nothing with it.
     let away = room.0.with_extension("away");
     fs::rename(&room.0, &away).expect("it is there");

@@ -10,15 +10,10 @@ use common::*;
 use serde_json::Value;
 use svid::{Error, Guard, Options, Refusal};
 
-#[cfg(feature = "openssl")]
-type Verifier = svid::OpenSsl;
-#[cfg(not(feature = "openssl"))]
-type Verifier = svid::Ring;
-
 const THREADS: usize = 8;
 
 /// Good tokens of one bundle, and their time: those that this verifier can verify.
-fn tokens() -> (String, Vec<String>, u64) {
+fn tokens<V: Verifies>() -> (String, Vec<String>, u64) {
     let Vectors { file, vectors } = read("signatures");
     let now = number_of(&file["setting"], "now");
     let (mut keys, mut tokens, mut known) = (Vec::<&str>::new(), Vec::new(), Vec::new());
@@ -29,7 +24,7 @@ fn tokens() -> (String, Vec<String>, u64) {
         // (of each type and curve one key, since only the first three that fit are tried)
         let kind = |key: &str| key.split("\"crv\"").nth(1).map(|it| it[..8].to_owned());
         let is_fit = keys.iter().all(|other| *other == key || kind(other) != kind(key));
-        if given.len() == 1 && is_fit && !Verifier::CANT.contains(&said.algorithm().name()) && !known.contains(&said.key()) {
+        if given.len() == 1 && is_fit && !V::CANT.contains(&said.algorithm().name()) && !known.contains(&said.key()) {
             if !keys.contains(&key) {
                 keys.push(key);
             }
@@ -63,27 +58,43 @@ fn each_once(tokens: &[String], check: impl Fn(&str) -> Result<svid::Accepted, E
     assert_eq!(accepted.into_inner().unwrap(), vec![1; tokens.len()]);
 }
 
-fn opened(bundles: &str, now: u64) -> Guard<Verifier> {
-    Guard::open(&at(now), bundles, Verifier::default()).expect("it opens")
+fn opened<V: Verifies>(bundles: &str, now: u64) -> Guard<V> {
+    Guard::open(&at(now), bundles, V::default()).expect("it opens")
 }
 
 fn at(now: u64) -> Options {
     Time::at(now).of(ledger())
 }
 
-#[test]
-fn a_guard() {
-    let (bundles, tokens, now) = tokens();
-    let guard = Arc::new(opened(&bundles, now));
+/// A test with each verifier.
+macro_rules! each {
+    ($name:ident $of:ident) => {
+        #[test]
+        fn $name() {
+            #[cfg(feature = "openssl")]
+            $of::<svid::OpenSsl>();
+            #[cfg(feature = "ring")]
+            $of::<svid::Ring>();
+        }
+    };
+}
+
+each!(a_guard shared);
+each!(a_guard_that_is_renewed renewed);
+each!(a_guard_takes_other_keys with_other_keys);
+each!(what_threads_may_share may_be_shared);
+
+fn shared<V: Verifies>() {
+    let (bundles, tokens, now) = tokens::<V>();
+    let guard = Arc::new(opened::<V>(&bundles, now));
     each_once(&tokens, |token| guard.check(token));
     assert_eq!(guard.size().unwrap().uses, tokens.len());
 }
 
 /// While the bundles are renewed, each token is accepted once and refused as used behind that: the old and the new ones have its key.
-#[test]
-fn a_guard_that_is_renewed() {
-    let (bundles, tokens, now) = tokens();
-    let guard = opened(&bundles, now);
+fn renewed<V: Verifies>() {
+    let (bundles, tokens, now) = tokens::<V>();
+    let guard = opened::<V>(&bundles, now);
     let others = bundles.replacen("{\"example.org\"", "{\"other.org\":{\"keys\":[]},\"example.org\"", 1);
     thread::scope(|scope| {
         let renews = scope.spawn(|| {
@@ -104,10 +115,9 @@ fn a_guard_that_is_renewed() {
     });
 }
 
-#[test]
-fn a_guard_takes_other_keys() {
-    let (bundles, tokens, now) = tokens();
-    let guard = opened("{}", now);
+fn with_other_keys<V: Verifies>() {
+    let (bundles, tokens, now) = tokens::<V>();
+    let guard = opened::<V>("{}", now);
     assert_eq!(guard.check(&tokens[0]), Err(Error::Refused(Refusal::UnknownDomain)));
     guard.follow(&bundles).expect("they are good");
     assert!(guard.check(&tokens[0]).is_ok());
@@ -117,9 +127,11 @@ fn a_guard_takes_other_keys() {
 }
 
 /// Threads may share these, also those that catch panics.
-#[test]
-fn what_threads_may_share() {
+fn may_be_shared<V: Verifies>()
+where
+    Guard<V>: Send + Sync + std::panic::UnwindSafe + std::panic::RefUnwindSafe,
+{
     fn all<T: Send + Sync + std::panic::UnwindSafe + std::panic::RefUnwindSafe>() {}
-    all::<Guard<Verifier>>();
+    all::<Guard<V>>();
     all::<svid::Options>();
 }

@@ -21,9 +21,9 @@ use svid::{Error, Guard, OpenSsl, OptionsFault, Refusal, SourceFault, Sources};
 
 const UNKNOWN: Result<(), Error> = Err(Error::Refused(Refusal::UnknownDomain));
 
-fn opened(sources: Sources) -> (Guard<OpenSsl>, Heard) {
+fn opened(sources: Sources) -> (Kept<Guard<OpenSsl>>, Heard) {
     let heard = Heard::default();
-    (Guard::open(&heard.options(), sources, OpenSsl::new()).expect("it opens"), heard)
+    (Kept::new(Guard::open(&heard.options(), sources, OpenSsl::new()).expect("it opens")), heard)
 }
 
 fn check(guard: &Guard<OpenSsl>, issuer: &Issuer) -> Result<(), Error> {

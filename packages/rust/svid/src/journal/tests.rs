@@ -1,6 +1,7 @@
 //! State folders: the vectors of tests/vectors/, and a disk that fails.
 
 use std::fs;
+use std::os::unix::fs::PermissionsExt;
 use std::sync::atomic::{AtomicBool, AtomicUsize, Ordering};
 use std::sync::Barrier;
 
@@ -131,6 +132,68 @@ fn a_snapshot_replaces_journals() {
     let mut journal = Journal::open(&room.0).expect("nobody has it");
     assert!(!journal.wants_snapshot());
     assert_eq!(uses(&mut loaded(&mut journal)), 20_001);
+}
+
+/// Once the journals are longer than the last one, and than eight mebibytes.
+#[test]
+fn a_snapshot_is_due() {
+    let room = Room::new("due");
+    let snapshot = |journal: &Journal| {
+        let mut pieces = 0;
+        journal.snapshot(|part, room| {
+            pieces += 1;
+            part.done = u64::from(pieces * PIECE >= 10 << 20);
+            Ok(room.len())
+        })
+    };
+    let append = |journal: &Journal, mebibytes: usize| journal.append(&vec![7; mebibytes << 20], WAIT).expect("it is kept");
+    let journal = Journal::open(&room.0).expect("it is empty");
+    snapshot(&journal).expect("the disk is well");
+    append(&journal, 9);
+    assert!(!journal.wants_snapshot());
+    drop(journal);
+    let journal = Journal::open(&room.0).expect("nobody has it");
+    assert!(!journal.wants_snapshot());
+    append(&journal, 2);
+    assert!(journal.wants_snapshot());
+    snapshot(&journal).expect("the disk is well");
+    append(&journal, 2);
+    assert!(!journal.wants_snapshot());
+}
+
+/// A journal grows by zeros now and then, and not with each write.
+#[test]
+fn an_append_is_one_write() {
+    let (room, count) = (Room::new("writes"), Arc::new(AtomicUsize::new(0)));
+    let (journal, faults) = failing(&room);
+    let counts = Arc::clone(&count);
+    faults.before_writes(move || {
+        counts.fetch_add(1, Ordering::Relaxed);
+    });
+    for number in 0..10 {
+        journal.append(&entry(number).message().unwrap(), WAIT).expect("the disk is well");
+    }
+    assert_eq!(count.load(Ordering::Relaxed), 11);
+}
+
+/// Nobody else reads or writes them, and files with like names are none of them.
+#[test]
+fn the_files_of_a_folder() {
+    let (room, mode) = (Room::new("files"), |path: &Path| fs::metadata(path).unwrap().permissions().mode() & 0o777);
+    let folder = room.0.join("state");
+    drop(Journal::open(&folder).expect("its parent is there"));
+    for name in ["journal.007", "journal.0", "journal.", "journal.1.old", "snapshots"] {
+        fs::write(folder.join(name), "anything").unwrap();
+        fs::set_permissions(folder.join(name), fs::Permissions::from_mode(0o600)).unwrap();
+    }
+    let journal = Journal::open(&folder).expect("nobody has it");
+    let snapshot = |part: &mut Part, _: &mut [u8]| {
+        part.done = 1;
+        Ok(PIECE)
+    };
+    journal.snapshot(snapshot).expect("the disk is well");
+    assert_eq!(mode(&folder), 0o700);
+    assert!(files(&folder).iter().all(|(path, _)| mode(path) == 0o600), "{:?}", files(&folder));
 }
 
 #[test]

@@ -98,6 +98,10 @@ fn a_clock_that_goes_back_ends_the_epoch() {
         assert_eq!(reopened.owner(6, 1, NOW + 950).1, NOW + 1000 + LASTS);
         reopened.again();
         assert_eq!(reopened.owner(7, 2, NOW + 600).1, NOW + 1000 + LASTS);
+        // (no message tells what is over)
+        reopened.set(NOW + 1000 + LASTS);
+        reopened.put(&[]).expect("it answers");
+        reopened.open.as_ref().unwrap().0.snapshot().expect("it is written");
     }
 }
 

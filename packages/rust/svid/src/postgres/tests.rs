@@ -21,31 +21,33 @@ const STANDBYS: &str = "TestACancelledWait|TestWhatIsGivenUpEndsAtTheServer|Test
 const PRIMARIES: &str = "TestTwoPrimaries|TestTwoStandbysArePromoted|TestServersOfTwoClusters";
 const TLS: &str = "TestTLS|TestRights";
 
-/// One test has the machine at a time: its servers want most of it.
-static TURN: Mutex<()> = Mutex::new(());
+/// One test has the machine at a time: its servers want most of it. Whether the program is built.
+static TURN: Mutex<bool> = Mutex::new(false);
 
-/// The tests of go/claims/postgres as a program.
+/// The tests of go/claims/postgres as a program, beside this one.
 struct Program {
-    room: Room,
-    _turn: MutexGuard<'static, ()>,
+    _turn: MutexGuard<'static, bool>,
 }
 
 impl Program {
     fn new() -> Program {
-        let made = Program { _turn: TURN.lock().unwrap_or_else(PoisonError::into_inner), room: Room::new("postgres") };
-        let mut build = Command::new("go");
-        build.args(["test", "-c", "-o"]).arg(made.path()).arg("./claims/postgres").current_dir(top().join("go"));
-        assert!(build.status().expect("go is there").success());
-        made
+        let mut turn = TURN.lock().unwrap_or_else(PoisonError::into_inner);
+        if !*turn {
+            let mut build = Command::new("go");
+            build.args(["test", "-c", "-o"]).arg(Program::path()).arg("./claims/postgres").current_dir(top().join("go"));
+            assert!(build.status().expect("go is there").success());
+            *turn = true;
+        }
+        Program { _turn: turn }
     }
 
-    fn path(&self) -> PathBuf {
-        self.room.0.join("postgres.test")
+    fn path() -> PathBuf {
+        std::env::current_exe().expect("a test has a program").with_extension("postgres")
     }
 
     /// A call of it. (The user of PostgreSQL may not go through a folder of this one.)
     fn command(&self, words: &[&str]) -> Command {
-        let mut command = Command::new(self.path());
+        let mut command = Command::new(Program::path());
         command.args(words).current_dir(top().join("go/claims/postgres")).env("TMPDIR", "/tmp");
         command
     }

@@ -446,13 +446,6 @@ fn a_token_is_bound_to_its_caller() {
     }
 }
 
-/// That of the other packages, from Python's hashlib.sha256(b"192.0.2.1").
-#[test]
-#[cfg(any(feature = "openssl", feature = "ring"))]
-fn a_caller_is_a_digest() {
-    assert_eq!(hex(&Caller::of("192.0.2.1").0), "37fcff24bf62035b2b08020afc08b4fecd4fcffce57ab23518e3561ff0fe76b9");
-}
-
 #[test]
 fn a_caller_is_given_in_mode_bound_alone() {
     let (store, presenter) = (Arc::new(memory()), Error::Options(OptionsFault::Presenter));
@@ -491,6 +484,10 @@ fn a_store_that_never_answers() {
         assert_eq!(check(&guard, &fresh(1)), "Unavailable");
         heard.lock().unwrap().contains(&why) && store.counts().len() > 2
     });
+    // (ten milliseconds after the first time, and then less and less often)
+    let before = store.counts().len();
+    assert_eq!(check(&guard, &fresh(another())), "Unavailable");
+    assert!(store.counts().len() - before < 20, "{:?}", store.counts());
     store.is_well();
     assert_eq!(in_time(&guard, &fresh(1)), "accepted");
     assert!(nothing_waits(&guard));
@@ -969,7 +966,10 @@ fn a_store_that_is_not_there_yet() {
     assert!(store.counts().is_empty());
     until(|| !heard.lock().unwrap().is_empty());
     assert_eq!(heard.lock().unwrap()[0], "the group's store does not answer: the store is away");
+    let unseen = opened(&strict(&store).wait(SHORT));
     store.is_well();
+    // (though nobody looks)
+    assert_eq!(in_time(&unseen, &fresh(another())), "accepted");
     until(|| unready(&guard).is_empty());
     assert_eq!(in_time(&guard, &fresh(1)), "accepted");
 }
@@ -999,6 +999,27 @@ fn a_store_that_goes_away() {
     until(|| unready(&guard).starts_with("the group's store does not answer"));
     store.is_well();
     until(|| unready(&guard).is_empty()); // (each look asks the store)
+}
+
+/// A call that puts nothing says nothing of what the store has lost.
+#[test]
+fn a_store_that_lost_entries_and_goes_away() {
+    let store = Fickle::over(memory().lasts(3620));
+    let guard = opened(&strict(&store).longest(3600).wait(SHORT));
+    let away_for_now = "the group's store does not answer";
+    store.store.lose();
+    let comes_to = |due: &str| {
+        until(|| {
+            let _ = check(&guard, &fresh(another()));
+            unready(&guard).starts_with(due)
+        })
+    };
+    comes_to("the store has lost entries");
+    store.before(away);
+    comes_to(away_for_now);
+    store.is_well();
+    until(|| !unready(&guard).starts_with(away_for_now)); // (each look asks the store)
+    assert!(unready(&guard).starts_with("the store has lost entries"));
 }
 
 #[test]
@@ -1182,13 +1203,15 @@ fn a_guard_takes_snapshots_by_itself() {
     let room = Room::new("snapshots");
     let guard = kept(&ledger(), at(&room));
     assert!(room.0.join("snapshot").exists(), "one is taken at the start");
-    std::fs::remove_file(room.0.join("snapshot")).expect("it is there");
     let journal = guard.journal.as_ref().expect("it has one");
     assert_eq!(guard.validator_id(), journal.validator_id());
-    until(|| {
-        journal.let_a_snapshot_be_due();
-        check(&guard, &fresh(another())) == "accepted" && room.0.join("snapshot").exists()
-    });
+    for _ in 0..2 {
+        std::fs::remove_file(room.0.join("snapshot")).expect("it is there");
+        until(|| {
+            journal.let_a_snapshot_be_due();
+            check(&guard, &fresh(another())) == "accepted" && room.0.join("snapshot").exists()
+        });
+    }
     let count = uses(&guard);
     drop(guard);
     assert_eq!(uses(&kept(&ledger(), at(&room))), count);

@@ -179,7 +179,7 @@ pub fn empty(time: &Time) -> Guard<()> {
 }
 
 /// A verifier, and whether it can verify by the algorithm.
-pub trait Verifies: Verify + Default + Sync {
+pub trait Verifies: Verify + Default + Send + Sync {
     const CANT: &'static [&'static str];
     fn of_bits(most: usize) -> Self;
     const MOST_BITS: usize;
@@ -209,6 +209,31 @@ pub fn until(what: &str, mut holds: impl FnMut() -> bool) {
     while !holds() {
         assert!(begun.elapsed() < patience(), "waited in vain for {what}");
         std::thread::sleep(std::time::Duration::from_millis(5));
+    }
+}
+
+/// A guard that a test which fails does not drop: that waits for its threads, and they may never end.
+pub struct Kept<T>(Option<T>);
+
+impl<T> Kept<T> {
+    pub fn new(it: T) -> Kept<T> {
+        Kept(Some(it))
+    }
+}
+
+impl<T> std::ops::Deref for Kept<T> {
+    type Target = T;
+
+    fn deref(&self) -> &T {
+        self.0.as_ref().expect("it is there until it is dropped")
+    }
+}
+
+impl<T> Drop for Kept<T> {
+    fn drop(&mut self) {
+        if std::thread::panicking() {
+            std::mem::forget(self.0.take());
+        }
     }
 }
 
