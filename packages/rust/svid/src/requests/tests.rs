@@ -1001,7 +1001,7 @@ fn a_store_that_goes_away() {
     until(|| unready(&guard).is_empty()); // (each look asks the store)
 }
 
-/// A call that puts nothing says nothing of what the store has lost.
+/// An answer to no claims does not say whether the store lost entries.
 #[test]
 fn a_store_that_lost_entries_and_goes_away() {
     let store = Fickle::over(memory().lasts(3620));
