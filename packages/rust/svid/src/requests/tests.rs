@@ -662,8 +662,12 @@ fn the_memory_of_a_store() {
     store.withdraw(TokenKey([2; 32]), 1100).expect("there is memory");
     clock.store(1209, Ordering::Relaxed);
     assert_eq!(put(&[claim(2, 2, 1050)]), [found(0, 1209, 0)]);
+    let (_, last) = store.withdrawals("").expect("there is memory");
     store.lose();
     assert_eq!(put(&[claim(2, 2, 1050)]), [found(2, 1209, 1309)]);
+    // (a position from before the loss reads all again)
+    store.withdraw(TokenKey([3; 32]), 1300).expect("there is memory");
+    assert_eq!(store.withdrawals(&last).expect("there is memory").0, [(TokenKey([3; 32]), 1300)]);
 }
 
 // -- Withdrawals
