@@ -10,6 +10,7 @@ use std::net::TcpListener;
 use std::os::unix::fs::DirBuilderExt;
 use std::os::unix::net::UnixListener;
 use std::process::{Child, ChildStdout, Command, Stdio};
+use std::time::{Duration, Instant};
 
 use common::*;
 use hyper::server::conn::Http;
@@ -236,6 +237,13 @@ fn an_agent_that_gives_nothing_is_asked_again() {
     agent.gives(&[("spiffe://example.org", &keys(&issuer)), ("spiffe://other.example", &long[..2 << 20])]);
     until("the new key", || check(&guard, &issuer).is_ok());
     assert_eq!((heard.count("other.example of"), heard.count("it has more than 1048576 bytes")), (1, 1), "{:?}", heard.all());
+    // (after a second again, and what a busy machine takes beside)
+    agent.ends("UNAVAILABLE");
+    let begun = Instant::now();
+    issuer.rotate();
+    agent.gives(&[("spiffe://example.org", &keys(&issuer))]);
+    until("another key", || check(&guard, &issuer).is_ok());
+    assert!(begun.elapsed() < Duration::from_secs(2) + patience() / 20, "{:?}", begun.elapsed());
 }
 
 /// Another guard is asked by three calls meanwhile, in three seconds.
@@ -272,8 +280,26 @@ fn an_agent_that_is_silent() {
     assert_eq!(agent.gives(&[("spiffe://example.org", &keys(&issuer))]), 1);
 }
 
+/// It is given up as one that is silent.
+#[test]
+fn an_agent_that_never_ends_its_message() {
+    let room = Room::new("drips");
+    let body = || {
+        let (mut sender, body) = Body::channel();
+        tokio::spawn(async move {
+            while sender.send_data("\0".into()).await.is_ok() {
+                tokio::time::sleep(Duration::from_secs(4)).await;
+            }
+        });
+        body
+    };
+    let (_guard, heard) = opened(Sources::new().workload_api(Some(&answers(&room, 200, "application/grpc", body))));
+    // (five bytes are the beginning of a message, and they take sixteen)
+    until("a warning", || heard.count("it sends no bundles within 15 seconds") == 1);
+}
+
 /// A server of HTTP/2 that answers each request so. Its address.
-fn answers(room: &Room, status: u16, kind: &'static str, body: Vec<u8>) -> String {
+fn answers(room: &Room, status: u16, kind: &'static str, body: impl Fn() -> Body + Clone + Send + 'static) -> String {
     let path = room.0.join("agent.sock");
     let listener = UnixListener::bind(&path).expect("it listens");
     std::thread::spawn(move || {
@@ -282,7 +308,7 @@ fn answers(room: &Room, status: u16, kind: &'static str, body: Vec<u8>) -> Strin
             let (stream, body) = (stream.expect("it comes"), body.clone());
             stream.set_nonblocking(true).expect("it can be");
             let answer = service_fn(move |_: Request<Body>| {
-                let body = Body::from(body.clone());
+                let body = body();
                 async move {
                     Ok::<_, Infallible>(Response::builder().status(status).header("content-type", kind).body(body).expect("an answer"))
                 }
@@ -298,7 +324,7 @@ fn answers(room: &Room, status: u16, kind: &'static str, body: Vec<u8>) -> Strin
 
 #[test]
 fn an_answer_that_is_no_stream_of_bundles() {
-    let rows: [(u16, &'static str, &[u8], &str); 9] = [
+    let rows: [(u16, &'static str, &[u8], &str); 10] = [
         (404, "application/grpc", b"", "it answers 404 Not Found"),
         (200, "text/html", b"", "no gRPC is served there"),
         (200, "application/grpc", b"", "it ends the stream without a status"),
@@ -306,6 +332,8 @@ fn an_answer_that_is_no_stream_of_bundles() {
         (200, "application/grpc", b"\0\0\0\0", "it ends the stream within a message"),
         (200, "application/grpc", b"\0\0\0\0\x02\x0a", "it ends the stream within a message"),
         (200, "application/grpc", b"\x01\0\0\0\0", "it sends a compressed message"),
+        // (the second of two messages that come at once)
+        (200, "application/grpc", b"\0\0\0\0\0\x01\0\0\0\0", "it sends a compressed message"),
         (200, "application/grpc", b"\0\0\x40\0\x01", "it sends a message of 4194305 bytes; at most 4194304 are read"),
         (200, "application/grpc", b"\0\0\0\0\x02\x0a\x01", "it sends what is no JWTBundlesResponse"),
     ];
@@ -313,7 +341,8 @@ fn an_answer_that_is_no_stream_of_bundles() {
         .iter()
         .map(|(status, kind, body, why)| {
             let room = Room::new("answers");
-            let address = answers(&room, *status, kind, body.to_vec());
+            let body = body.to_vec();
+            let address = answers(&room, *status, kind, move || body.clone().into());
             (opened(Sources::new().workload_api(Some(&address))), room, why)
         })
         .collect();

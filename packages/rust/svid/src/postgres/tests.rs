@@ -417,6 +417,20 @@ fn what_is_no_store() {
     assert!(PostgresStore::open(&options().any_life(), &["postgres://h/d"], "svid", 1).is_err());
 }
 
+/// A deployment may name all of them, and set some. (This test asks itself.)
+#[test]
+fn variables_that_are_empty_are_not_set() {
+    if std::env::var_os("SVID_ASKED").is_some() {
+        return assert_eq!(Address::of("postgres://h/d").map(drop), Ok(()));
+    }
+    let mut own = Command::new(std::env::current_exe().expect("a test has a program"));
+    own.args(["--exact", "postgres::tests::variables_that_are_empty_are_not_set"]).env("SVID_ASKED", "1");
+    let names = ["PGSSLMODE", "PGSSLROOTCERT", "PGSSLCERT", "PGSSLKEY", "PGPASSWORD"];
+    let ran = own.envs(names.map(|it| (it, ""))).output().expect("it runs");
+    let said = String::from_utf8_lossy(&ran.stdout).into_owned();
+    assert!(ran.status.success() && said.contains("1 passed"), "{said}");
+}
+
 /// `?` turns why no store begins into what a `main` returns.
 #[test]
 fn errors_of_a_main() {

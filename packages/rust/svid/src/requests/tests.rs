@@ -662,8 +662,12 @@ fn the_memory_of_a_store() {
     store.withdraw(TokenKey([2; 32]), 1100).expect("there is memory");
     clock.store(1209, Ordering::Relaxed);
     assert_eq!(put(&[claim(2, 2, 1050)]), [found(0, 1209, 0)]);
+    let (_, last) = store.withdrawals("").expect("there is memory");
     store.lose();
     assert_eq!(put(&[claim(2, 2, 1050)]), [found(2, 1209, 1309)]);
+    // (a position from before the loss reads all again)
+    store.withdraw(TokenKey([3; 32]), 1300).expect("there is memory");
+    assert_eq!(store.withdrawals(&last).expect("there is memory").0, [(TokenKey([3; 32]), 1300)]);
 }
 
 // -- Withdrawals
@@ -1001,7 +1005,7 @@ fn a_store_that_goes_away() {
     until(|| unready(&guard).is_empty()); // (each look asks the store)
 }
 
-/// A call that puts nothing says nothing of what the store has lost.
+/// An answer to no claims does not say whether the store lost entries.
 #[test]
 fn a_store_that_lost_entries_and_goes_away() {
     let store = Fickle::over(memory().lasts(3620));
