@@ -1,6 +1,6 @@
 """Opens and closes many validators in a process of its own, and prints twice what is still held.
 
-    lives.py FOLDER LIVES       once after a tenth as many lives, and once more at the end of all
+    lives.py FOLDER LIVES       once after twenty lives, and once more at the end of all
 
 test_leaks.py runs it. In each life every public call is made: a validator opens, accepts, refuses,
 hears of withdrawals, is renewed, reads its files again, writes a snapshot, fails, and closes.
@@ -22,6 +22,7 @@ from making import PATIENCE, until
 AUDIENCE = "ledger"
 # So much has each token, and each key: what one of them left would be more than all else of a life.
 PAD = "p" * 10_000
+WARM = 20  # lives that fill what keeps the last few keys
 
 
 class Mallinfo(ctypes.Structure):
@@ -180,7 +181,7 @@ class Away:
 def main(folder, lives):
     made, found = Lives(folder), []
     threads = len(os.listdir("/proc/self/task"))
-    for count in lives // 10, lives:
+    for count in WARM, lives - WARM:
         for _ in range(count):
             made.live()
         # (a thread that puts claims ends by itself, and nobody waits for it)

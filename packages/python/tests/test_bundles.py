@@ -206,27 +206,31 @@ def test_renewing_by_another_file(tmp_path):
 
 
 def test_keys_of_replaced_bundles_are_freed():
-    """Each bundle has four keys of 60 kB: those of 600 bundles that stayed would be 144 MB."""
+    """Each bundle has four keys of 60 kB: those of 200 bundles that stayed would be 48 MB."""
     text = """
 import base64, json, svid
 from making import NOW, PATIENCE, bundle, entry, private_key, token
 key, made = entry(private_key("ES256", 1), "k1"), token()
 def bundles(which):
     return bundle(*({**key, "note": f"{which} {it}".ljust(60_000)} for it in range(4)))
+def most():
+    return int(open("/proc/self/status").read().partition("VmHWM:")[2].split()[0])
 with svid.Validator(audiences="ledger", bundles=bundles(0), wait=PATIENCE) as checks:
-    for which in range(600):
+    for which in range(220):
+        if which == 20:
+            before = most()
         checks.renew(bundles(which))
         try:
             checks.check(made, NOW)
         except svid.BadSignature:
             continue
         raise AssertionError
-print(open("/proc/self/status").read().partition("VmHWM:")[2].split()[0])
+print(most() - before)
 """
     environment = {**os.environ, "PYTHONPATH": os.pathsep.join(sys.path)}
     words = [sys.executable, "-c", text]
     ran = subprocess.run(words, env=environment, capture_output=True, timeout=PATIENCE, check=True)
-    assert int(ran.stdout) < 100_000  # kilobytes, the most that this process had
+    assert int(ran.stdout) < 24_000  # kilobytes, of the most that this process had
 
 
 def many_keys():

@@ -10,7 +10,7 @@ import pytest
 
 from making import PATIENCE
 
-LIVES = int(os.environ.get("SVID_TEST_LIVES") or 100)
+LIVES = int(os.environ.get("SVID_TEST_LIVES") or 70)
 FOLDER = "/dev/shm"  # (a disk would be forced ten times in each life)
 
 

@@ -11,10 +11,10 @@ import re
 import socket
 import struct
 import subprocess
-import sys
 import threading
 import time
 
+import of_go
 import psycopg
 import pytest
 import svid
@@ -36,7 +36,7 @@ CLIENT = pathlib.Path(__file__).parent / "store_client.py"
 # (the user of PostgreSQL may not go through a folder of this one)
 OPEN = {**os.environ, "TMPDIR": "/tmp"}
 ASKS_FOR_TLS = struct.pack(">II", 8, 80877103)  # ("SSLRequest" of the protocol)
-# The tests of go/claims/postgres, in groups that take some time each.
+# The tests of go/claims/postgres, in groups. One process runs those that are chosen.
 TESTS = {
     "member": "TestAMemberOfAnotherLanguage|TestStore",
     "alone": "TestStoreAlone|TestRights|TestAServerThatForgets|TestAPartOfAStore|TestTLS",
@@ -58,7 +58,7 @@ TESTS = {
 def binary(tmp_path_factory):
     """The tests of go/claims/postgres as a program."""
     made = tmp_path_factory.mktemp("go") / "postgres.test"
-    words = ["go", "test", "-c", "-o", str(made), "./claims/postgres"]
+    words = ["go", "test", "-c", "-ldflags=-w", "-o", str(made), "./claims/postgres"]
     subprocess.run(words, cwd=TOP / "go", check=True)
     return made
 
@@ -123,19 +123,19 @@ def put(store, *claims):
             time.sleep(0.02)
 
 
+@pytest.fixture(scope="module")
+def outcome(binary, request):
+    """How the tests of go/claims/postgres end that this run of pytest has."""
+    env = {**OPEN, "SVID_STORE_CLIENT": of_go.client(CLIENT, "postgres")}
+    tests = of_go.chosen(request, TESTS)
+    return of_go.Outcome([binary], tests, cwd=TOP / "go/claims/postgres", env=env)
+
+
 @pytest.mark.parametrize("name", TESTS)
-def test_store(binary, name):
+def test_store(outcome, name):
     """What go/claims/postgres promises of a member over real servers."""
-    ran = subprocess.run(
-        [binary, "-test.v", "-test.timeout", "50m", "-test.run", f"^({TESTS[name]})$"],
-        cwd=TOP / "go/claims/postgres",
-        env={**OPEN, "SVID_STORE_CLIENT": f"{sys.executable} {CLIENT} postgres"},
-        capture_output=True,
-        text=True,
-    )
-    failed = re.findall(r"^--- FAIL: (.*)", ran.stdout, re.M)
-    assert ran.returncode == 0, (failed, ran.stdout[-5000:], ran.stderr[-2000:])
-    assert len(re.findall(r"^--- PASS: ", ran.stdout, re.M)) == len(TESTS[name].split("|"))
+    for it in TESTS[name].split("|"):
+        assert outcome.ended.get(it) == "PASS", outcome.of(it)
 
 
 def test_every_test_of_a_store_is_run(binary):
@@ -168,7 +168,8 @@ def test_one_validator_accepts_a_token(machine, group):
 @pytest.fixture(scope="module")
 def svidd(tmp_path_factory):
     made = tmp_path_factory.mktemp("svidd") / "svidd"
-    subprocess.run(["go", "build", "-o", str(made), "./cmd/svidd"], cwd=TOP / "go", check=True)
+    words = ["go", "build", "-ldflags=-w", "-o", str(made), "./cmd/svidd"]
+    subprocess.run(words, cwd=TOP / "go", check=True)
     return made
 
 

@@ -1,6 +1,7 @@
 """The record: what it gains, how it is shared and kept, and what the clock does to it."""
 
 import dataclasses
+import functools
 import os
 import time
 
@@ -431,9 +432,20 @@ def test_a_save_of_several_batches(tmp_path):
         assert a.report() == b.report()
 
 
+@functools.cache
+def many_uses():
+    """One more than a batch has."""
+    return [svid.Use(NOW + 300, it.to_bytes(32, "big"), bytes(16), NOW) for it in range(65_537)]
+
+
+@functools.cache
+def many_messages():
+    return svid.records.batches(many_uses())
+
+
 def test_a_save_of_a_full_batch(tmp_path):
     """A batch has up to 65,536 uses, and the file may go on behind it."""
-    uses = [svid.Use(NOW + 300, it.to_bytes(32, "big"), bytes(16), NOW) for it in range(65_537)]
+    uses = many_uses()
     texts = [it.message[17:] for it in uses]
     full = b"JSR\x02\x01" + NOW.to_bytes(8, "big") + (65_536).to_bytes(4, "big")
     kept = tmp_path / "kept"
@@ -459,10 +471,8 @@ def test_uses_as_messages():
 @pytest.mark.parametrize("cut", [0, 1, 81, 4_259_857, 4_259_938])
 def test_a_save_that_is_cut_off_behind_a_full_batch(tmp_path, cut):
     """What is whole is taken, and the error says that the rest is not."""
-    uses = [svid.Use(NOW + 300, it.to_bytes(32, "big"), bytes(16), NOW) for it in range(65_537)]
     kept = tmp_path / "kept"
-    messages = svid.records.batches(uses)
-    kept.write_bytes(messages[:cut])
+    kept.write_bytes(many_messages()[:cut])
     with validator() as checks:
         if cut in (0, 4_259_857):
             checks.load(kept, NOW)
@@ -470,7 +480,8 @@ def test_a_save_that_is_cut_off_behind_a_full_batch(tmp_path, cut):
             with pytest.raises(svid.BadMessages) as raised:
                 checks.load(kept, NOW)
             assert raised.value.reason == "Truncated"
-        assert len(checks.report().uses) == (65_536 if cut >= 4_259_857 else 0)
+        taken = svid.records.entries_of(b"".join(checks.parts()))
+        assert len(taken) == (65_536 if cut >= 4_259_857 else 0)
 
 
 def test_a_save_is_synced_before_it_has_its_name(tmp_path, monkeypatch):

@@ -5,16 +5,15 @@ import gc
 import logging
 import os
 import pathlib
-import re
 import signal
 import socket
 import ssl
 import subprocess
-import sys
 import threading
 import time
 import types
 
+import of_go
 import pytest
 import redis
 import svid
@@ -25,7 +24,7 @@ from svid.redis import RedisStore, State, StoreFault
 
 TOP = pathlib.Path(os.environ["SVID"]).parent
 CLIENT = pathlib.Path(__file__).parent / "store_client.py"
-# The tests of go/claims/redis, in groups that take some time each.
+# The tests of go/claims/redis, in groups. One process runs those that are chosen.
 TESTS = {
     "member": "TestAMemberOfAnotherLanguage|TestStore|TestListsHaveAnAge|TestGarbageInAList",
     "fit": "TestAServerThatForgets|TestASettingThatIsChanged|TestTheFirstRewrite"
@@ -65,24 +64,24 @@ OTHERS = {
 def binary(tmp_path_factory):
     """The tests of go/claims/redis as a program."""
     made = tmp_path_factory.mktemp("go") / "redis.test"
-    words = ["go", "test", "-c", "-o", str(made), "./claims/redis"]
+    words = ["go", "test", "-c", "-ldflags=-w", "-o", str(made), "./claims/redis"]
     subprocess.run(words, cwd=TOP / "go", check=True)
     return made
 
 
+@pytest.fixture(scope="module")
+def outcome(binary, request):
+    """How the tests of go/claims/redis end that this run of pytest has."""
+    env = {**os.environ, "SVID_STORE_CLIENT": of_go.client(CLIENT, "redis")}
+    tests = of_go.chosen(request, TESTS)
+    return of_go.Outcome([binary], tests, cwd=TOP / "go/claims/redis", env=env)
+
+
 @pytest.mark.parametrize("name", TESTS)
-def test_store(binary, name):
+def test_store(outcome, name):
     """What go/claims/redis promises of a member over real servers."""
-    ran = subprocess.run(
-        [binary, "-test.v", "-test.timeout", "20m", "-test.run", f"^({TESTS[name]})$"],
-        cwd=TOP / "go/claims/redis",
-        env={**os.environ, "SVID_STORE_CLIENT": f"{sys.executable} {CLIENT} redis"},
-        capture_output=True,
-        text=True,
-    )
-    failed = re.findall(r"^--- FAIL: (.*)", ran.stdout, re.M)
-    assert ran.returncode == 0, (failed, ran.stdout[-5000:], ran.stderr[-2000:])
-    assert len(re.findall(r"^--- (?:PASS|SKIP): ", ran.stdout, re.M)) == len(TESTS[name].split("|"))
+    for it in TESTS[name].split("|"):
+        assert outcome.ended.get(it) in ("PASS", "SKIP"), outcome.of(it)
 
 
 def test_every_test_of_a_store_is_run(binary):

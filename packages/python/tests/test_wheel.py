@@ -110,8 +110,8 @@ def test_a_source_distribution_has_the_library_too(tmp_path):
     library = (source / "svid" / "libsvid.so").read_bytes()
     assert library == pathlib.Path(os.environ["LIBSVID"]).read_bytes()
     environment = {it: value for it, value in os.environ.items() if it != "LIBSVID"}
-    words = ["wheel", "--no-build-isolation", "--no-deps", "--no-index", "--wheel-dir", tmp_path]
-    run(sys.executable, "-m", "pip", *words, source, env=environment)
+    words = [sys.executable, "setup.py", "-q", "bdist_wheel", "--dist-dir", tmp_path]
+    run(*words, env=environment, cwd=source)
     [made] = tmp_path.glob("*.whl")
     with zipfile.ZipFile(made) as file:
         assert file.read("svid/libsvid.so") == library

@@ -69,9 +69,8 @@ def test_messages_that_nothing_is_read_of():
         with pytest.raises(svid.BadMessages) as raised:
             checks.answer(b"JSR\x02\x01" + bytes(12), NOW)
         assert str(raised.value) == f"NotSummary: {clause('NOT_SUMMARY')}"
-        with pytest.raises(svid.BadMessages) as raised:
-            checks.take((b"JSR\x02\x01" + bytes(12)) * 3_947_581, NOW)
-        assert str(raised.value) == f"TooMuch: {clause('TOO_MUCH')}"
+    # (test_record.py takes so many)
+    assert str(svid.BadMessages("TooMuch", 0, 0)) == f"TooMuch: {clause('TOO_MUCH')}"
 
 
 @pytest.mark.parametrize(

@@ -1,0 +1,36 @@
+"""Runs tests of go/claims over the client of this package."""
+
+import re
+import subprocess
+import sys
+
+
+class Outcome:
+    """How tests ended that one process ran: each process makes data of servers first."""
+
+    def __init__(self, words, tests, **more):
+        words = [*words, "-test.v", "-test.timeout", "60m", "-test.run", f"^({'|'.join(tests)})$"]
+        ran = subprocess.run(
+            words, stdout=subprocess.PIPE, stderr=subprocess.STDOUT, text=True, check=False, **more
+        )
+        self.said = ran.stdout
+        found = re.findall(r"^--- (\w+): (\S+) ", self.said, re.M)
+        self.ended = {name: result for result, name in found}
+
+    def of(self, name):
+        """What one test said, and the end of all."""
+        parts = re.split(r"^(?==== |--- )", self.said, flags=re.M)
+        its = [it for it in parts if re.match(rf"\S+ \S+\s+{name}\b", it)]
+        return "".join(its)[-5000:] + self.said[-2000:]
+
+
+def chosen(request, groups):
+    """The names of the tests of all groups that this run of pytest has of the module."""
+    items = [it for it in request.session.items if it.module is request.module]
+    names = [it.callspec.params["name"] for it in items if it.originalname == "test_store"]
+    return [test for it in names for test in groups[it].split("|")]
+
+
+def client(file, server):
+    """The command of a client, for the tests."""
+    return f"{sys.executable} {file} {server}"
