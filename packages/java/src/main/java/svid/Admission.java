@@ -56,10 +56,10 @@ public final class Admission {
      * @return a new map, which you may change
      */
     public Map<String, Object> claims() {
-        try (Room room = new Room()) {
-            Told told = new Told(room);
+        try (Arena room = new Arena()) {
+            CallDetails told = new CallDetails(room);
             Pointer text = room.put(token);
-            Written payload = Written.by(
+            Output payload = Output.by(
                     room, told, token.length, (out, outLen) -> Library.svid_token_payload(text, token.length, out, outLen, told.at));
             told.must(payload.status());
             @SuppressWarnings("unchecked") // (the payload of an accepted token is an object)

@@ -27,8 +27,8 @@ public final class Bundles {
     /** The same. All keys of these trust domains are for JWT-SVIDs, and need no `use` (SPIFFE Workload API, section 6.2.2). */
     static byte[] join(Map<String, byte[]> bundles, Set<String> ofApi) {
         ByteArrayOutputStream bytes = new ByteArrayOutputStream();
-        try (Room room = new Room()) {
-            Told told = new Told(room);
+        try (Arena room = new Arena()) {
+            CallDetails told = new CallDetails(room);
             Pointer documents = room.take(Library.Document.SIZE * (long) bundles.size());
             long at = 0;
             for (Map.Entry<String, byte[]> it : bundles.entrySet()) {
@@ -42,7 +42,7 @@ public final class Bundles {
                 at += Library.Document.SIZE;
             }
             Pointer text = room.put(bytes.toByteArray());
-            Written written = Written.by(room, told, 2L * bytes.size() + 64,
+            Output written = Output.by(room, told, 2L * bytes.size() + 64,
                     (out, outLen) -> Library.svid_bundles_join(text, bytes.size(), documents, bundles.size(), out, outLen, told.at));
             Status status = Status.of(written.status());
             if (status == Status.BUNDLES_TWICE || status != null && status.isFrom(Status.BUNDLES_NOT_OBJECT, Status.BUNDLES_KEYS)) {

@@ -34,7 +34,7 @@ public final class IdPattern {
     private static boolean ask(String pattern, String id) {
         byte[] bytes = pattern.getBytes(StandardCharsets.UTF_8);
         byte[] idBytes = id.getBytes(StandardCharsets.UTF_8);
-        try (Room room = new Room()) {
+        try (Arena room = new Arena()) {
             Pointer out = room.take(Library.Id.SIZE);
             int number = Library.svid_id_allows(room.put(bytes), bytes.length, room.put(idBytes), idBytes.length, out);
             if (number != Status.OK.number() && number != Status.NOT_ALLOWED.number()) {

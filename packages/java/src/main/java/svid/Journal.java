@@ -37,7 +37,7 @@ final class Journal implements AutoCloseable {
     private final Disk disk;
     private final byte[] folderId;
     private final List<String> torn;
-    private final Numbers numbers;
+    private final FolderSteps numbers;
     private final Memory zeros = Library.allocated(GROWTH);
     private final Thread thread;
     private List<byte[]> found = new ArrayList<>();
@@ -114,14 +114,14 @@ final class Journal implements AutoCloseable {
             }
             byte[] known = folder.id();
             List<Long> journals = folder.journals();
-            List<Kept> files = read(known, journals);
+            List<StateFile> files = read(known, journals);
             torn = files.stream().filter(it -> it.isTorn).map(it -> it.name).toList();
             files.forEach(it -> found.addAll(it.messages));
             folderId = known == null ? Options.random() : known;
             if (known == null || files.isEmpty()) {
                 folder.keepId(folderId);
             }
-            numbers = new Numbers(
+            numbers = new FolderSteps(
                     folderId, journals.isEmpty() ? 1 : journals.get(0), journals.isEmpty() ? 0 : journals.get(journals.size() - 1));
             zeros.clear();
             makeCalls(null);
@@ -134,16 +134,16 @@ final class Journal implements AutoCloseable {
     }
 
     /** The snapshot, if there is one, and then each journal. */
-    private List<Kept> read(byte[] known, List<Long> journals) throws IOException {
-        List<Kept> files = new ArrayList<>();
+    private List<StateFile> read(byte[] known, List<Long> journals) throws IOException {
+        List<StateFile> files = new ArrayList<>();
         try {
-            files.add(new Kept(folder, Folder.SNAPSHOT, 0, known));
+            files.add(new StateFile(folder, Folder.SNAPSHOT, 0, known));
             keptLen = files.get(0).at;
         } catch (NoSuchFileException none) {
             wants = true;
         }
         for (long it : journals) {
-            Kept journal = new Kept(folder, Folder.journalName(it), it, known);
+            StateFile journal = new StateFile(folder, Folder.journalName(it), it, known);
             files.add(journal);
             older += journal.at;
         }
@@ -303,7 +303,7 @@ final class Journal implements AutoCloseable {
     private void makeCalls(Parts parts) throws IOException {
         int[] beside = {-1};
         try {
-            for (Numbers.Due due = numbers.due(); due.call() != Library.CALL_NOTHING; due = numbers.due()) {
+            for (FolderSteps.Due due = numbers.due(); due.call() != Library.CALL_NOTHING; due = numbers.due()) {
                 stay();
                 try {
                     make(due, parts, beside);
@@ -323,7 +323,7 @@ final class Journal implements AutoCloseable {
         }
     }
 
-    private void make(Numbers.Due due, Parts parts, int[] beside) throws IOException {
+    private void make(FolderSteps.Due due, Parts parts, int[] beside) throws IOException {
         switch (due.call()) {
             case Library.CALL_CREATE_JOURNAL:
                 next = folder.create(Folder.journalName(due.journal()));
@@ -397,8 +397,8 @@ final class Journal implements AutoCloseable {
     private void writePieces(int to, Parts parts) throws IOException {
         long[] at = {0};
         Sink write = part -> {
-            try (Room lent = new Room()) {
-                Numbers.Frame frame = numbers.piece(lent, part);
+            try (Arena lent = new Arena()) {
+                FolderSteps.Frame frame = numbers.piece(lent, part);
                 disk.write(to, frame.at(), frame.len(), at[0]);
                 at[0] += frame.len();
             }
@@ -483,9 +483,9 @@ final class Journal implements AutoCloseable {
         if (broken != null) {
             return broken;
         }
-        try (Room lent = new Room()) {
+        try (Arena lent = new Arena()) {
             long at = numbers.end();
-            Numbers.Frame frame;
+            FolderSteps.Frame frame;
             try {
                 frame = numbers.put(lent, payload);
             } catch (SvidException why) {
@@ -525,7 +525,7 @@ final class Journal implements AutoCloseable {
     }
 
     /** Writes a frame. Where the file is too short it grows, if there is room for that. */
-    private void writeFrame(Numbers.Frame frame, long at) throws IOException {
+    private void writeFrame(FolderSteps.Frame frame, long at) throws IOException {
         long end = at + frame.len();
         if (end > room) {
             try {

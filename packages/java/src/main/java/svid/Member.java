@@ -33,7 +33,7 @@ final class Member extends State {
     /** Null for no store. */
     final Claims claims;
     /** Null where withdrawals of a store are not heard of. */
-    private final Hearing hearing;
+    private final WithdrawalReader hearing;
     /** The withdrawals that the record has of this process, so that it has one once that the store tells of again. */
     private final Map<Store.Withdrawal, Boolean> heard = new LinkedHashMap<>() {
         private static final long serialVersionUID = 1;
@@ -85,9 +85,9 @@ final class Member extends State {
         late = options.mode().hasStore() ? Library.CLAIM_FAR : journal != null ? Library.NOT_KEPT : Library.LATE;
         claims = options.store() == null ? null : new Claims(options.store(), this);
         // (in mode STRICT the claim of a token tells that it was withdrawn)
-        hearing = options.store() == null || options.mode() == Mode.STRICT ? null : new Hearing(options.store(), this);
+        hearing = options.store() == null || options.mode() == Mode.STRICT ? null : new WithdrawalReader(options.store(), this);
         clock = () -> Times.now(options.clock());
-        try (Room lent = new Room()) {
+        try (Arena lent = new Arena()) {
             Pointer terms = lent.take(Library.MemberTerms.SIZE);
             terms.setLong(Library.MemberTerms.MODE, options.mode().number());
             terms.setLong(Library.MemberTerms.DISK, journal == null ? 0 : 1);
@@ -108,7 +108,7 @@ final class Member extends State {
                 must(locked(v -> Library.svid_member_rules(v, lent.put(own), own.length, 0, lent.put(callers), callers.length)));
             }
         } catch (Throwable why) {
-            run();
+            free();
             throw why;
         }
     }
@@ -173,14 +173,14 @@ final class Member extends State {
 
     /** The record, part by part. Other calls may be made in between. */
     private void parts(Journal.Sink sink) throws IOException {
-        try (Room lent = new Room()) {
-            Told said = new Told(lent);
+        try (Arena lent = new Arena()) {
+            CallDetails said = new CallDetails(lent);
             Pointer part = lent.take(Library.Part.SIZE);
             Pointer to = lent.take(PIECE);
             part.clear(Library.Part.SIZE);
             do {
                 said.must(locked(v -> Library.svid_validator_parts(v, part, to, PIECE, said.at)));
-                sink.take(Written.bytesOf(to, said.len()));
+                sink.take(Output.bytesOf(to, said.len()));
             } while (part.getLong(Library.Part.DONE) == 0);
         }
     }
@@ -193,14 +193,14 @@ final class Member extends State {
         if (journal != null) {
             journal.close();
         }
-        run();
+        free();
         if (local != null) {
             local.close();
         }
     }
 
     @Override
-    public void run() {
+    void free() {
         if (follower != null) {
             follower.drop();
         }
@@ -216,7 +216,7 @@ final class Member extends State {
         if (claims != null) {
             claims.close();
         }
-        super.run();
+        super.free();
     }
 
     /** Whoever waits for an answer gets none. */

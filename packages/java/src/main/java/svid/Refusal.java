@@ -82,7 +82,7 @@ public final class Refusal extends Denied {
 
         private final int number;
         private final String name;
-        private Words words;
+        private StatusText words;
 
         Reason(int number, String name) {
             this.number = number;
@@ -105,9 +105,9 @@ public final class Refusal extends Denied {
 
         /** What holds of the token. */
         public String sentence() {
-            Words known = words;
+            StatusText known = words;
             if (known == null) {
-                known = Words.of(number);
+                known = StatusText.of(number);
                 words = known;
             }
             return known == null ? name : known.says();

@@ -25,8 +25,8 @@ public record Says(String algorithm, SpiffeId spiffeId, String keyId, List<Strin
     }
 
     static Says of(byte[] bytes) throws Refusal {
-        try (Room room = new Room()) {
-            Told told = new Told(room);
+        try (Arena room = new Arena()) {
+            CallDetails told = new CallDetails(room);
             Pointer said = room.take(Library.Said.SIZE);
             Pointer text = room.put(bytes);
             for (long size = USUAL, most = 16;; size = told.len(), most = said.getLong(Library.Said.TEXTS)) {

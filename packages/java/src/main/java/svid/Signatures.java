@@ -63,7 +63,7 @@ final class Signatures {
     }
 
     /** Which of the keys made the token's signature. Rows are those of {@code svid_validator_ask_token}. */
-    Found find(Written rows, byte[] token) {
+    Found find(Output rows, byte[] token) {
         ByteBuffer rest = ByteBuffer.wrap(rows.bytes());
         int signed = rest.getInt();
         Part signature = next(rows, rest);
@@ -83,7 +83,7 @@ final class Signatures {
     }
 
     /** The field that begins here, which has its length before it. */
-    private static Part next(Written rows, ByteBuffer rest) {
+    private static Part next(Output rows, ByteBuffer rest) {
         byte[] bytes = new byte[rest.getInt()];
         Pointer at = rows.at().share(rest.position());
         rest.get(bytes);
@@ -142,12 +142,12 @@ final class Signatures {
 
     private Optional<PublicKey> read(Algorithm algorithm, byte[] jwk) throws GeneralSecurityException {
         byte[] spki;
-        try (Room room = new Room()) {
-            Told told = new Told(room);
+        try (Arena room = new Arena()) {
+            CallDetails told = new CallDetails(room);
             byte[] name = algorithm.name().getBytes(StandardCharsets.UTF_8);
             Pointer key = room.put(jwk);
             Pointer alg = room.put(name);
-            Written written = Written.by(room, told, Library.SPKI_ROOM,
+            Output written = Output.by(room, told, Library.SPKI_ROOM,
                     (out, outLen) -> Library.svid_key_spki(key, jwk.length, alg, name.length, mostBits, out, outLen, told.at));
             Status status = Status.of(written.status());
             if (status != null && status.isFrom(Status.NO_ALGORITHM, Status.KEY_Y)) {

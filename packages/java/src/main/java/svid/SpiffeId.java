@@ -37,7 +37,7 @@ public final class SpiffeId {
         Parts known = parts;
         if (known == null) {
             byte[] bytes = text.getBytes(StandardCharsets.UTF_8);
-            try (Room room = new Room()) {
+            try (Arena room = new Arena()) {
                 Pointer id = room.take(Library.Id.SIZE);
                 int number = Library.svid_id_parse(room.put(bytes), bytes.length, id);
                 if (number != 0) {

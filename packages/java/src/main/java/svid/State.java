@@ -4,13 +4,13 @@ import com.sun.jna.Pointer;
 import java.util.List;
 
 /** An open validator of the library. Its monitor is the lock for each call. */
-class State implements Runnable {
+class State {
     private static final long USUAL = 8192;
 
     /** Memory for as long as the validator lives. */
-    final Room room = new Room();
+    final Arena room = new Arena();
     /** What calls under the lock write. */
-    final Told told = new Told(room);
+    final CallDetails told = new CallDetails(room);
     final Pointer out = room.take(Library.ID_ROOM);
     final Pointer used = room.take(Library.Use.SIZE);
     /** How often the bundles were renewed. */
@@ -28,7 +28,7 @@ class State implements Runnable {
         callers = options.mayCall();
         audiences = options.audiences();
         handle.clear(Library.Handle.SIZE);
-        try (Room lent = new Room()) {
+        try (Arena lent = new Arena()) {
             Pointer lens = lent.take(8L * audiences.size());
             long len = 0;
             for (int number = 0; number < audiences.size(); number++) {
@@ -71,8 +71,7 @@ class State implements Runnable {
     }
 
     /** Frees the record and the bundles. It waits for calls of other threads. */
-    @Override
-    public synchronized void run() {
+    synchronized void free() {
         isClosed = true;
         Library.svid_validator_close(handle);
         ended();
@@ -82,15 +81,15 @@ class State implements Runnable {
     void ended() {}
 
     final void tick(long now) {
-        try (Room lent = new Room()) {
-            Told said = new Told(lent);
+        try (Arena lent = new Arena()) {
+            CallDetails said = new CallDetails(lent);
             said.must(locked(v -> Library.svid_validator_tick(v, now, said.at)));
         }
     }
 
     final void take(long now, byte[] messages) {
-        try (Room lent = new Room()) {
-            Told said = new Told(lent);
+        try (Arena lent = new Arena()) {
+            CallDetails said = new CallDetails(lent);
             Pointer text = lent.put(messages);
             said.must(locked(v -> Library.svid_validator_take(v, now, text, messages.length, said.at)));
         }
@@ -108,9 +107,9 @@ class State implements Runnable {
 
     /** The entries whose keys begin with this byte, as messages. */
     private byte[] bucket(int number) {
-        try (Room lent = new Room()) {
-            Told said = new Told(lent);
-            Written written = Written.by(
+        try (Arena lent = new Arena()) {
+            CallDetails said = new CallDetails(lent);
+            Output written = Output.by(
                     lent, said, USUAL, (to, toLen) -> Library.svid_validator_bucket(open(), (byte) number, 0, to, toLen, said.at));
             said.must(written.status());
             return written.bytes();
@@ -119,8 +118,8 @@ class State implements Runnable {
 
     /** Replaces the bundles. They are read before the lock is taken, and the old ones are freed after it. */
     final void renew(byte[] bundles) {
-        try (Room lent = new Room()) {
-            Told said = new Told(lent);
+        try (Arena lent = new Arena()) {
+            CallDetails said = new CallDetails(lent);
             Pointer fresh = lent.take(Library.Handle.SIZE);
             fresh.clear(Library.Handle.SIZE);
             Pointer text = lent.put(bundles);
@@ -185,12 +184,12 @@ class State implements Runnable {
 
     /** The subject that the last call has written. */
     final SpiffeId subject() {
-        return SpiffeId.of(Written.bytesOf(out, told.len()));
+        return SpiffeId.of(Output.bytesOf(out, told.len()));
     }
 
     /** Finds the key that made the signature of a token, among those of the bundles now. The lock is free while signatures are verified. */
     final void find(Token token) {
-        Written rows = Written.by(token.room, token.told, USUAL, (to, toLen) -> locked(v -> {
+        Output rows = Output.by(token.room, token.told, USUAL, (to, toLen) -> locked(v -> {
             token.edition = edition;
             return Library.svid_validator_ask_token(v, token.at, Library.MOST_CANDIDATES, to, toLen, token.told.at);
         }));
@@ -205,8 +204,8 @@ class State implements Runnable {
 
     /** Withdraws the token with this key here. */
     final Admission.Use withdrawn(long now, TokenKey key, long expiry) {
-        try (Room lent = new Room()) {
-            Told said = new Told(lent);
+        try (Arena lent = new Arena()) {
+            CallDetails said = new CallDetails(lent);
             Pointer made = lent.take(Library.Use.SIZE);
             Pointer text = lent.put(key.bytes());
             said.must(locked(v -> Library.svid_validator_withdraw(v, now, text, expiry, made, said.at)));

@@ -72,7 +72,7 @@ enum Status {
     private final int number;
     private final String label;
     private final String due;
-    private Words words;
+    private StatusText words;
 
     Status(int number, String label) {
         this(number, label, "");
@@ -119,13 +119,13 @@ enum Status {
     }
 
     /** The words of the library, which are asked for once. Without memory for that, the name stands for them. */
-    private Words words() {
-        Words known = words;
+    private StatusText words() {
+        StatusText known = words;
         if (known == null) {
-            known = Words.of(number);
+            known = StatusText.of(number);
             words = known;
         }
-        return known == null ? new Words(label, "") : known;
+        return known == null ? new StatusText(label, "") : known;
     }
 
     boolean isFrom(Status first, Status last) {

@@ -43,7 +43,7 @@ public abstract sealed class SvidException extends RuntimeException {
         return "NotJudged";
     }
 
-    static SvidException of(int number, Told told) {
+    static SvidException of(int number, CallDetails told) {
         Status status = Status.of(number);
         if (Unavailable.is(number)) {
             return new Unavailable(number, null);
@@ -127,7 +127,7 @@ public abstract sealed class SvidException extends RuntimeException {
 
         /** What the library says of such a status. */
         static String saidOf(int number) {
-            Words words = Words.of(number);
+            StatusText words = StatusText.of(number);
             return words == null ? "status " + number : words.whole("");
         }
     }

@@ -4,8 +4,8 @@ import com.sun.jna.Pointer;
 
 /** A token that the library has read once, for all calls about it, and the key that made its signature. One thread uses it. */
 final class Token implements AutoCloseable {
-    final Room room = new Room();
-    final Told told = new Told(room);
+    final Arena room = new Arena();
+    final CallDetails told = new CallDetails(room);
     final byte[] bytes;
     final Pointer text;
     /** The {@code svid_token}. */

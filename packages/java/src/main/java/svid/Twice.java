@@ -66,8 +66,8 @@ record Twice(List<Entry> before, List<Entry> told) {
 
     /** The entries of messages. Throws {@link SvidException.BadMessages} if the bytes are no messages. */
     static List<Entry> entries(byte[] messages) {
-        try (Room room = new Room()) {
-            Told told = new Told(room);
+        try (Arena room = new Arena()) {
+            CallDetails told = new CallDetails(room);
             long most = messages.length / LEAST;
             Pointer out = room.take(most * Library.Entry.SIZE);
             told.must(Library.svid_entries_read(room.put(messages), messages.length, out, most, told.at));
@@ -77,14 +77,14 @@ record Twice(List<Entry> before, List<Entry> told) {
 
     /** Entries as messages. */
     static byte[] written(List<Entry> entries) {
-        try (Room room = new Room()) {
-            Told said = new Told(room);
+        try (Arena room = new Arena()) {
+            CallDetails said = new CallDetails(room);
             Pointer lent = room.take((long) entries.size() * Library.Entry.SIZE);
             for (int number = 0; number < entries.size(); number++) {
                 entries.get(number).write(lent.share((long) number * Library.Entry.SIZE));
             }
-            Written written =
-                    Written.by(room, said, USUAL, (out, outLen) -> Library.svid_entries_write(lent, entries.size(), out, outLen, said.at));
+            Output written =
+                    Output.by(room, said, USUAL, (out, outLen) -> Library.svid_entries_write(lent, entries.size(), out, outLen, said.at));
             said.must(written.status());
             return written.bytes();
         }
@@ -98,11 +98,11 @@ record Twice(List<Entry> before, List<Entry> told) {
 
     /** What messages tell, as {@code svid report} prints it. */
     static String report(byte[] messages) {
-        try (Room room = new Room()) {
-            Told told = new Told(room);
+        try (Arena room = new Arena()) {
+            CallDetails told = new CallDetails(room);
             Pointer text = room.put(messages);
-            Written written =
-                    Written.by(room, told, USUAL, (out, outLen) -> Library.svid_report(text, messages.length, 0, out, outLen, told.at));
+            Output written =
+                    Output.by(room, told, USUAL, (out, outLen) -> Library.svid_report(text, messages.length, 0, out, outLen, told.at));
             told.must(written.status());
             return new String(written.bytes(), StandardCharsets.UTF_8);
         }

@@ -37,7 +37,7 @@ public final class Validator implements AutoCloseable {
     private Validator(Options options, Member member) {
         this.options = options;
         this.member = member;
-        cleanable = CLEANER.register(this, member);
+        cleanable = CLEANER.register(this, member::free);
     }
 
     /**
@@ -274,14 +274,14 @@ public final class Validator implements AutoCloseable {
     public static String bearer(List<String> values) throws Denied {
         int fields = values == null ? 0 : values.size();
         byte[] value = fields == 0 ? new byte[0] : values.get(0).getBytes(StandardCharsets.ISO_8859_1);
-        try (Room room = new Room()) {
+        try (Arena room = new Arena()) {
             Pointer found = room.take(Library.Bearer.SIZE);
             int number = Library.svid_bearer_token(fields, room.put(value), value.length, found);
             Status status = Status.of(number);
             if (status != null && status.isFrom(Status.BEARER_ABSENT, Status.BEARER_SPELLING)) {
                 throw new Denied.NoToken(status);
             }
-            new Told(room).accept(number);
+            new CallDetails(room).accept(number);
             int at = (int) found.getLong(Library.Bearer.AT);
             return new String(value, at, (int) found.getLong(Library.Bearer.LEN), StandardCharsets.ISO_8859_1);
         }
@@ -402,10 +402,10 @@ public final class Validator implements AutoCloseable {
     }
 
     byte[] answer(long now, byte[] summary) {
-        try (Room room = new Room()) {
-            Told told = new Told(room);
+        try (Arena room = new Arena()) {
+            CallDetails told = new CallDetails(room);
             Pointer text = room.put(summary);
-            Written written = Written.by(room, told, USUAL,
+            Output written = Output.by(room, told, USUAL,
                     (out, outLen) -> locked(v -> Library.svid_validator_answer(v, now, text, summary.length, out, outLen, told.at)));
             told.must(written.status());
             return written.bytes();
@@ -427,8 +427,8 @@ public final class Validator implements AutoCloseable {
 
     /** How large the record is. The time that it takes does not depend on that. */
     public Size size() {
-        try (Room room = new Room()) {
-            Told told = new Told(room);
+        try (Arena room = new Arena()) {
+            CallDetails told = new CallDetails(room);
             Pointer out = room.take(Library.Size.SIZE);
             told.must(locked(v -> Library.svid_validator_size(v, out, told.at)));
             return new Size(Times.instantOf(out.getLong(Library.Size.MOMENT)), out.getLong(Library.Size.USES));
@@ -486,9 +486,9 @@ public final class Validator implements AutoCloseable {
     }
 
     private byte[] written(long usual, Writing call) {
-        try (Room room = new Room()) {
-            Told told = new Told(room);
-            Written written = Written.by(room, told, usual, (out, outLen) -> locked(v -> call.into(v, out, outLen, told.at)));
+        try (Arena room = new Arena()) {
+            CallDetails told = new CallDetails(room);
+            Output written = Output.by(room, told, usual, (out, outLen) -> locked(v -> call.into(v, out, outLen, told.at)));
             told.must(written.status());
             return written.bytes();
         }

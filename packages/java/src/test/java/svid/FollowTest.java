@@ -26,6 +26,7 @@ import java.util.List;
 import java.util.Set;
 import java.util.concurrent.ConcurrentHashMap;
 import java.util.concurrent.CopyOnWriteArrayList;
+import java.util.concurrent.CountDownLatch;
 import java.util.concurrent.ExecutorService;
 import java.util.concurrent.Executors;
 import java.util.concurrent.atomic.AtomicInteger;
@@ -271,13 +272,23 @@ public class FollowTest {
                     exchange.sendResponseHeaders(302, -1);
                 } else {
                     exchange.sendResponseHeaders(status, isEndless ? 0 : answer.length == 0 ? -1 : answer.length);
-                    do {
-                        exchange.getResponseBody().write(isEndless ? new byte[Follower.MOST] : answer);
-                    } while (isEndless);
+                    exchange.getResponseBody().write(answer);
+                    if (isEndless) {
+                        exchange.getResponseBody().flush();
+                        untilItIsOver();
+                    }
                 }
                 exchange.close();
             });
             server.start();
+        }
+
+        private static void untilItIsOver() {
+            try {
+                new CountDownLatch(1).await();
+            } catch (InterruptedException why) {
+                // (the server is closed)
+            }
         }
 
         URI address() {
@@ -519,14 +530,15 @@ public class FollowTest {
         follower.close();
     }
 
-    /** Of an answer without end no more is read than shows that it is too long. */
+    /** Of an answer that does not end no more is read than shows that it is too long. */
     @Test
     public void anAnswerWithoutEnd() throws Exception {
         try (Server server = new Server("web")) {
             server.isEndless = true;
+            server.answer = padded(issuer.bundle());
             Sources sources = Sources.web("example.org", server.address(), secret("ca.pem"));
             Follower follower = new Follower(sources, (text, count) -> {});
-            follower.limit = Integer.MAX_VALUE;
+            follower.limit = (int) (1000 * Making.PATIENCE);
             assertEquals(Follower.MOST + 1, new Endpoint(sources.all.get(0), follower).fetched().length);
         }
     }

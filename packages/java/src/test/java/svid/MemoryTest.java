@@ -267,8 +267,8 @@ public class MemoryTest {
     @Test
     public void roomsOfTheCalls() {
         assertThrows(SvidException.OutOfMemory.class, () -> Library.allocated(1L << 62));
-        try (Room room = new Room()) {
-            assertThrows(SvidException.OutOfMemory.class, () -> Written.bytesOf(room.take(8), 1L << 31));
+        try (Arena room = new Arena()) {
+            assertThrows(SvidException.OutOfMemory.class, () -> Output.bytesOf(room.take(8), 1L << 31));
         }
     }
 }

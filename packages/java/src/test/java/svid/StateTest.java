@@ -249,6 +249,20 @@ public class StateTest {
         assertTrue(names(folder).toString(), names(folder).size() < 13);
     }
 
+    /** The numbers of journals have any number of digits. */
+    @Test
+    public void manyStartsLoseNothing() throws Exception {
+        Path folder = room().resolve("state");
+        Set<Integer> due = new TreeSet<>();
+        for (int n = 0; n < 25; n++) {
+            try (Journal journal = open(folder)) {
+                append(journal, use(n));
+            }
+            due.add(n);
+        }
+        assertEquals(due, found(folder));
+    }
+
     /** A long journal becomes a snapshot, while others append. */
     @Test
     public void aLongJournalBecomesASnapshot() throws Exception {
@@ -292,8 +306,17 @@ public class StateTest {
             journal.snapshot(sink -> sink.take(use(1)));
             append(journal, use(2));
             assertFalse(journal.wantsSnapshot());
+            // (a journal is long if it is longer than the snapshot)
+            byte[] much = concatenated(10_000_000);
+            journal.snapshot(sink -> sink.take(much));
+            append(journal, concatenated(9_000_000));
+            assertFalse(journal.wantsSnapshot());
         }
-        assertEquals(Set.of(1, 2), found(folder));
+        try (Journal journal = open(folder)) {
+            assertFalse(journal.wantsSnapshot());
+            append(journal, concatenated(2_000_000));
+            assertTrue(journal.wantsSnapshot());
+        }
     }
 
     /** Who hears that a use is kept, or that a snapshot is to be made, may fail: the next ones are kept. */
@@ -394,6 +417,10 @@ public class StateTest {
             assertTrue(bad.getMessage(), bad.getMessage().contains("place is missing"));
         }
         assertFalse(names(folder).contains("place"));
+        // (a file that has nothing can be read without it)
+        Files.write(folder.resolve("journal.1"), new byte[1000]);
+        assertEquals(Set.of(), found(folder));
+        assertTrue(names(folder).contains("place"));
     }
 
     @Test
@@ -595,8 +622,8 @@ public class StateTest {
 
     /** How many marks the first journal has. */
     private static int marks(Path folder, byte[] id) throws IOException {
-        try (Room room = new Room()) {
-            Kept.Reading reading = new Kept.Reading(room, id, 1, Files.readAllBytes(folder.resolve("journal.1")));
+        try (Arena room = new Arena()) {
+            StateFile.Reading reading = new StateFile.Reading(room, id, 1, Files.readAllBytes(folder.resolve("journal.1")));
             int[] status = {0};
             int marks = 0;
             for (byte[] it = reading.next(status); it != null; it = reading.next(status)) {

@@ -32,8 +32,11 @@ import java.util.List;
 import java.util.Map;
 import java.util.Objects;
 import java.util.Optional;
+import java.util.concurrent.CompletableFuture;
+import java.util.concurrent.TimeUnit;
 import java.util.concurrent.atomic.AtomicInteger;
 import java.util.function.UnaryOperator;
+import java.util.stream.IntStream;
 import org.junit.Test;
 import svid.testing.Issuer;
 import svid.testing.TestClock;
@@ -98,6 +101,24 @@ public class ValidatorTest {
         }
         assertThrows(SvidException.BadBundles.class, () -> Bundles.join(Map.of("a.org", new byte[0])));
         assertEquals("{}", new String(Bundles.join(Map.of()), StandardCharsets.UTF_8));
+    }
+
+    /** Which keys are for tokens, the bundle says: those of X.509 certificates are not, nor are those that say nothing. */
+    @Test
+    public void keysOfOtherUsesDoNotCount() throws Refusal {
+        Issuer issuer = new Issuer("example.org");
+        String bundle = new String(issuer.bundle(), StandardCharsets.UTF_8);
+        for (String use : List.of("\"use\":\"jwt-svid\",", "\"use\":\"x509-svid\",", "")) {
+            byte[] one = bundle.replace("\"use\":\"jwt-svid\",", use).getBytes(StandardCharsets.UTF_8);
+            try (Validator validator = Validator.open(ledger(), Bundles.join(Map.of("example.org", one)))) {
+                String token = issuer.token("/a", "ledger");
+                if (use.contains("jwt-svid")) {
+                    validator.check(token);
+                } else {
+                    assertEquals(use, Refusal.Reason.NO_KEY, refused(() -> validator.check(token)));
+                }
+            }
+        }
     }
 
     @Test
@@ -256,6 +277,24 @@ public class ValidatorTest {
         assertEquals(Refusal.Reason.NOT_THREE_PARTS, refused(() -> Validator.says("")));
     }
 
+    /** A token may be for any number of services, whose names have any length. */
+    @Test
+    public void aTokenForMany() throws Exception {
+        String[] audiences = IntStream.range(0, 200).mapToObj(it -> it + "x".repeat(it)).toArray(String[] ::new);
+        String token = new Issuer("example.org").token("/a", audiences);
+        CompletableFuture<Says> said = new CompletableFuture<>();
+        Thread thread = new Thread(() -> {
+            try {
+                said.complete(Validator.says(token));
+            } catch (Refusal why) {
+                said.completeExceptionally(why);
+            }
+        });
+        thread.setDaemon(true);
+        thread.start();
+        assertEquals(List.of(audiences), said.get(Making.PATIENCE, TimeUnit.SECONDS).audiences());
+    }
+
     /** Times that no Instant has are the last Instant, which stands for all of them. */
     @Test
     public void timesWithoutEnd() throws Refusal {
@@ -309,6 +348,32 @@ public class ValidatorTest {
                 assertThrows(SvidException.TooFar.class, () -> validator.answer(late.summary()));
             }
         }
+    }
+
+    /** Whatever is shown, the record sees the time: also by what is no token. */
+    @Test
+    public void eachCallSeesTheTime() throws Exception {
+        TestClock hand = new TestClock(Instant.ofEpochSecond(NOW));
+        String signed = tokens().get(0);
+        String bad = signed.substring(0, signed.length() - 6) + "AAAAAA";
+        try (Validator validator = Validator.open(ledger().step(Duration.ofSeconds(60)).clock(hand), bundles())) {
+            validator.tick();
+            for (String token : List.of("none", bad, tokens().get(4), tokens().get(5), signed)) {
+                for (Shown call : List.<Shown>of(validator::check, validator::judge, it -> validator.admit(List.of("Bearer " + it)))) {
+                    hand.advance(Duration.ofSeconds(1));
+                    Vectors.answer(() -> call.as(token).toString());
+                    assertEquals(token, hand.instant(), validator.size().moment());
+                    hand.advance(Duration.ofSeconds(61));
+                    assertThrows(token, SvidException.Jump.class, () -> call.as(token));
+                    hand.advance(Duration.ofSeconds(-61));
+                }
+            }
+        }
+    }
+
+    /** A call that is shown a token. */
+    private interface Shown {
+        Admission as(String token) throws Denied;
     }
 
     @Test

@@ -166,8 +166,9 @@ public class VectorsTest {
         Map<Integer, String> ends =
                 Map.of(Library.FILE_END, "end", Library.FILE_TEAR, "tear", Library.FILE_DAMAGE, "damage", Library.FILE_OTHER, "format");
         each("files", "rust", (file, it) -> {
-            try (Room room = new Room()) {
-                Kept.Reading reading = new Kept.Reading(room, bytes(it, "folder_id"), number(it, "journal"), bytes(it, "content"));
+            try (Arena room = new Arena()) {
+                StateFile.Reading reading =
+                        new StateFile.Reading(room, bytes(it, "folder_id"), number(it, "journal"), bytes(it, "content"));
                 List<String> payloads = new ArrayList<>();
                 int[] status = {0};
                 for (byte[] payload = reading.next(status); payload != null; payload = reading.next(status)) {

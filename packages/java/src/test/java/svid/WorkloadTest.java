@@ -34,6 +34,8 @@ import java.util.concurrent.CompletableFuture;
 import java.util.concurrent.CopyOnWriteArrayList;
 import java.util.concurrent.TimeUnit;
 import java.util.concurrent.atomic.AtomicReference;
+import java.util.stream.Collectors;
+import java.util.stream.IntStream;
 import org.junit.Rule;
 import org.junit.Test;
 import org.junit.rules.TemporaryFolder;
@@ -86,7 +88,9 @@ public class WorkloadTest {
 
         /** Ends all streams, and those that begin later. */
         void refuses(String code) throws IOException {
-            say(Map.of("code", code, "why", "no\nmore"));
+            say(Map.of("code", code, "why",
+                    "no\nmore"
+                            + " and more".repeat(500)));
         }
 
         void kill() throws InterruptedException {
@@ -160,6 +164,10 @@ public class WorkloadTest {
                 assertEquals("NoKey", answered(validator, issuer));
                 agent.gives(Map.of("example.org", keys(issuer)));
                 becomes(validator, issuer, "example.org");
+                // (a message may be longer than gRPC takes it without being told)
+                String blanks = " ".repeat(Follower.MOST - 1000);
+                agent.gives(IntStream.range(0, 6).boxed().collect(Collectors.toMap(it -> "n" + it, it -> blanks + NO_KEYS)));
+                becomes(validator, issuer, "UnknownDomain");
                 assertEquals(1, agent.streams);
             }
             until(() -> {
@@ -199,6 +207,7 @@ public class WorkloadTest {
                             -> said.has("the last good one stays: " + agent.address
                                     + ": java.io.IOException: it has no identity for this process"));
             assertTrue(said.lines.toString(), said.has("register it as a workload: PERMISSION_DENIED: no more"));
+            assertTrue(said.lines.toString(), said.lines.stream().allMatch(it -> it.length() < 1000));
             agent.kill();
             until(() -> said.has("Connection refused"));
             Files.delete(Path.of(socket().substring("unix:".length())));

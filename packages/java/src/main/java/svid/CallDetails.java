@@ -3,10 +3,10 @@ package svid;
 import com.sun.jna.Pointer;
 
 /** What a call of the library tells beside its status. */
-final class Told {
+final class CallDetails {
     final Pointer at;
 
-    Told(Room room) {
+    CallDetails(Arena room) {
         at = room.take(Library.Told.SIZE);
     }
 

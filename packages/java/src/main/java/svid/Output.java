@@ -3,7 +3,7 @@ package svid;
 import com.sun.jna.Pointer;
 
 /** A text that the library wrote, and where it stands; it has no bytes unless the status is OK. */
-record Written(int status, Pointer at, byte[] bytes) {
+record Output(int status, Pointer at, byte[] bytes) {
     private static final byte[] NONE = {};
 
     /** A call that writes a text into a room. */
@@ -12,14 +12,14 @@ record Written(int status, Pointer at, byte[] bytes) {
     }
 
     /** Makes the call, once more with more room where it has too little. */
-    static Written by(Room room, Told told, long usual, Call call) {
+    static Output by(Arena room, CallDetails told, long usual, Call call) {
         for (long size = usual;; size = told.len()) {
             Pointer out = room.take(size);
             int status = call.into(out, size);
             if (status == Status.TOO_SHORT.number() && told.len() > size) {
                 continue;
             }
-            return new Written(status, out, status == 0 ? bytesOf(out, told.len()) : NONE);
+            return new Output(status, out, status == 0 ? bytesOf(out, told.len()) : NONE);
         }
     }
 

@@ -4,7 +4,7 @@ import java.util.concurrent.CountDownLatch;
 import java.util.concurrent.TimeUnit;
 
 /** Hears of the withdrawals of a store, once a second, in a thread of its own. */
-final class Hearing {
+final class WithdrawalReader {
     static final String THREAD = "svid-withdrawals";
 
     private static final System.Logger LOGGER = System.getLogger("svid");
@@ -19,7 +19,7 @@ final class Hearing {
     private volatile boolean isWhole; // they were read to the end once
     private final CountDownLatch announced = new CountDownLatch(1); // the member knows that
 
-    Hearing(Store store, Member member) {
+    WithdrawalReader(Store store, Member member) {
         this.store = store;
         this.member = member;
     }

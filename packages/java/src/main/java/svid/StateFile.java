@@ -8,7 +8,7 @@ import java.util.Arrays;
 import java.util.List;
 
 /** What a file of a state folder holds. */
-final class Kept {
+final class StateFile {
     private static final int HEAD = 64; // bytes by which messages are known
 
     final String name;
@@ -20,11 +20,11 @@ final class Kept {
     final boolean isTorn;
 
     /** Reads a file: a snapshot has the number 0. Throws for damage. */
-    Kept(Folder folder, String file, long number, byte[] folderId) throws IOException {
+    StateFile(Folder folder, String file, long number, byte[] folderId) throws IOException {
         Path path = folder.at(file);
         name = path.toString();
         byte[] content = folder.read(file);
-        try (Room room = new Room()) {
+        try (Arena room = new Arena()) {
             Reading read = new Reading(room, folderId == null ? new byte[Options.ID_LEN] : folderId, number, content);
             int status = read.all(messages);
             at = read.at();
@@ -67,7 +67,7 @@ final class Kept {
         private final Pointer frame;
         private final Pointer bears;
 
-        Reading(Room room, byte[] folderId, long number, byte[] content) {
+        Reading(Arena room, byte[] folderId, long number, byte[] content) {
             this.number = number;
             this.content = content;
             id = room.put(folderId);
@@ -113,7 +113,7 @@ final class Kept {
 
         /** The messages of a payload. Another writer may put a position before them. */
         private byte[] messagesOf(byte[] payload) {
-            try (Room room = new Room()) {
+            try (Arena room = new Arena()) {
                 Library.svid_journal_bears(room.put(payload), payload.length, bears);
                 return Arrays.copyOfRange(payload, (int) bears.getLong(Library.Bears.MESSAGES), payload.length);
             }
@@ -124,8 +124,8 @@ final class Kept {
      * Whether it may be a file of an older version, which is messages without frames. The library then finds no fault at its beginning.
      * (What is cut off there goes on with zeros.)
      */
-    private static boolean beginsAsMessages(Room room, byte[] content) {
-        Told told = new Told(room);
+    private static boolean beginsAsMessages(Arena room, byte[] content) {
+        CallDetails told = new CallDetails(room);
         byte[] text = Arrays.copyOf(Arrays.copyOf(content, Math.min(HEAD, content.length)), Math.min(HEAD, content.length) + HEAD);
         int status = Library.svid_entries_read(room.put(text), text.length, null, 0, told.at);
         if (status == Status.NO_MEMORY.number()) {

@@ -6,7 +6,7 @@ import java.util.ArrayList;
 import java.util.List;
 
 /** The native memory of one call: all that it is given, and all that it writes. */
-final class Room implements AutoCloseable {
+final class Arena implements AutoCloseable {
     private static final long USUAL = 16_384;
 
     private final List<Memory> held = new ArrayList<>(2);

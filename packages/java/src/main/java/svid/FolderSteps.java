@@ -4,7 +4,7 @@ import com.sun.jna.Memory;
 import com.sun.jna.Pointer;
 
 /** What the library says of a state folder: which call of the system is due, and frames. One call at a time uses it. */
-final class Numbers {
+final class FolderSteps {
     private final Memory folder = Library.allocated(Library.Folder.SIZE);
     private final Memory id = Library.allocated(Options.ID_LEN);
 
@@ -14,7 +14,7 @@ final class Numbers {
     /** The bytes of a frame. */
     record Frame(Pointer at, long len) {}
 
-    Numbers(byte[] folderId, long oldest, long newest) {
+    FolderSteps(byte[] folderId, long oldest, long newest) {
         id.write(0, folderId, 0, Options.ID_LEN);
         must(Library.svid_journal_open(folder, oldest, newest));
     }
@@ -39,7 +39,7 @@ final class Numbers {
     }
 
     synchronized Due due() {
-        try (Room room = new Room()) {
+        try (Arena room = new Arena()) {
             Pointer due = room.take(Library.Due.SIZE);
             must(Library.svid_journal_due(folder, due));
             return new Due((int) due.getLong(Library.Due.CALL), due.getLong(Library.Due.JOURNAL));
@@ -51,12 +51,12 @@ final class Numbers {
     }
 
     /** The frame of a payload for the journal that grows, in this room. */
-    synchronized Frame put(Room room, byte[] payload) {
+    synchronized Frame put(Arena room, byte[] payload) {
         return frame(room, payload, (lent, len, out, outLen, told) -> Library.svid_journal_put(folder, id, lent, len, out, outLen, told));
     }
 
     /** The frame of the next piece of the snapshot. */
-    synchronized Frame piece(Room room, byte[] payload) {
+    synchronized Frame piece(Arena room, byte[] payload) {
         return frame(room, payload, (lent, len, out, outLen, told) -> Library.svid_journal_piece(folder, id, lent, len, out, outLen, told));
     }
 
@@ -76,8 +76,8 @@ final class Numbers {
         int call(Pointer payload, long len, Pointer out, long outLen, Pointer told);
     }
 
-    private static Frame frame(Room room, byte[] payload, Framing framing) {
-        Told told = new Told(room);
+    private static Frame frame(Arena room, byte[] payload, Framing framing) {
+        CallDetails told = new CallDetails(room);
         Pointer lent = room.put(payload);
         long size = payload.length + Library.FRAME_MORE;
         Pointer out = room.take(size);

@@ -4,11 +4,11 @@ import com.sun.jna.Memory;
 import java.nio.charset.StandardCharsets;
 
 /** What the library says of a status: what is wrong, and what to do, or nothing; each is a sentence. */
-record Words(String says, String advice) {
+record StatusText(String says, String advice) {
     private static final long USUAL = 64;
 
     /** Asks the library. Null where there is no memory for the question. */
-    static Words of(int number) {
+    static StatusText of(int number) {
         for (long size = USUAL;;) {
             try (Memory out = new Memory(size); Memory told = new Memory(Library.Told.SIZE)) {
                 int status = Library.svid_status_sentence(number, out, size, told);
@@ -17,7 +17,7 @@ record Words(String says, String advice) {
                     String text = new String(out.getByteArray(0, (int) size), StandardCharsets.UTF_8);
                     // (each text is ASCII, so that a byte is a character)
                     int before = (int) told.getLong(Library.Told.MORE);
-                    return new Words(text.substring(0, before), text.substring(before).strip());
+                    return new StatusText(text.substring(0, before), text.substring(before).strip());
                 }
             } catch (OutOfMemoryError why) {
                 return null;
