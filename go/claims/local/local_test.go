@@ -168,6 +168,11 @@ func TestAClockThatGoesBackEndsTheEpoch(t *testing.T) {
 			if s.Put(context.Background(), []claims.Claim{one}, found[:]); claimstest.Judge(one, found[0], 0) == claimstest.Mine {
 				t.Fatal("a token that was claimed is accepted once more")
 			}
+			c.at.Store(state.Deaf - 10) // The deafness lasts to its end.
+			s = between(t, s, dir, c)
+			if is := claimstest.State(t, s); is.Deaf != state.Deaf || is.Epoch != state.Epoch {
+				t.Fatalf("later the state is %+v, and before it %+v", is, state)
+			}
 		})
 	}
 }

@@ -103,6 +103,7 @@ func (m *machine) Store(t testing.TB, o claimstest.Options) claims.Store {
 		url = "nats://" + o.Address
 	}
 	s := newStore(t, Options{Servers: []string{url}, Name: o.Name, Terms: o.Terms})
+	s.forNew = waitNew / 20 // (no member knows another store, where the test does not say so)
 	if o.Compares {
 		s.forRun, s.forNew = compares, compares
 	}
@@ -166,10 +167,26 @@ func (m *machine) Lie(t testing.TB, name string, key svid.TokenKey, entry []byte
 	}
 }
 
-// (An entry leaves by its age: TestEntriesStay has that.)
+// What does something to the server runs beside what does not, and beside what ends the server. (An entry leaves by its age: TestEntriesStay has that.)
+var (
+	beside = []string{"Put", "Many", "Races", "Withdrawals", "Pages", "Expiry", "Past", "Terms", "TooLong", "LostAnswer", "Closed", "Load"}
+	alone  = []string{"Liar", "Emptied", "EmptiedAndOpened", "ContextEnds", "ClosedMeanwhile"}
+	again  = []string{"Killed", "Stopped", "PutBack", "ServerComesLater"}
+)
+
 func TestSuite(t *testing.T) {
 	t.Parallel()
-	claimstest.Run(t, newMachine(t), "Expiry")
+	claimstest.Run(t, newMachine(t), append(append([]string{"Expiry"}, alone...), again...)...)
+}
+
+func TestSuiteAlone(t *testing.T) {
+	t.Parallel()
+	claimstest.Run(t, newMachine(t), append(beside, again...)...)
+}
+
+func TestSuiteOfAServerThatEnds(t *testing.T) {
+	t.Parallel()
+	claimstest.Run(t, newMachine(t), append(beside, alone...)...)
 }
 
 func patient(t testing.TB) context.Context {
