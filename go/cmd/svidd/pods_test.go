@@ -452,7 +452,7 @@ func (e *endpoints) clients(t *testing.T) (stop func() (sent int, wrong map[stri
 				select {
 				case <-end:
 					return
-				case <-time.After(40 * time.Millisecond):
+				case <-time.After(200 * time.Millisecond):
 				}
 				one := token(t, fmt.Sprint("client", i, ".", n, ".", time.Now().UnixNano()), 30*time.Minute)
 				first, said := e.get(n).ask(one)

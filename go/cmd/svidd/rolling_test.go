@@ -65,7 +65,7 @@ func rolling(t *testing.T, end func(*testing.T, *broker.Server)) {
 				select {
 				case <-stop:
 					return
-				case <-time.After(40 * time.Millisecond):
+				case <-time.After(200 * time.Millisecond): // (a busy machine has no time for more)
 				}
 				one := token(t, fmt.Sprint("rolling", i, ".", n), time.Hour/2)
 				from := time.Now()

@@ -16,7 +16,7 @@ import (
 )
 
 // long lets a test send 10,000 tokens.
-var long = flag.Bool("long", false, "send ten times as many tokens to a group")
+var long = flag.Bool("long", false, "send forty times as many tokens to a group")
 
 // A storeServer is what a group's store stands in.
 type storeServer interface {
@@ -76,7 +76,7 @@ func many() int {
 	if *long {
 		return 10_000
 	}
-	return 1000
+	return 250
 }
 
 // Whatever the store stands in: each token that three sidecars get at once is accepted by exactly one.

@@ -31,7 +31,7 @@ func Looks() (pause func()) {
 	next := 4 * time.Millisecond
 	return func() {
 		time.Sleep(next)
-		if next < 25*time.Millisecond {
+		if next < 100*time.Millisecond {
 			next += next / 4
 		}
 	}

@@ -27,7 +27,6 @@ import (
 //
 // Behind address:HEADER and peer may stand /BITS4,BITS6: then all addresses of a network of so many bits (IPv4, IPv6) are one caller.
 type CallerRule struct {
-	text      string
 	kind      string // address, peer, header or principal
 	header    string // its canonical name
 	four, six int    // bits of a network
@@ -42,7 +41,7 @@ var errCaller = errors.New("write address:HEADER or header:NAME, with a header t
 
 // ParseCaller reads a rule.
 func ParseCaller(text string) (*CallerRule, error) {
-	rule := &CallerRule{text: text, four: 32, six: 128, recent: recentCallers{seed: maphash.MakeSeed()}}
+	rule := &CallerRule{four: 32, six: 128, recent: recentCallers{seed: maphash.MakeSeed()}}
 	rest, network, hasNetwork := strings.Cut(text, "/")
 	kind, header, hasHeader := strings.Cut(rest, ":")
 	rule.kind = kind
@@ -95,9 +94,6 @@ func isHeaderName(text string) bool {
 	}
 	return text != ""
 }
-
-// String is the rule as it was written.
-func (c *CallerRule) String() string { return c.text }
 
 // OfEnvoy says whether Envoy alone names such callers, by gRPC.
 func (c *CallerRule) OfEnvoy() bool { return c.kind == "peer" || c.kind == "principal" }

@@ -529,11 +529,6 @@ func withMachine[A any](e *Engine, look func(m *Machine) A) A {
 	return look(e.machine)
 }
 
-// untold is how many uses wait to be told to the group.
-func (e *Engine) untold() int {
-	return withMachine(e, func(m *Machine) int { return len(m.tale.untold) })
-}
-
 // isBundled says whether there is a trust bundle.
 func (e *Engine) isBundled() bool {
 	return withMachine(e, func(m *Machine) bool { return m.known.Bundled })
@@ -721,12 +716,9 @@ func (e *Engine) pause(d time.Duration) bool {
 // Summary returns the summary of the record, for another sidecar to answer.
 func (e *Engine) Summary() ([]byte, error) { return e.machine.Summary() }
 
-// Answer answers another sidecar's summary.
-func (e *Engine) Answer(summary []byte) ([]byte, error) { return e.machine.Answer(summary) }
-
 // Answers answers another sidecar's summary by messages of at most most bytes each.
 func (e *Engine) Answers(summary []byte, most int) ([][]byte, error) {
-	answer, err := e.Answer(summary)
+	answer, err := e.machine.Answer(summary)
 	if err != nil {
 		return nil, err
 	}

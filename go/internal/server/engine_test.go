@@ -385,8 +385,8 @@ func TestAClientThatGoesAway(t *testing.T) {
 	if _, err := e.Check(gone, token("a")); err != nil {
 		t.Error(err)
 	}
-	if d.Size() != 82 || e.untold() != 1 {
-		t.Errorf("%d bytes are on the disk, and %d uses wait to be told", d.Size(), e.untold())
+	if d.Size() != 82 || withMachine(e, untold) != 1 {
+		t.Errorf("%d bytes are on the disk, and %d uses wait to be told", d.Size(), withMachine(e, untold))
 	}
 }
 
@@ -396,8 +396,8 @@ func TestASidecarByItselfTellsNobody(t *testing.T) {
 	if err := check(e, token("a")); err != nil {
 		t.Fatal(err)
 	}
-	if e.untold() != 0 || e.Metrics.Untold.Load() != 0 {
-		t.Errorf("%d uses wait, %d are given up", e.untold(), e.Metrics.Untold.Load())
+	if withMachine(e, untold) != 0 || e.Metrics.Untold.Load() != 0 {
+		t.Errorf("%d uses wait, %d are given up", withMachine(e, untold), e.Metrics.Untold.Load())
 	}
 	if aside := takeAll(e, carriers.Uses, []byte("garbage")); aside != 1 {
 		t.Errorf("%d aside", aside)

@@ -496,6 +496,9 @@ func keptOf(m *Machine) int {
 	return kept
 }
 
+// untold is how many uses wait to be told to the group.
+func untold(m *Machine) int { return len(m.tale.untold) }
+
 // at counts the requests that are so far.
 func at(is stage) func(m *Machine) int {
 	return func(m *Machine) (n int) {

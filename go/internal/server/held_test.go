@@ -2,6 +2,7 @@ package server
 
 import (
 	"context"
+	"encoding/json"
 	"errors"
 	"fmt"
 	"strings"
@@ -449,5 +450,38 @@ func TestAHeldTokenIsJudgedEachTime(t *testing.T) {
 		if m := b.machine.metrics; m.ClaimsWon.Load() != 1 || m.ClaimsLost.Load() != 0 || m.ClaimsFailed.Load() != 0 {
 			t.Errorf("%s: claims are counted twice", what)
 		}
+	}
+}
+
+// A held token is let go by a request that is judged again, since the bundles were replaced while it was judged.
+func TestAHeldTokenIsLetGoByWhoIsJudgedAgain(t *testing.T) {
+	var replace func()
+	e := ready(t, engine(t, Options{Mode: Reuse, Now: func() uint64 { // (the engine looks at its clock behind what it has of a token)
+		if do := replace; do != nil {
+			replace = nil
+			do()
+		}
+		return moment
+	}}))
+	one := token("a")
+	for i := 0; i < 2; i++ {
+		if err := check(e, one); err != nil {
+			t.Fatal(err)
+		}
+	}
+	held := e.verified.held.round[0]
+	if n := held.users.Load(); n != 1 || held.token.Text() != one {
+		t.Fatalf("%d use the token, and the table alone is to", n)
+	}
+	replace = func() {
+		if err := e.SetBundles(map[string]json.RawMessage{"example.org": otherwise(t, example.JWKSet())}); err != nil {
+			t.Error(err)
+		}
+	}
+	if err := check(e, one); err != nil || replace != nil {
+		t.Errorf("a good token: %v", err)
+	}
+	if n := held.users.Load(); n != 0 {
+		t.Errorf("%d use the token, whose request has its answer", n)
 	}
 }

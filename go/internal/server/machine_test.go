@@ -555,7 +555,7 @@ func TestTheEndWaitsForCalls(t *testing.T) {
 
 // The end waits for what the group is to be told, and for what the disk is to have, also for what came while other uses were on their way.
 func TestTheEndWaitsForAllThatIsToGoOut(t *testing.T) {
-	for what, o := range map[string]Options{"the group": {Mode: Once, Grouped: true, Journal: &disk{}}, "the disk": inStrict(Options{Journal: &disk{}})} {
+	for what, o := range map[string]Options{"the group": {Mode: Once, Grouped: true}, "the disk": inStrict(Options{Journal: &disk{}})} {
 		b := benchOf(t, o)
 		b.step(Joined{}, CaughtUp{}, Run{})
 		var onTheirWay []Event // what ends a value, or a write for which nobody waits
@@ -570,10 +570,6 @@ func TestTheEndWaitsForAllThatIsToGoOut(t *testing.T) {
 				for _, effect := range effects {
 					switch effect := effect.(type) {
 					case Append:
-						if o.Mode == Once {
-							b.step(Kept{effect.Write})
-							continue
-						}
 						uses += len(effect.Uses)
 						onTheirWay = append(onTheirWay, Kept{effect.Write})
 					case Send:

@@ -119,7 +119,7 @@ func (e *Engine) WriteMetrics(w io.Writer) error {
 		p.gauge("svidd_broker_connected", "1 if the group's broker is there.", truth(g.Connected()))
 	}
 	if e.Stored {
-		state := e.storeState()
+		state := withMachine(e, func(m *Machine) claims.State { return m.state })
 		p.gauge("svidd_store_connected", "1 if the group's store answered within the last second.", truth(e.store.Load() != nil && e.outlook.away.Load() == nil))
 		p.counter("svidd_store_epochs_total", "Times that the group's store lost entries, as this sidecar saw it.", m.Epochs.Load())
 		p.gauge("svidd_store_deaf_until_timestamp_seconds", "Tokens that expire by this time are not accepted, since the store has lost entries; 0 if it has lost none.", float64(state.Deaf))
@@ -132,7 +132,7 @@ func (e *Engine) WriteMetrics(w io.Writer) error {
 		p.gauge("svidd_journal_bytes", "Bytes appended to the state folder since the last snapshot.", float64(e.Journal.Size()))
 	}
 	if e.Grouped {
-		p.gauge("svidd_untold_uses", "Uses that wait to be told to the group.", float64(e.untold()))
+		p.gauge("svidd_untold_uses", "Uses that wait to be told to the group.", float64(withMachine(e, func(m *Machine) int { return len(m.tale.untold) })))
 	}
 	p.counter("svidd_log_lines_dropped_total", "Lines of the log that were dropped, since standard error did not take them.", e.Log.Dropped())
 	p.gauge("svidd_ready", "1 if /readyz answers 200: the sidecar judges tokens and can keep an acceptance.", truth(e.Ready() == nil))
@@ -165,11 +165,6 @@ func (e *Engine) WriteMetrics(w io.Writer) error {
 	}
 	p.process()
 	return p.w.Flush()
-}
-
-// storeState is what the store was when it was looked at last.
-func (e *Engine) storeState() claims.State {
-	return withMachine(e, func(m *Machine) claims.State { return m.state })
 }
 
 // never is the age of a bundle that was not read yet.

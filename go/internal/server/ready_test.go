@@ -9,6 +9,8 @@ import (
 	"sync/atomic"
 	"testing"
 	"time"
+
+	"svid.example/go/v3/claims"
 )
 
 // fullDisk is a disk that says, before it is asked for more, that it has no room.
@@ -61,13 +63,34 @@ func TestReadyzTellsOfAStoreThatIsAway(t *testing.T) {
 		away.Store(true)
 		e.lookAhead()
 		if mode == Strict {
-			await(t, "that time to be over, however often it is looked at meanwhile", func() bool { e.lookAhead(); return e.isAway() })
+			await(t, "that time to be over", e.isAway)
 		}
 		if err := e.Ready(); errors.Is(err, errAway) != (mode == Strict) {
 			t.Errorf("%s: ready is %v", mode, err)
 		}
 		away.Store(false)
 		await(t, fmt.Sprintf("the store to be there again in mode %s", mode), func() bool { e.lookAhead(); return e.Ready() == nil })
+	}
+}
+
+// A store is away since the first look, or claim, that it did not answer, however often it was tried since.
+func TestTheAbsenceOfAStoreBeginsOnce(t *testing.T) {
+	const wait = time.Minute
+	fault := errors.New("connection refused")
+	for what, answer := range map[string]func(e *Engine, from time.Time, err error){
+		"looks":  (*Engine).storeAnswered,
+		"claims": func(e *Engine, from time.Time, err error) { e.noteClaims(from, []claims.Found{{Err: err}}) },
+	} {
+		e := newShop().use(t, ready(t, engine(t, inStrict(Options{Wait: wait}))))
+		for _, step := range []struct {
+			ago  time.Duration
+			err  error
+			away bool
+		}{{wait / 2, fault, false}, {2 * wait, nil, false}, {2 * wait, fault, true}, {0, fault, true}, {0, nil, false}, {0, fault, false}} {
+			if answer(e, time.Now().Add(-step.ago), step.err); e.isAway() != step.away {
+				t.Errorf("%s: behind %+v it is away: %v", what, step, !step.away)
+			}
+		}
 	}
 }
 

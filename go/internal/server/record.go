@@ -72,7 +72,10 @@ type Taking struct {
 // The record takes many values in one call, and each by itself: else one that a member cut off on purpose would swallow the
 // beginning of the next one, which is another member's.
 func (t *Taking) happen(m *Machine) {
-	messages := messagesOf(nil, t.Values)
+	messages := make([][]byte, len(t.Values))
+	for i := range t.Values {
+		messages[i] = t.Values[i].Message
+	}
 	for at := 0; at < len(messages); {
 		taken, err := m.validator.TakeEach(m.now.Wall, messages[at:])
 		for end := at + taken; at < end; at++ {
@@ -88,7 +91,7 @@ func (t *Taking) happen(m *Machine) {
 // taken takes note of a value that was taken, or why it was not.
 func (t *Taking) taken(m *Machine, i int, err error) {
 	v := &t.Values[i]
-	if m.isOfOtherMode(v.Kind) {
+	if v.Kind == carriers.Claims { // In once no sidecar claims a token in the bucket, as svidd 2.0 did in strict.
 		m.noteMode(v.Message)
 	}
 	if m.Log.Writes(All) {
@@ -107,14 +110,6 @@ func (t *Taking) taken(m *Machine, i int, err error) {
 	t.Errs[i] = err
 }
 
-// messagesOf appends the messages of values to room.
-func messagesOf(room [][]byte, values []carriers.Value) [][]byte {
-	for i := range values {
-		room = append(room, values[i].Message)
-	}
-	return room
-}
-
 // errMixed: a sidecar of the group runs in another mode.
 var errMixed = errors.New("another sidecar of the group accepts tokens in another mode, so a token can be accepted twice: run all in one mode")
 
@@ -128,10 +123,6 @@ func (m *Machine) noteMode(message []byte) {
 		}
 	}
 }
-
-// isOfOtherMode says whether a sidecar of another mode tells uses by a value of this kind: in once none claims a token in the
-// bucket, as svidd 2.0 did in strict.
-func (m *Machine) isOfOtherMode(kind carriers.Kind) bool { return kind == carriers.Claims }
 
 // saysMode says whether a use tells the mode of who made it: a withdrawal is of every mode, and before this sidecar began, the
 // group may have been in another one.
@@ -202,7 +193,7 @@ func (m *Machine) lookAfterAll() {
 	m.tick()
 	m.keepAgain()
 	m.measure()
-	if m.Journal != nil && m.known.Loaded && !m.keeper.saving && m.keeper.size > max(m.keeper.saved, smallJournal) {
+	if m.Journal != nil && m.known.Loaded && !m.keeper.saving && m.keeper.size > m.keeper.saved && m.keeper.size > smallJournal {
 		m.save()
 	}
 }
@@ -266,11 +257,4 @@ func (s Snapshotted) happen(m *Machine) {
 		return
 	}
 	m.metrics.Snapshots.Add(1)
-}
-
-func max(a, b int64) int64 {
-	if a > b {
-		return a
-	}
-	return b
 }

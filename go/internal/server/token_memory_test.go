@@ -72,33 +72,6 @@ func TestReusedTokensLeaveNothing(t *testing.T) {
 	})
 }
 
-// So is one that is judged again, since the bundles were replaced while it was judged.
-func TestTokensThatAreJudgedAgainLeaveNothing(t *testing.T) {
-	var replace func()
-	e := ready(t, engine(t, Options{Mode: Reuse, Now: func() uint64 { // (the engine looks at its clock behind what it has of a token)
-		if do := replace; do != nil {
-			replace = nil
-			do()
-		}
-		return moment
-	}}))
-	one, sets := token("a"), [2]json.RawMessage{example.JWKSet(), otherwise(t, example.JWKSet())}
-	replaced := 0
-	holdsNoMore(t, "200 requests of a token whose bundles are replaced", func(int) {
-		for i := 0; i < 200; i++ {
-			replace = func() {
-				replaced++
-				if err := e.SetBundles(map[string]json.RawMessage{"example.org": sets[replaced%2]}); err != nil {
-					t.Error(err)
-				}
-			}
-			if err := check(e, one); err != nil {
-				t.Fatal(err)
-			}
-		}
-	})
-}
-
 // What is held of tokens that came again is let go with the bundles, and at the end.
 func TestHeldTokensAreLetGo(t *testing.T) {
 	for what, let := range map[string]func(e *Engine) error{

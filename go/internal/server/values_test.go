@@ -56,7 +56,7 @@ func TestASummaryRepairsWhatWasNotTold(t *testing.T) {
 	if err != nil {
 		t.Fatal(err)
 	}
-	answer, err := here.Answer(summary)
+	answer, err := here.machine.Answer(summary)
 	if err != nil {
 		t.Fatal(err)
 	}
