@@ -3,6 +3,7 @@
 #include "svid.h"
 #include "verify.h"
 #include <openssl/crypto.h>
+#include <openssl/err.h>
 #include <stdio.h>
 #include <stdlib.h>
 #include <string.h>
@@ -55,6 +56,7 @@ static long each(const uint8_t *alg_at, const uint8_t *jwk_at, const uint8_t *to
     }
     refused_at = 0;
     must(verify(NULL, alg, alg_len, jwk, jwk_len, token, len) == due, "the answer is another one afterwards");
+    must(ERR_peek_error() == 0, "the next call of OpenSSL in this thread finds an error of this one");
     free(alg); free(jwk); free(token);
     return all;
 }

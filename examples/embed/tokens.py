@@ -83,6 +83,8 @@ def main(folder):
         ("broken", resigned(es256, lambda raw, _: bytes([raw[0] ^ 1]) + raw[1:]), bad, bad),
         ("short", resigned(es256, lambda raw, _: raw[:-1]), bad, bad),
         ("one-more", resigned(es256, lambda raw, _: raw + b"\0"), bad, bad),
+        ("one-between", resigned(es256, lambda raw, _: raw[:32] + b"\0" + raw[32:]), bad, bad),
+        ("one-in-front", resigned(es256, lambda raw, _: b"\0" + raw), bad, bad),
         ("huge", resigned(es256, lambda raw, _: raw * 40), bad, bad),
         ("zero", resigned(es256, lambda raw, _: bytes(64)), bad, bad),
         ("der", resigned(es256, as_der), bad, bad),

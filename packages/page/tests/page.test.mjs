@@ -522,7 +522,8 @@ async function tick() {
 
 test("of two tokens the later one is shown, whichever answer comes first", async () => {
   await page.click("example");
-  const token = await page.run(() => document.getElementById("token").value);
+  const { token, time } = await page.run(() => ({ token: document.getElementById("token").value, time: document.getElementById("time").value }));
+  await page.write({ time }); // (a tick would show the later one again)
   await page.run(() => {
     const verify = SubtleCrypto.prototype.verify, held = new Promise((resolve) => (window.goOn = resolve));
     window.ended = new Promise((resolve) => {
