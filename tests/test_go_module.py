@@ -30,6 +30,13 @@ ALL = (
     "svidtest",
 )
 OTHERS = ("claims/redis", "claims/postgres", "claims/nats", "carriers/jetstream", "workload")
+# As in go/build: so Go's own library, and the modules of others, are compiled once for all.
+COMPILED = "-trimpath -gcflags=all=-dwarf=false -ldflags=-w"
+
+
+def kept():
+    """The folder in which Go keeps what it has compiled. It finds it there by all that went into it, so nothing of this checkout gets into a service."""
+    return subprocess.run(["go", "env", "GOCACHE"], capture_output=True, text=True, check=True).stdout.strip()
 
 
 def version():
@@ -66,11 +73,11 @@ class Service:
             "PATH": os.environ["PATH"],
             "HOME": str(room / "home"),
             "GOPATH": str(room / "gopath"),
-            "GOCACHE": str(room / "cache"),
+            "GOCACHE": kept(),
             "GOGC": "1200",  # (as in go/build)
             "GOPROXY": f"file://{proxy}",
             "GONOSUMDB": "*",
-            "GOFLAGS": "-mod=mod",
+            "GOFLAGS": f"-mod=mod {COMPILED}",
             "GOTOOLCHAIN": "local",
         }
 
@@ -175,7 +182,7 @@ def test_most_packages_need_no_other_module(service):
 def test_a_service_may_keep_the_sources_of_its_modules(service):
     service.write(importing(ALL))
     for words in (["mod", "vendor"], ["build", "-mod=vendor", "-o", "service"]):
-        ran = service.go(*words, GOFLAGS="", GOPROXY="off" if "build" in words else service.environment["GOPROXY"])
+        ran = service.go(*words, GOFLAGS=COMPILED, GOPROXY="off" if "build" in words else service.environment["GOPROXY"])
         assert ran.returncode == 0, f"{words}: {ran.stderr}"
 
 
@@ -210,10 +217,8 @@ def test_a_service_for_aarch64(service):
     needs("aarch64-linux-gnu-gcc")
     needs("qemu-aarch64-static")
     service.write(TWICE)
-    flags = ["-trimpath", "-tags", "gocrypto", "-gcflags=all=-dwarf=false", "-ldflags", "-w -linkmode external -extldflags -static"]
-    # (with these options tools/packaging/svidd-arm64 compiles Go's own library, too, and it is kept)
-    kept = subprocess.run(["go", "env", "GOCACHE"], capture_output=True, text=True, check=True).stdout.strip()
-    ran = service.go("build", *flags, "-o", "service", GOARCH="arm64", CGO_ENABLED="1", CC="aarch64-linux-gnu-gcc", GOCACHE=kept)
+    flags = ["-tags", "gocrypto", "-ldflags", "-w -linkmode external -extldflags -static"]
+    ran = service.go("build", *flags, "-o", "service", GOARCH="arm64", CGO_ENABLED="1", CC="aarch64-linux-gnu-gcc")
     assert ran.returncode == 0, ran.stderr
     examples = [(TOP / "examples" / it).read_text().strip() for it in ("bundles.json", "token.txt")]
     ran = subprocess.run(["qemu-aarch64-static", service.folder / "service", *examples], capture_output=True, text=True)
@@ -270,15 +275,16 @@ def test_a_fresh_clone_is_built(room):
         "PATH": os.environ["PATH"],
         "HOME": str(room / "home"),
         "GOPATH": str(gopath),
-        "GOCACHE": str(room / "cache"),
+        "GOCACHE": kept(),
+        "GOFLAGS": COMPILED,
         "GOGC": "1200",
         "GOENV": "off",
         "GOPROXY": "off",
         "GOTOOLCHAIN": "local",
     }
 
-    def go(*words):
-        ran = subprocess.run(["go", *words], cwd=clone / "go", env=environment, capture_output=True, text=True)
+    def go(*words, **more):
+        ran = subprocess.run(["go", *words], cwd=clone / "go", env={**environment, **more}, capture_output=True, text=True)
         assert ran.returncode == 0, f"go {' '.join(words)}: {ran.stderr}"
         return ran.stdout
 

@@ -91,7 +91,7 @@ def of_rust(room):
     target = os.environ.get("SVID_RUST_TARGET", f"{room.folder}/target")
     path = f"{tools}:/usr/sbin:/usr/bin:/sbin:/bin"
     cargo = {"CARGO_HOME": f"{room.folder}/cargo", "CARGO_PROFILE_DEV_DEBUG": "0", "CARGO_TARGET_DIR": target, "PATH": path}
-    room.run("cargo", "build", "--quiet", "--offline", **cargo)
+    room.run("cargo", "build", "--quiet", "--offline", CARGO_INCREMENTAL="0", **cargo)
     return [f"{target}/debug/of_the_release"]
 
 
