@@ -3,11 +3,14 @@
 import assert from "node:assert/strict";
 import { execFile, spawn } from "node:child_process";
 import { mkdtemp, rm } from "node:fs/promises";
+import { createServer } from "node:net";
 import { tmpdir } from "node:os";
 import { join } from "node:path";
 import { createInterface } from "node:readline";
 import { after, test } from "node:test";
+import { TLSSocket } from "node:tls";
 import { promisify } from "node:util";
+import { authority, certificate } from "./certificates.mjs";
 import { PATIENCE, TOP, imported, issuer, now, said, token, until } from "./making.mjs";
 
 const run = promisify(execFile);
@@ -220,6 +223,28 @@ test("what is no store in PostgreSQL", async () => {
   ]) {
     await assert.rejects(PostgresStore.open(options), (why) => (why instanceof TypeError || why instanceof RangeError) && !why.message.includes("secret"));
   }
+});
+
+test("a root certificate is looked at in each mode of TLS", async () => {
+  const ours = authority(room, "ours"), others = authority(room, "others"), shown = certificate(ours, "server", "IP:127.0.0.1");
+  let trusted = 0;
+  // (it says that it speaks TLS, and ends each connection on which it was trusted)
+  const server = createServer((one) => {
+    one.on("error", () => {}).once("data", () => {
+      one.write("S");
+      const secured = new TLSSocket(one, { isServer: true, ...shown }).on("error", () => {});
+      secured.once("data", () => (trusted++, secured.destroy()));
+    });
+  });
+  await new Promise((resolve) => server.listen(0, "127.0.0.1", resolve));
+  for (const mode of ["require", "verify-ca", "verify-full"]) {
+    for (const [root, due] of [[ours, /terminated/], [others, /certificate|issuer/]]) {
+      const servers = `postgres://u:p@127.0.0.1:${server.address().port}/d?sslmode=${mode}&sslrootcert=${root.cert}`, before = trusted;
+      await withStores([{ servers, wait: PATIENCE }], (store) => assert.rejects(store.put([]), due, `${mode} ${root.name}`));
+      assert.equal(trusted > before, root === ours);
+    }
+  }
+  server.close();
 });
 
 test("an open store keeps no process", async () => {
