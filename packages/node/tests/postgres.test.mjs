@@ -167,6 +167,28 @@ test("a call ends though the server does not answer", async () => {
   });
 });
 
+test("a call that waits for a standby ends at the server once it is given up", async () => {
+  const name = await group(), waiting = async (count) => (await tell(`DO $$ BEGIN ASSERT (SELECT count(*) FROM pg_stat_activity WHERE wait_event = 'SyncRep') ${count}; END $$`)) === "done";
+  const standbys = async (names) => {
+    for (const it of [`ALTER SYSTEM SET synchronous_standby_names = '${names}'`, "SELECT pg_reload_conf()"]) assert.equal(await tell(it), "done");
+  };
+  await withStores([{ group: name, wait: 1 }], async (store) => {
+    await put(store, claim(0));
+    await standbys("*"); // (there is none)
+    try {
+      // (a look may wait at any time, and each of these would for ever)
+      for (let n = 1, came = 0; came < 6; n++) {
+        const call = assert.rejects(store.put([claim(n)]), StoreFault), waits = await waiting("> 0");
+        await call;
+        came += waits || (await waiting("> 0")) ? 1 : 0;
+      }
+      await until(() => waiting("< 3"));
+    } finally {
+      await standbys("");
+    }
+  });
+});
+
 test("closing ends calls", async () => {
   const name = await group();
   await withStores([{ group: name, wait: PATIENCE }], async (store) => {
