@@ -16,6 +16,7 @@ import { PATIENCE, TOP, imported, issuer, now, said, token, until } from "./maki
 const run = promisify(execFile);
 const { Validator } = await imported();
 const { PostgresStore, StoreFault } = await imported("src/postgres.js");
+const { Member } = await imported("src/postgres-member.js");
 const LOUD = { maxBuffer: 1 << 26 };
 const OPEN = { ...process.env, TMPDIR: "/tmp" }; // (the user of PostgreSQL may not go through a folder of this one)
 const room = await mkdtemp(join(tmpdir(), "svid-postgres-"));
@@ -187,6 +188,20 @@ test("a call that waits for a standby ends at the server once it is given up", a
       await standbys("");
     }
   });
+});
+
+test("an answer does not count that was read when nobody had looked at the servers for long", async () => {
+  const name = await group(), end = () => performance.now() + PATIENCE * 1000;
+  const member = new Member({ servers: [url, url], group: name, replicas: 1 }, { lasts: 7200n, margin: 120n, back: 60n });
+  let n = 0;
+  await until(async () => (await member.put([claim(++n)], end()))[0].owner);
+  await until(async () => {
+    const call = member.put([claim(++n)], end());
+    for (let turn = 0; turn < 3; turn++) await new Promise(setImmediate); // (it is sent)
+    Atomics.wait(new Int32Array(new SharedArrayBuffer(4)), 0, 0, 3500); // (this process has no processor)
+    return /not all servers were looked at/.test((await call)[0].message);
+  });
+  member.close();
 });
 
 test("closing ends calls", async () => {
