@@ -186,7 +186,7 @@ test("https_web: a server that is known by its name is asked again, as its bundl
 
 test("https_web: whoever is not known by its name is not heard", async () => {
   const other = certificate(web, "other", "DNS:example.com"), server = await serving(other, answering(text(one)));
-  // (each at an address of its own: what is wrong with one is told once)
+  // (each at an address of its own, since a source has one fault at a time)
   const of = (name) => `${server.url}/${name}`, it = await looking({ a: { url: of("a"), authorities: web.cert }, b: { url: of("b"), authorities: spiffe.cert }, c: of("c") });
   assert.deepEqual(it.all, {});
   assert.equal(it.faults.filter((why) => /altnames|certificate|issuer/.test(why)).length, 3, it.faults.join("\n"));
