@@ -767,6 +767,7 @@ test("withdrawals that could not be taken are read again", async () => {
     return is;
   };
   const validator = await Validator.open({ ...terms, mode: "reuse", store, step: 100, now: () => time }), { key, expires } = validator.says(text);
+  validator.tick();
   time += 1000; // (the clock has jumped)
   await store.withdraw(key, expires);
   await until(() => told);

@@ -3,16 +3,20 @@
 import assert from "node:assert/strict";
 import { execFile, spawn } from "node:child_process";
 import { mkdtemp, rm } from "node:fs/promises";
+import { createServer } from "node:net";
 import { tmpdir } from "node:os";
 import { join } from "node:path";
 import { createInterface } from "node:readline";
 import { after, test } from "node:test";
+import { TLSSocket } from "node:tls";
 import { promisify } from "node:util";
+import { authority, certificate } from "./certificates.mjs";
 import { PATIENCE, TOP, imported, issuer, now, said, token, until } from "./making.mjs";
 
 const run = promisify(execFile);
 const { Validator } = await imported();
 const { PostgresStore, StoreFault } = await imported("src/postgres.js");
+const { Member } = await imported("src/postgres-member.js");
 const LOUD = { maxBuffer: 1 << 26 };
 const OPEN = { ...process.env, TMPDIR: "/tmp" }; // (the user of PostgreSQL may not go through a folder of this one)
 const room = await mkdtemp(join(tmpdir(), "svid-postgres-"));
@@ -164,6 +168,42 @@ test("a call ends though the server does not answer", async () => {
   });
 });
 
+test("a call that waits for a standby ends at the server once it is given up", async () => {
+  const name = await group(), waiting = async (count) => (await tell(`DO $$ BEGIN ASSERT (SELECT count(*) FROM pg_stat_activity WHERE wait_event = 'SyncRep') ${count}; END $$`)) === "done";
+  const standbys = async (names) => {
+    for (const it of [`ALTER SYSTEM SET synchronous_standby_names = '${names}'`, "SELECT pg_reload_conf()"]) assert.equal(await tell(it), "done");
+  };
+  await withStores([{ group: name, wait: 1 }], async (store) => {
+    await put(store, claim(0));
+    await standbys("*"); // (there is none)
+    try {
+      // (a look may wait at any time, and each of these would for ever)
+      for (let n = 1, came = 0; came < 6; n++) {
+        const call = assert.rejects(store.put([claim(n)]), StoreFault), waits = await waiting("> 0");
+        await call;
+        came += waits || (await waiting("> 0")) ? 1 : 0;
+      }
+      await until(() => waiting("< 3"));
+    } finally {
+      await standbys("");
+    }
+  });
+});
+
+test("an answer does not count that was read when nobody had looked at the servers for long", async () => {
+  const name = await group(), end = () => performance.now() + PATIENCE * 1000;
+  const member = new Member({ servers: [url, url], group: name, replicas: 1 }, { lasts: 7200n, margin: 120n, back: 60n });
+  let n = 0;
+  await until(async () => (await member.put([claim(++n)], end()))[0].owner);
+  await until(async () => {
+    const call = member.put([claim(++n)], end());
+    for (let turn = 0; turn < 3; turn++) await new Promise(setImmediate); // (it is sent)
+    Atomics.wait(new Int32Array(new SharedArrayBuffer(4)), 0, 0, 3500); // (this process has no processor)
+    return /not all servers were looked at/.test((await call)[0].message);
+  });
+  member.close();
+});
+
 test("closing ends calls", async () => {
   const name = await group();
   await withStores([{ group: name, wait: PATIENCE }], async (store) => {
@@ -220,6 +260,28 @@ test("what is no store in PostgreSQL", async () => {
   ]) {
     await assert.rejects(PostgresStore.open(options), (why) => (why instanceof TypeError || why instanceof RangeError) && !why.message.includes("secret"));
   }
+});
+
+test("a root certificate is looked at in each mode of TLS", async () => {
+  const ours = authority(room, "ours"), others = authority(room, "others"), shown = certificate(ours, "server", "IP:127.0.0.1");
+  let trusted = 0;
+  // (it says that it speaks TLS, and ends each connection on which it was trusted)
+  const server = createServer((one) => {
+    one.on("error", () => {}).once("data", () => {
+      one.write("S");
+      const secured = new TLSSocket(one, { isServer: true, ...shown }).on("error", () => {});
+      secured.once("data", () => (trusted++, secured.destroy()));
+    });
+  });
+  await new Promise((resolve) => server.listen(0, "127.0.0.1", resolve));
+  for (const mode of ["require", "verify-ca", "verify-full"]) {
+    for (const [root, due] of [[ours, /terminated/], [others, /certificate|issuer/]]) {
+      const servers = `postgres://u:p@127.0.0.1:${server.address().port}/d?sslmode=${mode}&sslrootcert=${root.cert}`, before = trusted;
+      await withStores([{ servers, wait: PATIENCE }], (store) => assert.rejects(store.put([]), due, `${mode} ${root.name}`));
+      assert.equal(trusted > before, root === ours);
+    }
+  }
+  server.close();
 });
 
 test("an open store keeps no process", async () => {

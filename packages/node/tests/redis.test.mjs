@@ -391,12 +391,14 @@ test("terms of a store, and passwords", () =>
     const record = (await machine.told("GET", "svid:{svid}:epoch")).split(" ");
     assert.deepEqual(record.slice(4, 7), ["8020", "120", "60"]); // (those of svidd: see go/guard)
     await withStores(machine, [{ ahead: 61 }], (store) => assert.rejects(store.put([]), /give all members the same clock tolerance/));
-    await machine.told("CONFIG", "SET", "requirepass", "sesame");
+    const password = " sesame ", file = `${machine.dir}/password`; // (its spaces are of it)
+    await machine.told("CONFIG", "SET", "requirepass", password);
     await withStores(machine, [{}], (store) => assert.rejects(store.put([]), StoreFault));
-    const file = `${machine.dir}/password`;
-    await writeFile(file, "sesame\n");
-    await withStores(machine, [{ servers: `${machine.url}?password_file=${file}` }], (store) => put(store, claim(1)));
-    process.env.REDISCLI_AUTH = "sesame";
+    for (const text of [password, `${password}\n`, `${password}\r\nmore\n`]) {
+      await writeFile(file, text);
+      await withStores(machine, [{ servers: `${machine.url}?password_file=${file}` }], (store) => put(store, claim(1)));
+    }
+    process.env.REDISCLI_AUTH = password;
     await withStores(machine, [{}], (store) => put(store, claim(1)));
     delete process.env.REDISCLI_AUTH;
   }));

@@ -493,13 +493,15 @@ test("a key verifies by each algorithm that it may sign by", async () => {
 });
 
 test("a verifier gets a key as it stands in the bundles now", async () => {
-  const notes = [], verify = (_, key) => notes.push(JSON.parse(key).note) > 0, noted = (note) => ({ "example.org": { keys: [{ ...one.entry, note }] } });
-  const validator = await Validator.open({ ...terms, bundles: noted("1"), verify, mode: "reuse" });
-  for (const note of ["1", "2", "3"]) {
-    validator.renew(noted(note));
+  const notes = [], verify = (_, key) => notes.push(JSON.parse(key).z) > 0;
+  const noted = (length, note) => ({ "example.org": { keys: [{ ...one.entry, more: "-".repeat(length), z: note }] } });
+  const validator = await Validator.open({ ...terms, bundles: noted(0, ""), verify, mode: "reuse" });
+  const all = [0, 1, 2, 3].flatMap((length) => ["1", "2"].map((note) => [length, note])); // (keys that differ at their end, wherever that stands in a word)
+  for (const it of all) {
+    validator.renew(noted(...it));
     assert.equal(await said(validator.check(token(one))), "accepted");
   }
-  assert.deepEqual(notes, ["1", "2", "3"]);
+  assert.deepEqual(notes, all.map(([, note]) => note));
   validator.close();
 });
 

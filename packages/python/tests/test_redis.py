@@ -390,7 +390,7 @@ def test_who_does_not_reach_the_primary_looks_for_another_one(tmp_path):
 
 
 def test_an_address_that_leads_to_another_server(machine, tmp_path):
-    """Who is told that the server is a replica by now connects again."""
+    """A member that hears from a replica connects again."""
     other, address = Machine(tmp_path / "other"), tmp_path / "address"
     try:
         address.symlink_to(machine.socket)
