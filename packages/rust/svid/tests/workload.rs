@@ -239,6 +239,7 @@ fn an_agent_that_gives_nothing_is_asked_again() {
     assert_eq!((heard.count("other.example of"), heard.count("it has more than 1048576 bytes")), (1, 1), "{:?}", heard.all());
     // (after a second again, and what a busy machine takes beside)
     agent.ends("UNAVAILABLE");
+    until("a warning of the end", || heard.count("code 14") == 2);
     let begun = Instant::now();
     issuer.rotate();
     agent.gives(&[("spiffe://example.org", &keys(&issuer))]);
