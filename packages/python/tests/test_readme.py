@@ -14,6 +14,7 @@ import subprocess
 import sys
 
 import pytest
+import svid
 import svid.asgi
 import svid.wsgi
 from making import LEFT, PATIENCE, until
@@ -41,7 +42,16 @@ def test_the_page_has_blocks_of_three_kinds():
     assert kinds.count("python") >= 4
 
 
-def test_python(checkout):
+# The page says no `wait`, and a machine may be slow: each process of a service begins with this.
+PATIENT = f"""
+import functools, svid
+svid.Validator = functools.partial(svid.Validator, wait={PATIENCE})
+"""
+
+
+def test_python(checkout, monkeypatch):
+    monkeypatch.setattr(svid, "Validator", svid.Validator)
+    exec(PATIENT)
     names, printed = {}, None
     for kind, text in BLOCKS:
         if kind == "python":
@@ -95,8 +105,12 @@ def served(command):
     """The port of a service, whose processes are killed at the end."""
     words = [sys.executable, "-m", *command.split(), "-b", "127.0.0.1:0"]
     begins, log = "Listening at: http://127.0.0.1:", pathlib.Path("said")
+    folder = pathlib.Path("patient").resolve()
+    folder.mkdir(exist_ok=True)
+    (folder / "sitecustomize.py").write_text(PATIENT)
+    environment = {**os.environ, "PYTHONPATH": f"{folder}:{os.environ['PYTHONPATH']}"}
     with open(log, "wb") as said:
-        ran = subprocess.Popen(words, stderr=said, start_new_session=True)
+        ran = subprocess.Popen(words, stderr=said, env=environment, start_new_session=True)
     try:
         until(lambda: begins in log.read_text() or ran.poll() is not None)
         yield int(log.read_text().partition(begins)[2].split()[0])

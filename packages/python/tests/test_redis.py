@@ -390,7 +390,7 @@ def test_who_does_not_reach_the_primary_looks_for_another_one(tmp_path):
 
 
 def test_an_address_that_leads_to_another_server(machine, tmp_path):
-    """A member that hears from a replica connects again."""
+    """A member connects again once the server says that it is a replica."""
     other, address = Machine(tmp_path / "other"), tmp_path / "address"
     try:
         address.symlink_to(machine.socket)
@@ -647,6 +647,25 @@ def test_who_withdraws_a_token_again_does_not_take_that_back():
         store.look_again()
         owners = [it.owner for it in store.put([claim(n) for n in (1, 2, 3)])]
         assert owners == [svid.WITHDRAWN, svid.WITHDRAWN, b"o" * 32]
+
+
+def test_no_claim_is_answered_before_withdrawals_are_read():
+    """Somebody may have looked at the store before."""
+    with Told() as store:
+        store.told = [(claim(1).key, claim(1).expires)]
+        store.state()
+        assert store.put([claim(1)])[0].owner == svid.WITHDRAWN
+
+
+def test_withdrawals_are_kept_in_mind_as_long_as_an_entry(monkeypatch):
+    """A member whose clock is behind may accept the token after it has expired here."""
+    monkeypatch.setattr("svid._group._statements.STATE_EVERY", 10)
+    with Told() as store:
+        store.withdraw(claim(1).key, 5000)
+        store._watch()
+        for store.time, owner in (5120, svid.WITHDRAWN), (5121, b"o" * 32):
+            store.look_again()
+            assert store.put([claim(1)])[0].owner == owner
 
 
 def test_withdrawals_are_heard_though_a_server_is_away():
