@@ -26,6 +26,7 @@ import java.util.Base64;
 import java.util.List;
 import java.util.Map;
 import java.util.concurrent.CopyOnWriteArrayList;
+import java.util.stream.Stream;
 import org.junit.After;
 import org.junit.Rule;
 import org.junit.Test;
@@ -421,7 +422,7 @@ public class ServiceTest {
 
     // -- What tests of a service use
 
-    /** A number that begins with a zero is as long as another one: one of some hundred keys has such a coordinate. */
+    /** A number that begins with zeros is as long as another one: one of some hundred keys has such a coordinate. */
     @Test
     public void eachKeyOfAnIssuerIsOnItsCurve() throws Exception {
         BigInteger prime = new BigInteger("ffffffff00000001000000000000000000000000ffffffffffffffffffffffff", 16);
@@ -440,7 +441,7 @@ public class ServiceTest {
             BigInteger y = new BigInteger(1, bytes[1]);
             assertEquals(y.modPow(BigInteger.TWO, prime), x.pow(3).subtract(three.multiply(x)).add(constant).mod(prime));
             assertEquals("32 32", bytes[0].length + " " + bytes[1].length);
-            return bytes[0][0] == 0 || bytes[1][0] == 0;
+            return Stream.of(bytes).anyMatch(it -> it[0] == 0 && it[1] >= 0);
         });
     }
 
