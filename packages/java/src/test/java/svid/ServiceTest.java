@@ -16,7 +16,6 @@ import java.math.BigInteger;
 import java.net.HttpURLConnection;
 import java.net.InetAddress;
 import java.net.InetSocketAddress;
-import java.net.Socket;
 import java.net.URL;
 import java.nio.charset.StandardCharsets;
 import java.time.Duration;
@@ -171,19 +170,6 @@ public class ServiceTest {
         }
     }
 
-    /** The first lines of the answers to requests on one connection. */
-    private static List<String> askedAtOnce(int port, String... methods) throws IOException {
-        try (Socket socket = new Socket(InetAddress.getLoopbackAddress(), port)) {
-            socket.setSoTimeout((int) (1000 * Making.PATIENCE));
-            for (int n = 0; n < methods.length; n++) {
-                String close = n == methods.length - 1 ? "Connection: close\r\n" : "";
-                socket.getOutputStream().write((methods[n] + " / HTTP/1.1\r\nHost: a\r\n" + close + "\r\n").getBytes());
-            }
-            String all = new String(socket.getInputStream().readAllBytes(), StandardCharsets.UTF_8);
-            return all.lines().filter(it -> it.startsWith("HTTP/1.1 ")).toList();
-        }
-    }
-
     @Test
     public void aReasonWhyThereIsNoAnswer() throws Exception {
         Store away = new Store() {
@@ -221,7 +207,6 @@ public class ServiceTest {
                 String replayed = "401 | Bearer error=\"invalid_token\", error_description=\"Replayed\"" + json;
                 assertEquals(replayed + "{\"reason\":\"Replayed\",\"result\":\"refused\"}", asked("GET", port, "/", bearer));
                 assertEquals(replayed.substring(0, replayed.length() - 3), asked("HEAD", port, "/", bearer));
-                assertEquals(List.of("HTTP/1.1 401 Unauthorized", "HTTP/1.1 401 Unauthorized"), askedAtOnce(port, "HEAD", "GET"));
                 assertEquals(
                         "401 | Bearer realm=\"svid\"" + json + "{\"reason\":\"NoToken\",\"result\":\"refused\"}", asked("GET", port, "/"));
                 assertEquals("401 | Bearer realm=\"svid\"" + json + "{\"reason\":\"NotBearer\",\"result\":\"refused\"}",
