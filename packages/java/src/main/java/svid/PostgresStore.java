@@ -22,7 +22,8 @@ public final class PostgresStore implements Store, AutoCloseable {
     private final PostgresMember member;
     private final long wait;
     private final long margin;
-    private final Map<TokenKey, Long> withdrawn = new HashMap<>(); // (its lock guards what follows too)
+    /** When each token expires that is known to be withdrawn. Its lock guards {@code position} and {@code isHeard} too. */
+    final Map<TokenKey, Long> withdrawn = new HashMap<>();
     private String position = ""; // up to which withdrawals are read
     private boolean isHeard; // they were read to the end once
 

@@ -233,6 +233,32 @@ public class PostgresTest {
         }
     }
 
+    /** Before its first answer a store has read all withdrawals, however many. It forgets them once their tokens are over. */
+    @Test
+    public void manyWithdrawals() throws Exception {
+        String group = group();
+        try (PostgresStore one = PostgresStore.at(url).group(group).open()) {
+            put(one, 1);
+            assertEquals("done",
+                    tell("WITH t AS (UPDATE " + group + ".told SET last = 5000) INSERT INTO " + group + ".withdrawal "
+                            + "SELECT n, decode(lpad(to_hex(n), 64, '0'), 'hex'), extract(epoch FROM now())::bigint + 3000 "
+                            + "FROM generate_series(1, 5000) AS n"));
+            one.withdraw(claim(1).key(), claim(1).expiry());
+        }
+        try (PostgresStore late = PostgresStore.at(url).group(group).open()) {
+            assertEquals(Owner.WITHDRAWN, put(late, 1).owner());
+            late.withdraw(claim(2).key(), Instant.now().minusSeconds(1000));
+            Making.until(() -> known(late) == 5001);
+        }
+    }
+
+    /** How many withdrawals a store knows. */
+    private static int known(PostgresStore store) {
+        synchronized (store.withdrawn) {
+            return store.withdrawn.size();
+        }
+    }
+
     @Test
     public void aCallEndsThoughTheServerDoesNotAnswer() throws Exception {
         try (PostgresStore store = PostgresStore.at(url).group(group()).wait(Duration.ofMillis(1500)).open()) {

@@ -16,7 +16,6 @@ import java.math.BigInteger;
 import java.net.HttpURLConnection;
 import java.net.InetAddress;
 import java.net.InetSocketAddress;
-import java.net.Socket;
 import java.net.URL;
 import java.nio.charset.StandardCharsets;
 import java.time.Duration;
@@ -26,6 +25,7 @@ import java.util.Base64;
 import java.util.List;
 import java.util.Map;
 import java.util.concurrent.CopyOnWriteArrayList;
+import java.util.stream.Stream;
 import org.junit.After;
 import org.junit.Rule;
 import org.junit.Test;
@@ -170,19 +170,6 @@ public class ServiceTest {
         }
     }
 
-    /** The first lines of the answers to requests on one connection. */
-    private static List<String> askedAtOnce(int port, String... methods) throws IOException {
-        try (Socket socket = new Socket(InetAddress.getLoopbackAddress(), port)) {
-            socket.setSoTimeout((int) (1000 * Making.PATIENCE));
-            for (int n = 0; n < methods.length; n++) {
-                String close = n == methods.length - 1 ? "Connection: close\r\n" : "";
-                socket.getOutputStream().write((methods[n] + " / HTTP/1.1\r\nHost: a\r\n" + close + "\r\n").getBytes());
-            }
-            String all = new String(socket.getInputStream().readAllBytes(), StandardCharsets.UTF_8);
-            return all.lines().filter(it -> it.startsWith("HTTP/1.1 ")).toList();
-        }
-    }
-
     @Test
     public void aReasonWhyThereIsNoAnswer() throws Exception {
         Store away = new Store() {
@@ -220,7 +207,6 @@ public class ServiceTest {
                 String replayed = "401 | Bearer error=\"invalid_token\", error_description=\"Replayed\"" + json;
                 assertEquals(replayed + "{\"reason\":\"Replayed\",\"result\":\"refused\"}", asked("GET", port, "/", bearer));
                 assertEquals(replayed.substring(0, replayed.length() - 3), asked("HEAD", port, "/", bearer));
-                assertEquals(List.of("HTTP/1.1 401 Unauthorized", "HTTP/1.1 401 Unauthorized"), askedAtOnce(port, "HEAD", "GET"));
                 assertEquals(
                         "401 | Bearer realm=\"svid\"" + json + "{\"reason\":\"NoToken\",\"result\":\"refused\"}", asked("GET", port, "/"));
                 assertEquals("401 | Bearer realm=\"svid\"" + json + "{\"reason\":\"NotBearer\",\"result\":\"refused\"}",
@@ -421,7 +407,7 @@ public class ServiceTest {
 
     // -- What tests of a service use
 
-    /** A number that begins with a zero is as long as another one: one of some hundred keys has such a coordinate. */
+    /** A number that begins with zeros is as long as another one: one of some hundred keys has such a coordinate. */
     @Test
     public void eachKeyOfAnIssuerIsOnItsCurve() throws Exception {
         BigInteger prime = new BigInteger("ffffffff00000001000000000000000000000000ffffffffffffffffffffffff", 16);
@@ -440,7 +426,7 @@ public class ServiceTest {
             BigInteger y = new BigInteger(1, bytes[1]);
             assertEquals(y.modPow(BigInteger.TWO, prime), x.pow(3).subtract(three.multiply(x)).add(constant).mod(prime));
             assertEquals("32 32", bytes[0].length + " " + bytes[1].length);
-            return bytes[0][0] == 0 || bytes[1][0] == 0;
+            return Stream.of(bytes).anyMatch(it -> it[0] == 0 && it[1] >= 0);
         });
     }
 

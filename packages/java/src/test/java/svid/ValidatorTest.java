@@ -421,7 +421,8 @@ public class ValidatorTest {
         all.put("denied", it -> it.denied(why -> {}));
         all.put("twice", it -> it.twice(key -> {}));
         all.put("wait", it -> it.wait(Duration.ofSeconds(10)));
-        Options usual = Options.audiences("ledger");
+        // (a copy, since each constructor makes hooks of its own)
+        Options usual = Options.audiences("ledger").longest(Duration.ofHours(1));
         Options full = usual;
         for (UnaryOperator<Options> it : all.values()) {
             full = it.apply(full);
