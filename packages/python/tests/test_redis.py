@@ -56,6 +56,8 @@ OTHERS = {
     "TestABurstLeavesFewConnections",
     "TestAServerThatIsAwayIsAskedNowAndThen",
     "TestMembersThatComeAndGoLeaveNoKey",
+    "TestALookThatANewConnectionOvertook",
+    "TestAContextThatEndsLater",
 }
 
 
