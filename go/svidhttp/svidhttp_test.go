@@ -32,8 +32,9 @@ func TestDenials(t *testing.T) {
 		r, w := httptest.NewRequest(http.MethodGet, "/", nil), httptest.NewRecorder()
 		r.Header.Set("Authorization", "Bearer x")
 		Protect(check, http.HandlerFunc(func(http.ResponseWriter, *http.Request) { called = true })).ServeHTTP(w, r)
-		if called || w.Code != row.status || w.Body.String() != row.body+"\n" || w.Header().Get("Content-Type") != "application/json" {
-			t.Errorf("%v: %d %q, called: %v", row.err, w.Code, w.Body, called)
+		if called || w.Code != row.status || w.Body.String() != row.body+"\n" || w.Header().Get("Content-Type") != "application/json" ||
+			w.Header().Get("Cache-Control") != "no-store" {
+			t.Errorf("%v: %d %q %v, called: %v", row.err, w.Code, w.Body, w.Header(), called)
 		}
 	}
 }

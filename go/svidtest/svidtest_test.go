@@ -88,6 +88,10 @@ func TestClockAndStore(t *testing.T) {
 	if err := check(t, g, late); err != svid.Expired {
 		t.Errorf("a token that has expired: %v", err)
 	}
+	wish.JTI = "later"
+	if err := check(t, g, issuer.Token(wish)); err != nil {
+		t.Errorf("a token of the later time: %v", err)
+	}
 	store.Lose(nil)
 	wish.JTI = "3"
 	if _, err := g.Check(context.Background(), issuer.Token(wish)); err == nil || errors.Is(err, svid.Replayed) {

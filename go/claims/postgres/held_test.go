@@ -57,14 +57,16 @@ func TestAClaimThatIsNotCommitted(t *testing.T) {
 		}
 		return failed == 0
 	})
-	// (nor is its own call held up, which holds up others: so many may be under way)
-	if f := claimstest.Try(a, patience.Long, held)[0]; f.Err == nil || !claimstest.OfOthers() && !errors.Is(f.Err, errHeld) {
-		t.Errorf("%+v", f)
-	}
-	patient, cancel := context.WithTimeout(context.Background(), patience.Long)
-	defer cancel()
-	if _, err := a.Withdraw(patient, claims.Withdrawal{Key: held.Key, Expires: held.Expires}); err == nil || !claimstest.OfOthers() && !errors.Is(err, errHeld) {
-		t.Errorf("a withdrawal: %v", err)
+	if !claimstest.OfOthers() { // (a client of another language may put it again within its call)
+		// Its own call is not held up either: so many may be under way.
+		if f := claimstest.Try(a, patience.Long, held)[0]; !errors.Is(f.Err, errHeld) {
+			t.Errorf("%+v", f)
+		}
+		patient, cancel := context.WithTimeout(context.Background(), patience.Long)
+		defer cancel()
+		if _, err := a.Withdraw(patient, claims.Withdrawal{Key: held.Key, Expires: held.Expires}); !errors.Is(err, errHeld) {
+			t.Errorf("a withdrawal: %v", err)
+		}
 	}
 	begun.Rollback()
 	mine(t, a, held)

@@ -101,7 +101,8 @@ test("go/claims/postgres: primaries", () => runs(TESTS.primaries));
 
 test("each test of a store in Go is run", async () => {
   const others = ["TestAServerOfAnotherLanguage", "TestStandbys", "TestOptions", "TestOptionsOfTheEnvironment", "TestTheEpochsRowStays",
-    "TestAFewMarksAreKept", "TestAnOldLookDoesNotCount", "TestLooksHavePauses", "TestTheLaterTimelineCounts"];
+    "TestAFewMarksAreKept", "TestAnOldLookDoesNotCount", "TestLooksHavePauses", "TestTheLaterTimelineCounts",
+    "TestAContextThatEndsWithItsAnswer"];
   const { stdout } = await run(binary, ["-test.list", "^Test"]);
   assert.deepEqual([...Object.values(TESTS).join("|").split("|"), ...others].sort(), stdout.trim().split("\n").sort());
 });

@@ -141,7 +141,7 @@ const isOf = async (store, n, owner, by = OWNER) => Buffer.compare((await put(st
 test("each test of a store in Go is run", async () => {
   const others = ["TestRights", "TestAKeyOfAnUnknownAlgorithm", "TestOptions", "TestRecords", "TestSlots", "TestNoTextIsAnID", "TestARecordThatChangedMeanwhile",
     "TestServersThatHang", "TestEachSearchForThePrimaryLeavesNothing", "TestABurstLeavesFewConnections", "TestAServerThatIsAwayIsAskedNowAndThen",
-    "TestMembersThatComeAndGoLeaveNoKey"];
+    "TestMembersThatComeAndGoLeaveNoKey", "TestALookThatANewConnectionOvertook", "TestAContextThatEndsLater"];
   const { stdout } = await run(binary, ["-test.list", "^Test"]);
   assert.deepEqual([...Object.values(TESTS).join("|").split("|"), ...others].sort(), stdout.trim().split("\n").sort());
 });

@@ -57,6 +57,8 @@ OTHERS = {
     "TestABurstLeavesFewConnections",
     "TestAServerThatIsAwayIsAskedNowAndThen",
     "TestMembersThatComeAndGoLeaveNoKey",
+    "TestALookThatANewConnectionOvertook",
+    "TestAContextThatEndsLater",
 }
 
 

@@ -193,7 +193,7 @@ public class PostgresTest {
                 new TreeSet<>(List.of(String.join("|", MEMBER, ALONE, ENDS, LOSSES, CALLS, STANDBYS, PRIMARIES).split("\\|")));
         run.addAll(List.of("TestAServerOfAnotherLanguage", "TestStandbys", "TestOptions", "TestOptionsOfTheEnvironment",
                 "TestTheEpochsRowStays", "TestAFewMarksAreKept", "TestAnOldLookDoesNotCount", "TestLooksHavePauses",
-                "TestTheLaterTimelineCounts"));
+                "TestTheLaterTimelineCounts", "TestAContextThatEndsWithItsAnswer"));
         assertEquals(new TreeSet<>(listed), run);
     }
 
