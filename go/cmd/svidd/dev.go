@@ -73,8 +73,8 @@ func (o *devOptions) problems() (all problems) {
 		all.wrong(err != nil, "--subject: %v", err)
 	}
 	all.wrong(strings.ContainsAny(o.audience, "\r\n") || o.audience == "", "--audience %q is empty, or holds a line break", o.audience)
-	for name, time := range map[string]period{"life": o.life, "rotate": o.rotate} {
-		all.wrong(!isDevTime(time), "--%s must be from 1s to %v", name, mostDevLife)
+	for name, given := range map[string]period{"life": o.life, "rotate": o.rotate} {
+		all.wrong(time.Duration(given) < time.Second || time.Duration(given) > mostDevLife, "--%s must be from 1s to %v", name, mostDevLife)
 	}
 	_, ok := devModes[o.replay]
 	all.wrong(!ok, "--replay %q is none of once, strict, bound and reuse", o.replay)
@@ -96,10 +96,6 @@ func (o *devOptions) problems() (all problems) {
 		all.wrong(err != nil, "--keys: %v", err)
 	}
 	return all
-}
-
-func isDevTime(p period) bool {
-	return time.Duration(p) >= time.Second && time.Duration(p) <= mostDevLife
 }
 
 // devModes say what a mode needs.

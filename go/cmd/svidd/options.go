@@ -157,10 +157,10 @@ func parseFile(f *flag.FlagSet, name string, given map[string]bool) (all problem
 		names = append(names, option)
 	}
 	sort.Strings(names)
-	judges := f.Lookup("audience") != nil // The other commands look for their own options: of a bad file a running sidecar can say what is wrong.
+	judges, ofServe := f.Lookup("audience") != nil, new(options).flags() // The other commands look for their own options: of a bad file a running sidecar can say what is wrong.
 	for _, option := range names {
 		known := f.Lookup(option)
-		if known == nil && (!judges || isOfServe(option)) {
+		if known == nil && (!judges || ofServe.Lookup(option) != nil) {
 			continue // verify has the same file as serve
 		}
 		if option == "config" || known == nil {
@@ -195,11 +195,6 @@ func setFrom(f *flag.FlagSet, option *flag.Flag, value any, isGiven bool) error 
 		}
 	}
 	return nil
-}
-
-// isOfServe says whether serve has an option of this name.
-func isOfServe(name string) bool {
-	return new(options).flags().Lookup(name) != nil
 }
 
 // readFile reads a file of options: JSON if it begins with a brace, and TOML if not.

@@ -203,7 +203,7 @@ func (s *sidecar) open(ctx context.Context) error {
 	if err != nil {
 		return err
 	}
-	store, err := s.store(s.said)
+	store, err := s.store(s.log.Event)
 	if err != nil {
 		return err
 	}
@@ -220,9 +220,6 @@ func (s *sidecar) open(ctx context.Context) error {
 	go s.reloadAll(ctx)
 	return nil
 }
-
-// said logs what the group's store says.
-func (s *sidecar) said(event string, fields ...any) { s.log.Event(event, fields...) }
 
 // reload lets the options and the bundles be read again. It does not wait for that, since a file may hang.
 func (s *sidecar) reload() {

@@ -48,6 +48,10 @@ type Journal interface {
 	KeepUses(kept func(error), uses ...svid.Use) error
 	// Size is how many bytes were appended since the last snapshot. It waits for no disk.
 	Size() int64
+	// Room returns nil if the disk takes the next acceptance.
+	Room(ctx context.Context) error
+	// Moved says whether the path of the state folder leads elsewhere, so that it takes nothing any more.
+	Moved() bool
 	// Snapshot replaces snapshot and journal by what write writes, and loses
 	// nothing that is appended meanwhile.
 	Snapshot(write func(io.Writer) error) error
@@ -496,7 +500,7 @@ func (e *Engine) Drain() { e.step(Drain{}) }
 // does not drain.
 func (e *Engine) Ready() error {
 	e.look()
-	if e.folderMoved() {
+	if e.Mode == Once && e.Journal != nil && e.Journal.Moved() {
 		return errMoved
 	}
 	switch err := e.readyNow(); {

@@ -52,6 +52,9 @@ func (d *disk) KeepUses(kept func(error), uses ...svid.Use) error {
 	return nil
 }
 
+func (d *disk) Room(context.Context) error { return nil }
+func (d *disk) Moved() bool                { return false }
+
 func (d *disk) append(ctx context.Context, keep func()) error {
 	if d.before != nil {
 		d.before()

@@ -26,12 +26,6 @@ var errMoved = errors.New("the state folder is no longer at its path: the log sa
 
 var errDisk = fmt.Errorf("the disk did not answer in time: %w", context.DeadlineExceeded)
 
-// folderMoved says whether the path of the state folder leads elsewhere, so that it takes nothing any more.
-func (e *Engine) folderMoved() bool {
-	j, ok := e.Journal.(interface{ Moved() bool })
-	return ok && e.Mode == Once && j.Moved()
-}
-
 // A Write is uses that are to come to the disk.
 type Write struct {
 	Uses   []svid.Use

@@ -24,11 +24,6 @@ type outlook struct {
 	heard   string     // the position of the last withdrawal that was read
 }
 
-// A roomy journal can say whether it takes the next acceptance.
-type roomy interface {
-	Room(ctx context.Context) error
-}
-
 // An absence is since when a store does not do what it is there for, and why.
 type absence struct {
 	since time.Time
@@ -91,13 +86,12 @@ func pauseAfter(took time.Duration) time.Duration {
 
 // lookForRoom takes Options.Wait at the most, as an acceptance does.
 func (e *Engine) lookForRoom() {
-	kept, ok := e.Journal.(roomy)
-	if e.Mode != Once || !ok {
+	if e.Mode != Once || e.Journal == nil {
 		return
 	}
 	ctx, cancel := context.WithTimeout(e.life, e.Wait)
 	defer cancel()
-	e.turned(&e.outlook.noRoom, kept.Room(ctx))
+	e.turned(&e.outlook.noRoom, e.Journal.Room(ctx))
 }
 
 // turned takes note of a fault, or of none, and logs it where that is new.

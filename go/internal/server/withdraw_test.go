@@ -95,7 +95,7 @@ func TestAWithdrawalOfAClockThatIsAhead(t *testing.T) {
 	}
 }
 
-// A second after the log's server would take it, it goes out again: another member's clock may have begun that second later.
+// The machine sends it again a second after the log's server would take it: another member's clock may be that second behind.
 func TestAWithdrawalIsToldAgainInTime(t *testing.T) {
 	b := benchOf(t, Options{Mode: Reuse, Grouped: true})
 	b.step(Joined{}, CaughtUp{}, Run{}, &Withdraw{Key: svid.TokenKey{1}, Expires: moment + 300})
