@@ -165,7 +165,7 @@ def test_the_service_of_the_readme(service, tmp_path):
         running.kill()
         running.wait()
         running, address = started()
-        assert call(address, token)[0] == 401, "behind a restart"
+        assert call(address, token)[0] == 401, "after a restart"
         assert call(address, "x")[0] == 401
     finally:
         running.kill()

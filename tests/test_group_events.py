@@ -24,7 +24,7 @@ import pytest
 from scripts import MOST_LISTED, Line, Use, base64url, batch_lines, digits, fault, listed
 
 BEGIN = 1000
-# A token expires so many seconds behind the one before it.
+# A token expires so many seconds after the one before it.
 SPACING = 8
 # So many of the latest postings and saves may still be taken.
 KEPT = 48

@@ -38,7 +38,7 @@ func TestVersionsOfTLS(t *testing.T) {
 	}
 }
 
-// A server that never ends its headers is left once its time is over: it costs no processor behind that.
+// A server that never ends its headers is left once its time is over: it costs no processor after that.
 func TestHeadersWithoutEnd(t *testing.T) {
 	e := newEndpoint(t)
 	l, err := tls.Listen("tcp", "127.0.0.1:0", &tls.Config{Certificates: e.TLS.Certificates, NextProtos: []string{"h2", "http/1.1"}})

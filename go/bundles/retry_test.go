@@ -139,7 +139,7 @@ func TestPausesOfAWorkloadAPI(t *testing.T) {
 	o.await(t, "a word of it", func() bool { return strings.Count(strings.Join(o.lines, "\n"), "well again") == 2 })
 	select {
 	case pause := <-c.pauses:
-		t.Errorf("behind a refusal for good there is a pause of %v", pause)
+		t.Errorf("after a refusal for good there is a pause of %v", pause)
 	default:
 	}
 }

@@ -22,7 +22,7 @@ local function forget(r)
 end
 
 function check(r)
-  -- Behind CONNECT there may be a tunnel, of which nobody checks anything.
+  -- After CONNECT there may be a tunnel, of which nobody checks anything.
   if r.method == "CONNECT" then
     return 405
   end

@@ -24,7 +24,7 @@ func TestAdmit(t *testing.T) {
 		}
 	}
 	if err := check(token("b")); err != nil {
-		t.Errorf("behind what changes nothing: %v", err)
+		t.Errorf("after what changes nothing: %v", err)
 	}
 	if err := g.Admit([]string{"other"}, nil); err != nil {
 		t.Fatal(err)

@@ -197,7 +197,7 @@ type Guard struct {
 	follows following
 	life    context.Context // ends with Run or Close
 	end     context.CancelFunc
-	group   carriers.Group // nil until it is joined; Run sets it, and Close reads it behind Run
+	group   carriers.Group // nil until it is joined; Run sets it, and Close reads it after Run
 
 	ran     sync.WaitGroup // what Open began
 	calls   sync.RWMutex   // held for reading by each call that Close waits for; guards closed

@@ -93,7 +93,7 @@ func ask(h http.Handler, authorization ...string) *httptest.ResponseRecorder {
 	return w
 }
 
-// A token is accepted once, and not behind a restart; what else comes is denied as svidd denies it.
+// A token is accepted once, and not after a restart; what else comes is denied as svidd denies it.
 func TestAServiceAcceptsEachTokenOnce(t *testing.T) {
 	o := usual(t)
 	o.Allow = []string{"spiffe://example.org/web"}
@@ -125,7 +125,7 @@ func TestAServiceAcceptsEachTokenOnce(t *testing.T) {
 	}
 	g = open(t, o)
 	if w := ask(g.Protect(hello), "Bearer "+good); w.Code != 401 || !strings.Contains(w.Body.String(), "Replayed") {
-		t.Errorf("behind a restart: %d %q", w.Code, w.Body)
+		t.Errorf("after a restart: %d %q", w.Code, w.Body)
 	}
 }
 
@@ -287,7 +287,7 @@ func TestBoundKnowsItsCallers(t *testing.T) {
 	}
 }
 
-// The guards of a group accept a token once in all, whichever is asked, and one behind a restart knows what the others accepted.
+// The guards of a group accept a token once in all, whichever is asked, and one after a restart knows what the others accepted.
 func TestAGroupAcceptsEachTokenOnce(t *testing.T) {
 	store := &memory.Store{Terms: Terms(3600, 30)}
 	var all [3]*Guard
@@ -325,7 +325,7 @@ func TestAGroupAcceptsEachTokenOnce(t *testing.T) {
 	}
 	all[0].Close()
 	if w := ask(join().Protect(hello), "Bearer "+last); w.Code != 401 || !strings.Contains(w.Body.String(), "Replayed") {
-		t.Errorf("behind a restart: %d %q", w.Code, w.Body)
+		t.Errorf("after a restart: %d %q", w.Code, w.Body)
 	}
 }
 
@@ -456,7 +456,7 @@ func TestFailedMayClose(t *testing.T) {
 	})
 }
 
-// A guard that is closed while requests come answers each of them, and accepts none behind that.
+// A guard that is closed while requests come answers each of them, and accepts none after that.
 func TestCloseWhileRequestsCome(t *testing.T) {
 	for _, mode := range []Mode{Once, Strict, Reuse} {
 		o := usual(t)
@@ -490,17 +490,17 @@ func TestCloseWhileRequestsCome(t *testing.T) {
 		g.Close()
 		inTime(t, func() {
 			if code := ask(g.Protect(hello), "Bearer "+token(fmt.Sprint(mode, "late"))).Code; code != 503 {
-				t.Errorf("%s: behind Close: %d", mode, code)
+				t.Errorf("%s: after Close: %d", mode, code)
 			}
 		})
 		if _, err := g.Withdraw(tokens[0]); err != svid.ErrClosed {
-			t.Errorf("%s: behind Close: %v", mode, err)
+			t.Errorf("%s: after Close: %v", mode, err)
 		}
 		if _, err := g.WithdrawKey(svid.TokenKey{1}, svid.Now()+300); err != svid.ErrClosed {
-			t.Errorf("%s: behind Close: %v", mode, err)
+			t.Errorf("%s: after Close: %v", mode, err)
 		}
 		if err := g.Ready(); err != svid.ErrClosed {
-			t.Errorf("%s: behind Close: ready: %v", mode, err)
+			t.Errorf("%s: after Close: ready: %v", mode, err)
 		}
 		inTime(t, asking.Wait)
 	}
@@ -595,7 +595,7 @@ func TestBundlesOfASourceThatIsLeft(t *testing.T) {
 		t.Error("a source that is none is followed")
 	}
 	if err := g.renew(2, late); err != nil || strings.Count(log.String(), `"event":"bundles"`) != before+2 {
-		t.Errorf("behind a source that is none: %v: %s", err, &log)
+		t.Errorf("after a source that is none: %v: %s", err, &log)
 	}
 }
 

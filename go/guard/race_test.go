@@ -115,7 +115,7 @@ func allCalls(t *testing.T, mode Mode, guards []*Guard) {
 					t.Errorf("%s: withdraw: %v", mode, err)
 				}
 				if _, err := g.Check(WithCaller(context.Background(), "any"), gone); err != svid.Withdrawn {
-					t.Errorf("%s: behind its withdrawal: %v", mode, err)
+					t.Errorf("%s: after its withdrawal: %v", mode, err)
 				}
 			}
 		})

@@ -33,7 +33,7 @@ func check(sys system, dir string) (*Report, error) {
 	for try := 1; ; try++ {
 		found, err := readAll(sys, nil)
 		if try < mostTries && errors.Is(err, os.ErrNotExist) {
-			continue // A journal went behind the listing: a snapshot has taken its place.
+			continue // A journal went after the listing: a snapshot has taken its place.
 		}
 		if err != nil {
 			return nil, err

@@ -203,7 +203,7 @@ func mustWatch(t *testing.T, dir string, before func(call, name string) error) *
 	return j
 }
 
-// A fuse lets one call fail, of those that come behind setting it: the call of this number, counted from 0.
+// A fuse lets one call fail, of those that come after setting it: the call of this number, counted from 0.
 type fuse struct {
 	mu     sync.Mutex
 	at, n  int
@@ -284,7 +284,7 @@ func TestKeepsWhatWasAppended(t *testing.T) {
 	wantMessages(t, j, batches(0, 10))
 	mustAppend(t, j, batch(10))
 	if got := j.Size(); got < 1320 || got > 1400 { // (a mark ends the older one)
-		t.Errorf("size %d of 11 batches, behind a start", got)
+		t.Errorf("size %d of 11 batches, after a start", got)
 	}
 	if err := j.Load(func([]byte) error { t.Error("it is read twice"); return nil }); err != nil {
 		t.Fatal(err)
@@ -495,7 +495,7 @@ func TestATornTailIsNotRead(t *testing.T) {
 		d.snapshot = settled(atRest(snapshot))
 		*d.journal(2) = journalOnDisk{atRest(content), settled(true)}
 		before := d.journal(2).file.String()
-		for i := 0; i < 2; i++ { // (and again, behind a kill)
+		for i := 0; i < 2; i++ { // (and again, after a kill)
 			j, err := begin(d)
 			if err != nil {
 				t.Fatal(err)
@@ -1332,7 +1332,7 @@ func TestStartsAfterStarts(t *testing.T) {
 	wantMessages(t, mustOpen(t, killed(t, dir)), batches(0, starts))
 }
 
-// killed is a copy of a folder, as it is behind a kill of the process that has it.
+// killed is a copy of a folder, as it is after a kill of the process that has it.
 func killed(t *testing.T, dir string) string {
 	t.Helper()
 	files := map[string][]byte{}
@@ -1452,7 +1452,7 @@ func TestAFileThatIsMadeIsNew(t *testing.T) {
 	}
 }
 
-// A mark comes behind a burst, once, and nobody waits for it.
+// A mark comes after a burst, once, and nobody waits for it.
 func TestAMarkEndsABurst(t *testing.T) {
 	dir := t.TempDir()
 	marks := make(chan int, 10)

@@ -169,7 +169,7 @@ func (h *history) append(j *opened) {
 		}
 	}
 	if _, _, ended := j.core.Due(); ended != nil && err == nil {
-		h.fail("an append is acknowledged behind the end")
+		h.fail("an append is acknowledged after the end")
 	}
 }
 
@@ -198,7 +198,7 @@ func losses(t *testing.T, most int, disk func() *disk, old ...uint64) {
 			if h.life(calls, faults) {
 				lost++
 			}
-			// The process ends, and power may be lost behind that, too.
+			// The process ends, and power may be lost after that, too.
 			if h.lost || h.r.Intn(3) == 0 {
 				h.disk = h.disk.crash(h.r)
 			}

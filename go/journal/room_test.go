@@ -35,7 +35,7 @@ func TestRoomIsMadeBehindTheJournal(t *testing.T) {
 	}
 	mustClose(t, j)
 	if err := j.Room(context.Background()); err != ErrClosed {
-		t.Errorf("behind the end: %v", err)
+		t.Errorf("after the end: %v", err)
 	}
 	again := mustOpen(t, dir)
 	wantMessages(t, again, batches(0, 3000))

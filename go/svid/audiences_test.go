@@ -79,7 +79,7 @@ func TestAudiencesKeepTheBundles(t *testing.T) {
 	}
 }
 
-// A validator of a log reads on where it was: within a value, behind a gap, with claims beside its record, and accepts nothing that
+// A validator of a log reads on where it was: within a value, after a gap, with claims beside its record, and accepts nothing that
 // an earlier life may have read.
 func TestAudiencesKeepTheLog(t *testing.T) {
 	values := [][]svid.Use{
@@ -197,7 +197,7 @@ func TestAudiencesThatCannotBeReplaced(t *testing.T) {
 				}
 				token := example.Token("ES256", claims(fmt.Sprint(n, all)))
 				if _, judged := v.Judge(moment, token, verified(t, k, token)); err != svid.ErrNoMemory || state() != before || judged != nil {
-					t.Fatalf("allocation %d, all behind it %v: %v, and a token: %v", n, all, err, judged)
+					t.Fatalf("allocation %d, all after it %v: %v, and a token: %v", n, all, err, judged)
 				}
 			}
 			if err := v.SetAudiences([]string{"ledger", "audit"}); err != nil {

@@ -61,7 +61,7 @@ func TestEachAllocationOfACheckRefused(t *testing.T) {
 					var accepted Accepted
 					refused = scarce.During(n, all, func() { accepted, err = call(&read, yes) })
 					if err == nil && accepted.ID != "spiffe://example.org/web" || err != nil && (err != ErrNoMemory || refused == 0) {
-						t.Errorf("%s by %d bytes of bundles, allocation %d, all behind it: %v: %q, %v", name, len(bundles), n, all, accepted.ID, err)
+						t.Errorf("%s by %d bytes of bundles, allocation %d, all after it: %v: %q, %v", name, len(bundles), n, all, accepted.ID, err)
 					}
 					read.Close()
 				}

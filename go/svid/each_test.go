@@ -141,7 +141,7 @@ func TestReadEach(t *testing.T) {
 	}
 }
 
-// Behind a gap, and behind a value that was read before, ReadEach stops; and it reads nothing by other bundles, or where it has no room for it.
+// After a gap, and behind a value that was read before, ReadEach stops; and it reads nothing by other bundles, or where it has no room for it.
 func TestWhereReadEachStops(t *testing.T) {
 	v := open(t, 1)
 	uses, readings := make([]svid.LogUse, 9), make([]svid.Reading, 9)

@@ -52,7 +52,7 @@ func waiting() (n int) {
 	return n
 }
 
-// wantWait wants each of the calls to wait until free is called, and to return behind that. Other calls may wait before.
+// wantWait wants each of the calls to wait until free is called, and to return after that. Other calls may wait before.
 func wantWait(t *testing.T, what string, free func(), calls map[string]func()) {
 	t.Helper()
 	before := waiting()

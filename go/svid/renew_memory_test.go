@@ -28,7 +28,7 @@ func TestOldBundlesStayWithoutMemory(t *testing.T) {
 		}
 		for _, all := range []bool{false, true} {
 			for n := 0; ; n++ {
-				what := fmt.Sprintf("%s, allocation %d, all behind it: %v", name, n, all)
+				what := fmt.Sprintf("%s, allocation %d, all after it: %v", name, n, all)
 				edition := v.Edition()
 				var err error
 				if scarce.During(n, all, func() { err = renew(v, k) }) == 0 {

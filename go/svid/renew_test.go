@@ -164,10 +164,10 @@ func TestAQuestionIsOfItsBundles(t *testing.T) {
 		t.Fatal(err)
 	}
 	if k.has(keys) {
-		t.Error("a question of the bundles of before counts behind a renewal")
+		t.Error("a question of the bundles of before counts after a renewal")
 	}
 	if asked, same, err := k.question(token, 0, keys); asked != (Question{}) || same || err != nil {
-		t.Errorf("behind a renewal: %v %v %v", asked, same, err)
+		t.Errorf("after a renewal: %v %v %v", asked, same, err)
 	}
 }
 

@@ -99,7 +99,7 @@ func TestAMemberOfModeOnce(t *testing.T) {
 	deed, err = d.Wrote(d.up, other, false)
 	d.want(deed, err, svid.DeedAnswer, other, svid.ErrNotKept)
 	if err := d.Ready(); err != svid.UnreadyKeepsNothing {
-		t.Errorf("behind a write that failed: %v", err)
+		t.Errorf("after a write that failed: %v", err)
 	}
 	deed, err = d.Wrote(d.up, other, true)
 	d.want(deed, err, svid.DeedNothing, 0, nil)
@@ -518,6 +518,6 @@ func TestPacing(t *testing.T) {
 		}
 	}
 	if pause := p.Answered(); pause != 10*ms || p.Calls() != 56 {
-		t.Errorf("behind an answer %v, and %d calls", pause, p.Calls())
+		t.Errorf("after an answer %v, and %d calls", pause, p.Calls())
 	}
 }

@@ -104,7 +104,7 @@ func TestATokenIsCheckedByItsKey(t *testing.T) {
 	if none, err := k.VerifyToken(&bad); none != nil || err != nil {
 		t.Errorf("a bad signature: %v %v", none, err)
 	}
-	judged("a bad signature, behind its verification", &bad, svid.BadSignature)
+	judged("a bad signature, after its verification", &bad, svid.BadSignature)
 	other, err := issuer.New("example.org")
 	if err != nil {
 		t.Fatal(err)
@@ -112,7 +112,7 @@ func TestATokenIsCheckedByItsKey(t *testing.T) {
 	if err := v.SetBundles(other.Bundles()); err != nil {
 		t.Fatal(err)
 	}
-	judged("behind a renewal without its key", &good, svid.BadSignature)
+	judged("after a renewal without its key", &good, svid.BadSignature)
 }
 
 // Read reads a token once, and says of one that is no JWT-SVID why: the same as its check.
@@ -136,7 +136,7 @@ func TestATokenIsReadBeforehand(t *testing.T) {
 	}
 	read.Close()
 	if err := read.Read(); err != nil {
-		t.Errorf("behind Close: %v", err)
+		t.Errorf("after Close: %v", err)
 	}
 	read.Close()
 }

@@ -42,7 +42,7 @@ func TestEachAllocationOfOpenSSLRefused(t *testing.T) {
 					break
 				}
 				if parsed++; key.fault != nil && !errors.Is(key.fault, ErrNoMemory) {
-					t.Errorf("%s, allocation %d of parsing, all behind it %v: %v", algorithm, n, all, key.fault)
+					t.Errorf("%s, allocation %d of parsing, all after it %v: %v", algorithm, n, all, key.fault)
 				}
 			}
 			for n := 0; ; n++ {
@@ -56,7 +56,7 @@ func TestEachAllocationOfOpenSSLRefused(t *testing.T) {
 					break
 				}
 				if verified++; isGood != nil && isGood != ErrNoMemory || isBad != ErrSignature && isBad != ErrNoMemory {
-					t.Errorf("%s, allocation %d of verifying, all behind it %v: a good signature is %v, a bad one %v", algorithm, n, all, isGood, isBad)
+					t.Errorf("%s, allocation %d of verifying, all after it %v: a good signature is %v, a bad one %v", algorithm, n, all, isGood, isBad)
 				}
 			}
 			if parsed == 0 || verified == 0 {

@@ -365,7 +365,7 @@ static void bits(void) {
     }
     memcpy(other, file, snapshot);
     other[snapshot] = 0;
-    is("a byte behind a snapshot", read_all(0, &OURS, other, snapshot + 1), SVID_FILE_DAMAGE, snapshot);
+    is("a byte after a snapshot", read_all(0, &OURS, other, snapshot + 1), SVID_FILE_DAMAGE, snapshot);
     /* numbers of a reader that do not fit */
     static const svid_reader unfit[] = { { 0, 73, 0 }, { MOST, 0, 0 }, { 0, UINT64_MAX, 0 }, { UINT64_MAX, 72, 1 } };
     for (size_t i = 0; i < sizeof unfit / sizeof *unfit; i++) {

@@ -149,7 +149,7 @@ static void marked(void) {
     mark = mark_of(&v, &accepts);
     holds(accepts == 1, "a validator that accepts");
     holds(fate_of(&v, NOW + 1, 7, &c, SVID_ORDER_NEXT) == SVID_FATE_ACCEPTED, "it accepts");
-    holds(fate_of(&v, NOW + 1, 9, &gone, SVID_ORDER_GAP) == SVID_FATE_REPLAYED, "a value behind a gap");
+    holds(fate_of(&v, NOW + 1, 9, &gone, SVID_ORDER_GAP) == SVID_FATE_REPLAYED, "a value after a gap");
     mark = mark_of(&v, &accepts);
     holds(mark.passed == 9 && mark.begun == 0 && mark.deaf == NOW + 1 + LASTS && !accepts, "a gap");
     answered = svid_validator_go_on(&v, &told);

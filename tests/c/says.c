@@ -382,12 +382,12 @@ static void refused(void) {
             call(which, &b, &v, &got);
             holds(got.status == SVID_NO_MEMORY && got.told.len == 0, "want of memory");
             holds(untouched(&got.said, sizeof got.said) && untouched(&got.over, sizeof got.over) && untouched(&got.used, sizeof got.used) && untouched(got.out, sizeof got.out) && untouched(got.lens, sizeof got.lens), "it writes");
-            holds(standing == before, "memory stays behind a refusal");
+            holds(standing == before, "memory stays after a refusal");
             tried++;
         }
         refused_at = 0;
         call(which, &b, &v, &got);
-        holds(!memcmp(&due, &got, sizeof due), "a call behind a refusal");
+        holds(!memcmp(&due, &got, sizeof due), "a call after a refusal");
     }
     end(&b, &v);
     holds(!standing, "memory is left");

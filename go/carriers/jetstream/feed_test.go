@@ -124,7 +124,7 @@ func TestAFeedGathersNoMoreThanItMay(t *testing.T) {
 		select {
 		case <-gone:
 		case <-time.After(patience.Long):
-			t.Errorf("%s: it waits behind the end", what)
+			t.Errorf("%s: it waits after the end", what)
 		}
 	}
 }

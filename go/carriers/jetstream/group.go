@@ -49,7 +49,7 @@ const (
 	makeWait     = 5 * time.Second        // the same where the bucket is made
 	readWait     = 2 * time.Second        // the same where reading it begins, at first; longer after each failure
 	mostReadWait = 30 * time.Second       // and at the most, for a broker that is busy
-	attemptPause = 50 * time.Millisecond  // behind a failed attempt
+	attemptPause = 50 * time.Millisecond  // after a failed attempt
 	tagLen       = 8                      // bytes of a key that nobody can guess
 )
 

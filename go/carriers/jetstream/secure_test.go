@@ -214,7 +214,7 @@ func TestTheServersOfDeploy(t *testing.T) {
 	}
 	d := join(t, secured(t, 4, server, own))
 	if d.Taken() != 3 {
-		t.Errorf("a member that comes behind a liar reads %d values", d.Taken())
+		t.Errorf("a member that comes after a liar reads %d values", d.Taken())
 	}
 	for _, forbidden := range []string{"$JS.API.STREAM.DELETE.KV_svid", "$JS.API.STREAM.PURGE.KV_svid", "$JS.API.STREAM.MSG.DELETE.KV_svid",
 		"$JS.API.STREAM.DELETE.KV_svid-claims", "$JS.API.STREAM.PURGE.KV_svid-claims", "$JS.API.STREAM.MSG.DELETE.KV_svid-claims-epochs",

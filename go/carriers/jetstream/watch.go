@@ -84,7 +84,7 @@ func (g *Group) watch(b bucket) {
 	}
 }
 
-// longer is the rest behind one more failure: a broker that was away for hours is found as soon as one that was away for seconds.
+// longer is the rest after one more failure: a broker that was away for hours is found as soon as one that was away for seconds.
 func longer(rest time.Duration) time.Duration {
 	if rest *= 2; rest > mostAnewWait {
 		rest = mostAnewWait

@@ -593,7 +593,7 @@ func Withdrawals(t testing.TB, store claims.Store, after string) (all []claims.W
 	}
 }
 
-// A withdrawal that came first wins over every claim, and all hear of it. One that came behind a claim hears of that.
+// A withdrawal that came first wins over every claim, and all hear of it. One that came after a claim hears of that.
 func (s *suite) withdrawals(t *testing.T) {
 	o := Options{Name: s.name()}
 	a, b := s.store(t, o), s.store(t, o)
@@ -627,7 +627,7 @@ func (s *suite) withdrawals(t *testing.T) {
 			t.Fatalf("%v behind %q", more, last)
 		}
 	}
-	for _, position := range []string{"no position", last + "0"} { // (the second one is behind the end, as of a store that has lost its last ones)
+	for _, position := range []string{"no position", last + "0"} { // (the second one is after the end, as of a store that has lost its last ones)
 		if again, _ := Withdrawals(t, a, position); !has(again, first) || !has(again, late) || !has(again, third) {
 			t.Fatalf("%v behind %q", again, position)
 		}
@@ -712,7 +712,7 @@ func (s *suite) liar(t *testing.T) {
 	want(t, Put(t, a, fine)[0], fine.Owner)
 }
 
-// An entry stays until the margin has passed behind its expiry, by the store's clock, and then it goes.
+// An entry stays until the margin has passed after its expiry, by the store's clock, and then it goes.
 func (s *suite) expiry(t *testing.T) {
 	o := Options{Name: s.name(), Terms: claims.Terms{Lasts: 3600, Margin: 2, Back: 1}}
 	a, b := s.store(t, o), s.store(t, o)
@@ -822,7 +822,7 @@ func (s *suite) emptied(t *testing.T) {
 	again.Owner = Own(2)
 	f := Put(t, b, again)[0]
 	if f.Deaf < before.Time+Usual.Lasts {
-		t.Fatalf("behind the loss: %+v", f)
+		t.Fatalf("after the loss: %+v", f)
 	}
 	x, y := State(t, a), State(t, b)
 	z := Open(t, s.begin(t, o))

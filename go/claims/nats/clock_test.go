@@ -94,7 +94,7 @@ func TestTheServersClock(t *testing.T) {
 	shift(t, m.Pid(), 0)
 	f := claimstest.Put(t, a, claim(claimstest.Now()+3000))[0]
 	if f.Deaf < before.Time+claimstest.Usual.Lasts {
-		t.Errorf("behind the step back: %+v, and before %+v", f, before)
+		t.Errorf("after the step back: %+v, and before %+v", f, before)
 	}
 	haveEnded(t, m, o, before, a, b)
 	shift(t, m.Pid(), 10_000)

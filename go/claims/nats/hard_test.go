@@ -623,7 +623,7 @@ func TestLies(t *testing.T) {
 	}
 }
 
-// An entry stays until the margin has passed behind its token's expiry, and then it goes.
+// An entry stays until the margin has passed after its token's expiry, and then it goes.
 func TestEntriesStay(t *testing.T) {
 	t.Parallel()
 	m := newMachine(t)

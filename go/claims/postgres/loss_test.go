@@ -252,7 +252,7 @@ func TestOneOrder(t *testing.T) {
 	})
 }
 
-// Positions of withdrawals are those of an epoch: behind its end all are read again.
+// Positions of withdrawals are those of an epoch: after its end all are read again.
 func TestWithdrawalsOfAnotherEpoch(t *testing.T) {
 	t.Parallel()
 	s := start(t)
@@ -479,7 +479,7 @@ func TestNobodyLooks(t *testing.T) {
 		t.Errorf("%+v", f)
 	}
 	if f := claimstest.Try(a, patience.Long, c)[0]; f.Err != nil || f.Owner != c.Owner || f.Deaf != 0 {
-		t.Errorf("behind a look: %+v", f)
+		t.Errorf("after a look: %+v", f)
 	}
 }
 

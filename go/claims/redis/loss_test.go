@@ -584,7 +584,7 @@ func TestLateAnswers(t *testing.T) {
 	stays(t, before, a, b)
 }
 
-// A context that ends behind its answer ends no later call on that connection.
+// A context that ends after its answer ends no later call on that connection.
 func TestAContextThatEndsLater(t *testing.T) {
 	t.Parallel()
 	s := start(t)
@@ -740,7 +740,7 @@ func TestCluster(t *testing.T) {
 		refused(t, b, there)
 		f := claimstest.Put(t, b, there)[0]
 		if claimstest.Judge(there, f, 60) == claimstest.Mine || f.Deaf == 0 {
-			t.Errorf("behind the move: %+v", f)
+			t.Errorf("after the move: %+v", f)
 		}
 		other := claim(1)
 		for other.Key[0]>>4 == 5 {

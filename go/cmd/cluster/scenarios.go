@@ -395,7 +395,7 @@ func strictRestarts(c *cluster) error {
 	return c.onceDuring("each NATS server was restarted", steps)
 }
 
-// onceDuring sends tokens to three sidecars of mode strict while steps are done, one behind the other: no token is accepted twice, and
+// onceDuring sends tokens to three sidecars of mode strict while steps are done, one after the other: no token is accepted twice, and
 // no sidecar sees that the store has lost an entry.
 func (c *cluster) onceDuring(what string, steps []func() error) error {
 	sent := c.mint(manyTokens)
@@ -560,11 +560,11 @@ func (c *cluster) killAgain(rounds int) error {
 			again = append(again, before[rand.Intn(len(before))])
 		}
 		if err := c.noneTwice(again); err != nil {
-			return fmt.Errorf("behind kill %d: %w", round, err)
+			return fmt.Errorf("after kill %d: %w", round, err)
 		}
 		before = append(before, accepted...)
 		if round%50 == 0 {
-			c.say("sidecar %s: %d kills, %d tokens answered 200 before one, none again behind it", s.name, round, len(before))
+			c.say("sidecar %s: %d kills, %d tokens answered 200 before one, none again after it", s.name, round, len(before))
 		}
 	}
 	return c.noneTwice(before)

@@ -77,9 +77,9 @@ func TestAnEndpointIsAskedWhereSomeoneWants(t *testing.T) {
 	if err := p.signal(syscall.SIGHUP); err != nil {
 		t.Fatal(err)
 	}
-	p.await("a question behind SIGHUP", func() bool { return asked.Load() == 2 })
+	p.await("a question after SIGHUP", func() bool { return asked.Load() == 2 })
 	c := p.dial("unix", admin, "POST /reload HTTP/1.1\r\nHost: a\r\n\r\n")
 	defer c.Close()
-	p.await("a question behind reload", func() bool { return asked.Load() == 3 })
+	p.await("a question after reload", func() bool { return asked.Load() == 3 })
 	p.end()
 }

@@ -184,7 +184,7 @@ func (b *bench) run(signals <-chan os.Signal) error {
 		return err
 	}
 	defer g.Close()
-	defer b.end() // (no request may come behind Close)
+	defer b.end() // (no request may come after Close)
 	checks := dev.Marked(g.Handler())
 	if b.caller == "" {
 		checks = dev.OfConnection(checks)

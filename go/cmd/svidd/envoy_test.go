@@ -403,7 +403,7 @@ func TestTheEndWaitsForCalls(t *testing.T) {
 	long, cancel := context.WithTimeout(context.Background(), patience.Long)
 	defer cancel()
 	if err := s.Shutdown(long); err != nil {
-		t.Errorf("behind the call: %v", err)
+		t.Errorf("after the call: %v", err)
 	}
 }
 

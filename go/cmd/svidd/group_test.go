@@ -87,7 +87,7 @@ func stormCounted(all []*process, tokens []string, atATime int, begun *int64) (a
 	return accepted, unjudged
 }
 
-// A line is a connection to a sidecar, on which one request comes behind the other. A storm has its own: for each request Go's client
+// A line is a connection to a sidecar, on which one request comes after the other. A storm has its own: for each request Go's client
 // takes more time of the processor, under the race detector, than svidd does.
 type line struct {
 	address string
@@ -446,7 +446,7 @@ func killed(t *testing.T, rounds int, p *process, others []*process, brokers []*
 	if total == 0 {
 		t.Error("no token was accepted before the process was killed")
 	}
-	t.Logf("killed %d times; %d tokens were answered 200 before, and none of them behind it", rounds, total)
+	t.Logf("killed %d times; %d tokens were answered 200 before, and none of them after it", rounds, total)
 }
 
 // afterSome does something once a random number of tokens is on the way: 20 at the least, and up to 8 of these have no answer yet.

@@ -16,7 +16,7 @@ import (
 )
 
 // mostUnanswered is how many bytes a client may send until something is written to it: headers of full length, the body that
-// the HTTP server passes over behind an answer, and what the transfer coding needs. Without this bound a request in chunks of
+// the HTTP server passes over after an answer, and what the transfer coding needs. Without this bound a request in chunks of
 // one byte, each with an extension of a line, makes the HTTP server of Go 1.19 read a gigabyte (CVE-2023-39326).
 const mostUnanswered = 4 * svidhttp.MaxHeader
 

@@ -131,7 +131,7 @@ func TestABodyIsNotWaitedFor(t *testing.T) {
 		t.Errorf("%d", got.StatusCode)
 	}
 	if rest, err := io.ReadAll(r); err != nil || len(rest) > 0 {
-		t.Errorf("behind the answer: %q, %v", rest, err)
+		t.Errorf("after the answer: %q, %v", rest, err)
 	}
 }
 

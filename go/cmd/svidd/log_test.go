@@ -103,7 +103,7 @@ func TestALogThatNobodyReads(t *testing.T) {
 	}
 	p.want(token(t, "later", lasting), 200, "")
 	if !lines.Scan() || !json.Valid(lines.Bytes()) || p.metric("svidd_log_lines_dropped_total") != before {
-		t.Errorf("behind it: %q", lines.Text())
+		t.Errorf("after it: %q", lines.Text())
 	}
 	if err := p.signal(syscall.SIGTERM); err != nil {
 		t.Fatal(err)

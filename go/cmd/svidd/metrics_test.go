@@ -94,7 +94,7 @@ func TestTheAddressOfMetrics(t *testing.T) {
 	p.end()
 }
 
-// With --drain the sidecar goes on answering behind SIGTERM, and says on each address that it drains.
+// With --drain the sidecar goes on answering after SIGTERM, and says on each address that it drains.
 func TestRequestsAreAnsweredWhileItDrains(t *testing.T) {
 	t.Parallel()
 	metrics := freeAddress(t)
@@ -114,9 +114,9 @@ func TestRequestsAreAnsweredWhileItDrains(t *testing.T) {
 	}
 	p.await("SIGHUP", func() bool { return len(p.events("signal")) == 2 })
 	if status, body := p.get("/readyz"); status != 503 || body != "draining\n" {
-		t.Errorf("behind SIGHUP: %d %s", status, body)
+		t.Errorf("after SIGHUP: %d %s", status, body)
 	}
-	p.want(token(t, "behind SIGHUP", lasting), 200, "")
+	p.want(token(t, "after SIGHUP", lasting), 200, "")
 	// A second signal to end it does so at once.
 	p.end()
 }

@@ -594,7 +594,7 @@ func TestPodsOfKubernetesOverNATS(t *testing.T) {
 	}
 	t.Logf("%d tokens while a NATS server was replaced, whose end took %v", sent, took)
 	if status, _ := three.ask(used); status != 401 {
-		t.Errorf("behind all of that: %d", status)
+		t.Errorf("after all of that: %d", status)
 	}
 }
 

@@ -329,7 +329,7 @@ func TestReadyzTable(t *testing.T) {
 	var mu sync.Mutex
 	var without []unready // sidecars that no token can be accepted by
 	rows := readyRows(t)
-	t.Run("rows", func(t *testing.T) { // (and behind all of them, the alerts)
+	t.Run("rows", func(t *testing.T) { // (and after all of them, the alerts)
 		for _, r := range rows {
 			r := r
 			played[r.state] = true
@@ -385,7 +385,7 @@ func TestReadyzTable(t *testing.T) {
 					s.want("a.b.c", 401, "HeaderSpelling")
 				}
 				if !isSo() {
-					t.Errorf("/readyz says %d %s behind these tokens", status, body)
+					t.Errorf("/readyz says %d %s after these tokens", status, body)
 				}
 			})
 		}
@@ -435,7 +435,7 @@ func TestADiskThatIsFullForAWhile(t *testing.T) {
 		t.Fatal(err)
 	}
 	s.await("room", func() bool { status, _ := s.get("/readyz"); return status == http.StatusOK })
-	s.want(s.token("behind it"), 200, "")
+	s.want(s.token("after it"), 200, "")
 	s.end()
 }
 
@@ -505,7 +505,7 @@ func fill(t *testing.T, name string) {
 }
 
 // failSync lets an fdatasync of svidd fail. In mode once that is the sync of a mark, for which no request waits: it comes a second
-// behind an acceptance.
+// after an acceptance.
 func (s *stage) failSync() {
 	s.t.Helper()
 	for end := time.Now().Add(3 * patience.Long); time.Now().Before(end); {

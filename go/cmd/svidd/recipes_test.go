@@ -490,7 +490,7 @@ func TestHAProxyRecipeOverHTTP2(t *testing.T) {
 	r.holdsOverHTTP2()
 }
 
-// HAProxy goes on where Lua fails. Nothing passes then, be it before the sidecar is asked or behind its refusal.
+// HAProxy goes on where Lua fails. Nothing passes then, be it before the sidecar is asked or after its refusal.
 func TestHAProxyWhoseLuaFails(t *testing.T) {
 	t.Parallel()
 	for _, at := range []string{"  local headers = txn.http", "  local client = core.", "  local function of(", "  if said.status == 401 or"} {

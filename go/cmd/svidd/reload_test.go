@@ -90,7 +90,7 @@ func TestOptionsAreReadAgain(t *testing.T) {
 		t.Fatal(err)
 	}
 	var last map[string]any
-	p.await("what counts behind a restart", func() bool {
+	p.await("what counts after a restart", func() bool {
 		lines := p.events("options")
 		last = lines[len(lines)-1]
 		return last["restart"] != nil

@@ -17,7 +17,7 @@ import (
 	"svid.example/go/v3/internal/natstest"
 )
 
-// Three NATS servers are restarted one behind the other, as for an upgrade, while sidecars accept tokens. Each token is accepted
+// Three NATS servers are restarted one after the other, as for an upgrade, while sidecars accept tokens. Each token is accepted
 // once and at the first try, and no sidecar says that entries are lost. A server that is ended hands over what it leads. Behind one
 // that is killed, requests wait for an election, which takes up to nine seconds.
 func TestServersOfNATSAreRestarted(t *testing.T) {

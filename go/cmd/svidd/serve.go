@@ -170,7 +170,7 @@ func (s *sidecar) collectEarly(ctx context.Context) {
 }
 
 // begin takes a step of the start. It goes on unless that fails, or a signal says to end meanwhile and the step does not end
-// soon: it may hang, as a disk does. (Nothing is lost then, since no token was accepted yet.) Behind a step that ends, tokens may
+// soon: it may hang, as a disk does. (Nothing is lost then, since no token was accepted yet.) After a step that ends, tokens may
 // have been accepted: so the signal comes again then, to who serves.
 func (s *sidecar) begin(signals chan os.Signal, step func() error) (goOn bool, err error) {
 	done := make(chan error, 1)

@@ -89,7 +89,7 @@ func TestServeOnce(t *testing.T) {
 		}
 	}
 
-	// What was used before a restart is used behind it, after SIGTERM and after a crash.
+	// What was used before a restart is used after it, after SIGTERM and after a crash.
 	writeBundle(t, bundle, example)
 	p.end()
 	p.start()
@@ -361,7 +361,7 @@ func TestListenOnAUnixSocket(t *testing.T) {
 	}
 	p.end()
 	if status, _, err := here("", "ready", "--listen", "unix:"+socket); status != 2 || err == "" {
-		t.Errorf("ready, behind its end: %d %q", status, err)
+		t.Errorf("ready, after its end: %d %q", status, err)
 	}
 }
 

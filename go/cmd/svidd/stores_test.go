@@ -124,12 +124,12 @@ func TestKilledOverEachStore(t *testing.T) {
 			total := 0
 			for i := range sent {
 				if accepted[i]+again[i] > 1 {
-					t.Fatalf("token %d was accepted %d times, and %d times behind it", i, accepted[i], again[i])
+					t.Fatalf("token %d was accepted %d times, and %d times after it", i, accepted[i], again[i])
 				}
 				total += int(accepted[i])
 			}
 			if got := count(unjudged); got != fmt.Sprintf("0:%d", n) {
-				t.Errorf("behind it, unjudged %s", got)
+				t.Errorf("after it, unjudged %s", got)
 			}
 			wantNoLoss(t, all)
 			t.Logf("%d tokens to 3 sidecars: accepted %s", n, count(accepted))

@@ -58,9 +58,9 @@ func (r *recipe) opensNoTunnel() {
 		c.Close()
 		r.hearsNobodyElse("CONNECT " + target)
 		if answer, _ := r.send("GET", "/", "", "Authorization: Bearer "+one); answer.StatusCode != 200 {
-			t.Errorf("behind CONNECT %s its token gets %d", target, answer.StatusCode)
+			t.Errorf("after CONNECT %s its token gets %d", target, answer.StatusCode)
 		}
-		r.hearsNobodyElse("a request behind CONNECT " + target)
+		r.hearsNobodyElse("a request after CONNECT " + target)
 	}
 }
 
@@ -83,7 +83,7 @@ func (r *recipe) opensNoTunnelOverHTTP2() {
 	r.hearsNobodyElse("CONNECT over HTTP/2")
 	path, scheme, authority := [2]string{":path", "/"}, [2]string{":scheme", "http"}, [2]string{":authority", "ledger.example.org"}
 	if status := r.stream("", nil, [2]string{":method", "GET"}, path, scheme, authority, bearer); status != "200" {
-		t.Errorf("behind CONNECT over HTTP/2 its token gets %s", status)
+		t.Errorf("after CONNECT over HTTP/2 its token gets %s", status)
 	}
 	r.hearsNobodyElse("a GET over HTTP/2")
 	for _, protocol := range []string{"websocket", "h2c"} {
@@ -167,10 +167,10 @@ func (r *recipe) stream(text string, trailer [][2]string, fields ...[2]string) (
 	}
 }
 
-// trailer is what a client may send behind a body to make somebody else of itself.
+// trailer is what a client may send after a body to make somebody else of itself.
 var trailer = [][2]string{{"x-spiffe-id", "spiffe://example.org/admin"}, {"x-svid-audience", "all"}, {"authorization", "Bearer a.b.c"}}
 
-// keepsTrailers wants no field that a client sends behind a body to be a header at the service, and none of these names to reach it in a trailer,
+// keepsTrailers wants no field that a client sends after a body to be a header at the service, and none of these names to reach it in a trailer,
 // unless the recipe says that its proxy hands them on.
 func (r *recipe) keepsTrailers() {
 	t := r.t

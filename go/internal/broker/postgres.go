@@ -171,7 +171,7 @@ func (s *Postgres) Command(name string, args ...string) *exec.Cmd {
 	return run
 }
 
-// Start starts the server, for the first time or again, and waits until it runs: behind a kill it can't before all its processes
+// Start starts the server, for the first time or again, and waits until it runs: after a kill it can't before all its processes
 // have ended.
 func (s *Postgres) Start() error {
 	for end := time.Now().Add(patience.Long); ; time.Sleep(20 * time.Millisecond) {

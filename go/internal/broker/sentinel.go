@@ -9,7 +9,7 @@ import (
 )
 
 // NewSentinel returns a Sentinel that does not run yet, with what it keeps in dir, which must be there. It watches the primary at an
-// address by a name, and lets a replica take over half a second behind its end, once quorum Sentinels agree.
+// address by a name, and lets a replica take over half a second after its end, once quorum Sentinels agree.
 func NewSentinel(dir, name, primary string, quorum int) (*Redis, error) {
 	ports, err := FreePorts(1)
 	if err != nil {

@@ -313,7 +313,7 @@ func (s *suite) oneOrder(t *testing.T) {
 	putting.Wait()
 	late := s.join(t, Options{Name: name})
 	same(t, holds(sent), append(all, late)...)
-	// Who puts one value behind the other finds them in that order. (A value may stand there twice, where an answer was late: the first counts.)
+	// Who puts one value after the other finds them in that order. (A value may stand there twice, where an answer was late: the first counts.)
 	last, seen := make(map[string]int), make(map[string]bool)
 	for _, v := range late.values() {
 		if seen[string(v.Message)] {
@@ -628,7 +628,7 @@ func (s *suite) destroyed(t *testing.T) {
 	}
 }
 
-// Values are removed once they are too old, and never before. Who comes behind that misses nothing.
+// Values are removed once they are too old, and never before. Who comes after that misses nothing.
 func (s *suite) expires(t *testing.T) {
 	const keep = 3 * time.Second
 	o := Options{Name: s.name(), Keep: keep}
@@ -712,7 +712,7 @@ func (s *suite) shorter(t *testing.T) {
 	s.join(t, o)
 }
 
-// A server that comes up behind its members is waited for, and what can't be put is an error once the time is up.
+// A server that comes up after its members is waited for, and what can't be put is an error once the time is up.
 func (s *suite) serverComesLater(t *testing.T) {
 	o := Options{Name: s.name()}
 	m := s.join(t, o)

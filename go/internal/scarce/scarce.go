@@ -64,7 +64,7 @@ import "C"
 
 import "runtime"
 
-// During runs f in a thread of its own. The n-th allocation there is refused, counted from 0, and with all each one behind it. It
+// During runs f in a thread of its own. The n-th allocation there is refused, counted from 0, and with all each one after it. It
 // returns how many were.
 func During(n int, all bool, f func()) (refused int) {
 	every := C.int(0)

@@ -30,11 +30,11 @@ func TestAClockThatGoesBack(t *testing.T) {
 		t.Fatal(err)
 	}
 	if err := check(again, short); err != svid.Expired {
-		t.Errorf("behind a restart: %v", err)
+		t.Errorf("after a restart: %v", err)
 	}
 	now.Store(moment - 60)
 	far := engine(t, Options{Mode: Once, Journal: d, Now: now.Load})
 	if err := far.Load(d.kept); !errors.Is(err, svid.ErrTooFar) {
-		t.Errorf("behind a restart with a clock that is further back than --ahead: %v", err)
+		t.Errorf("after a restart with a clock that is further back than --ahead: %v", err)
 	}
 }

@@ -20,7 +20,7 @@ import (
 )
 
 // The disk hangs: each request ends in time, with 503. Its token is burnt, here and, where the disk had the use after all,
-// behind a restart. Nobody else waits for the disk, /readyz says that nothing is kept, and all goes on once the disk is back.
+// after a restart. Nobody else waits for the disk, /readyz says that nothing is kept, and all goes on once the disk is back.
 func TestADiskThatHangs(t *testing.T) {
 	d := &disk{hangs: make(chan struct{})}
 	e := ready(t, engine(t, Options{Mode: Once, Journal: d, Wait: 50 * time.Millisecond}))
@@ -183,7 +183,7 @@ func TestNobodyWaitsForASnapshot(t *testing.T) {
 	}
 	for _, id := range []string{"before", "meanwhile"} {
 		if err := check(again, token(id)); err != svid.Replayed {
-			t.Errorf("%s, behind a restart: %v", id, err)
+			t.Errorf("%s, after a restart: %v", id, err)
 		}
 	}
 }

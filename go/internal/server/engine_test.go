@@ -20,7 +20,7 @@ import (
 	"svid.example/go/v3/svid"
 )
 
-// While the state folder's messages are taken, and behind a failure, nothing is judged: a token that they have as used could
+// While the state folder's messages are taken, and after a failure, nothing is judged: a token that they have as used could
 // be accepted.
 func TestNothingIsJudgedWhileTheRecordIsRead(t *testing.T) {
 	asked, reading := 0, false
@@ -49,13 +49,13 @@ func TestNothingIsJudgedWhileTheRecordIsRead(t *testing.T) {
 	}
 	reading = false
 	if err := e.Ready(); err != nil || asked == 0 {
-		t.Errorf("behind it: %v, %d times", err, asked)
+		t.Errorf("after it: %v, %d times", err, asked)
 	}
 	if uses, err := svid.Uses(saved(t, e)); err != nil || len(uses) != 1 {
 		t.Errorf("the record has %d uses, %v", len(uses), err)
 	}
 
-	// The clock jumps ahead behind the last message.
+	// The clock jumps ahead after the last message.
 	now := uint64(moment)
 	far := engine(t, Options{Mode: Once, Step: 600, Now: func() uint64 { now += 1000; return now }})
 	if err := far.Load(messages); err != svid.ErrJump || far.machine.known.Loaded {

@@ -135,8 +135,8 @@ type tie struct {
 	*broker
 	engine *Engine
 	ready  chan struct{}
-	fault  error         // what Put answers, behind storing the value; guarded by broker.mu
-	answer chan struct{} // Put waits for it, behind storing the value
+	fault  error         // what Put answers, after storing the value; guarded by broker.mu
+	answer chan struct{} // Put waits for it, after storing the value
 	forged []byte        // stands in the place of the value that Put stores, if it is set
 	aside  int
 

@@ -10,7 +10,7 @@ import (
 	"svid.example/go/v3/svid"
 )
 
-// A withdrawal that the store told of while memory was refused comes again: its token is not accepted behind that.
+// A withdrawal that the store told of while memory was refused comes again: its token is not accepted after that.
 func TestAWithdrawalThatFoundNoMemoryComesAgain(t *testing.T) {
 	for n := 0; ; n++ {
 		o := inStrict(Options{Wait: time.Minute})

@@ -13,7 +13,7 @@ import (
 const keepPause = 20 * time.Millisecond
 
 const (
-	// mostUnkept is how many uses may wait for the disk behind their answers.
+	// mostUnkept is how many uses may wait for the disk after their answers.
 	mostUnkept = 1 << 19
 	// mostAtOnce is how many of them one write takes.
 	mostAtOnce = 1 << 17

@@ -86,7 +86,7 @@ func TestRunEndsWithASnapshotAndAllTold(t *testing.T) {
 	}
 }
 
-// Nothing of an engine goes on behind its end, nor behind requests that were given up.
+// Nothing of an engine goes on after its end, nor after requests that were given up.
 func TestNothingGoesOnBehindTheEnd(t *testing.T) {
 	before := runtime.NumGoroutine()
 	all, store := strictWithin(t, 1, time.Second) // (the end waits so long for the store)

@@ -30,14 +30,14 @@ func TestOnceKeepsAnAcceptanceBeforeItAnswers(t *testing.T) {
 	if err := check(e, token("b")); err != svid.Replayed {
 		t.Errorf("again: %v", err)
 	}
-	// What the disk has is used behind a restart; what it could not keep was never accepted.
+	// What the disk has is used after a restart; what it could not keep was never accepted.
 	again := engine(t, Options{Mode: Once, Journal: d})
 	ready(t, again)
 	if err := again.Load(d.kept); err != nil {
 		t.Fatal(err)
 	}
 	if err := check(again, token("a")); err != svid.Replayed {
-		t.Errorf("behind a restart: %v", err)
+		t.Errorf("after a restart: %v", err)
 	}
 }
 

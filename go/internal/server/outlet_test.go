@@ -58,7 +58,7 @@ func give(o *Outlet, from, to int, length int) {
 	}
 }
 
-// The writer hangs: what has room waits, the rest is dropped and counted, and nobody waits. Behind that all goes on, in order.
+// The writer hangs: what has room waits, the rest is dropped and counted, and nobody waits. After that all goes on, in order.
 func TestAnOutletThatHangs(t *testing.T) {
 	out := newSink()
 	out.mu.Lock()
@@ -236,7 +236,7 @@ func TestTheEndOfAnOutlet(t *testing.T) {
 	}
 	fmt.Fprintln(o, "late")
 	if o.Dropped() != 1 || strings.Contains(out.String(), "late") {
-		t.Errorf("behind the end: %d dropped, %q", o.Dropped(), out)
+		t.Errorf("after the end: %d dropped, %q", o.Dropped(), out)
 	}
 
 	hung := newSink()

@@ -75,7 +75,7 @@ func (e *Engine) lookAheadEachSecond() {
 	}
 }
 
-// pauseAfter is the pause behind a look that took so long.
+// pauseAfter is the pause after a look that took so long.
 func pauseAfter(took time.Duration) time.Duration {
 	const least = tickEvery / 20
 	if took > tickEvery-least {

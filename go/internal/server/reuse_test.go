@@ -49,7 +49,7 @@ func TestAReusedTokenIsKnown(t *testing.T) {
 	late.key = nil // so it was the second acceptance
 	e.verified.keep(late, one, before.key, svid.Use{})
 	if e.verified.recall(one).key != nil {
-		t.Error("a key of the old bundles was kept behind their end")
+		t.Error("a key of the old bundles was kept after their end")
 	}
 	late.epoch++ // as if it had been
 	e.verified.keep(late, one, before.key, svid.Use{})

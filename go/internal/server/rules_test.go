@@ -33,7 +33,7 @@ func TestRulesAreReplaced(t *testing.T) {
 				t.Errorf("%s: %q count", mode, wrong)
 			}
 			if err := check(e, ofAudience("other", "web", "-")); err != svid.NotAudience {
-				t.Errorf("%s: behind rules that are wrong: %v", mode, err)
+				t.Errorf("%s: after rules that are wrong: %v", mode, err)
 			}
 		}
 		if err := e.SetRules([]string{"other", "third"}, []string{"spiffe://example.org/job"}); err != nil {

@@ -10,7 +10,7 @@ import (
 )
 
 const (
-	// mostUntold is how many uses may wait to be told. Behind that they are dropped
+	// mostUntold is how many uses may wait to be told. After that they are dropped
 	// and counted: the group's summaries bring them later.
 	mostUntold = 1 << 16
 	// tellPause is between two values that tell the group of uses: those that come meanwhile share the next one.

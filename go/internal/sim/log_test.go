@@ -135,7 +135,7 @@ func (l *life) send(p *server.Put) {
 		if losesAnswer && !w.healed {
 			m.answersLost--
 		}
-		w.after(request, func() { // (it may come behind the end of the process that sent it)
+		w.after(request, func() { // (it may come after the end of the process that sent it)
 			if w.log.away > w.now || m.cutOff() {
 				w.after(50*time.Millisecond, try)
 				return

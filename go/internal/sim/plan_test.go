@@ -296,7 +296,7 @@ func (w *world) heal() {
 			}
 		}
 	}
-	// Behind the longest wait for what is under way, and the times by which clocks were off.
+	// After the longest wait for what is under way, and the times by which clocks were off.
 	w.run(w.now + 8*time.Second)
 	if w.plan.wild {
 		w.run(w.now + wildest*time.Second)
@@ -306,7 +306,7 @@ func (w *world) heal() {
 	}
 	w.repair()
 	w.wantEqual()
-	// Behind the time for which a sidecar accepts nothing that has missed values, and one for which a clock was wrong.
+	// After the time for which a sidecar accepts nothing that has missed values, and one for which a clock was wrong.
 	w.run(w.now + keeps + 12*time.Second)
 	if w.report.failure != "" {
 		return

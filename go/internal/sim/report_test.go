@@ -251,7 +251,7 @@ func (a *ask) accepted() {
 		w.fail("%v: %s is accepted, and has expired", m, one)
 	}
 	if a.withdrawn {
-		w.fail("%v: %s is accepted behind its withdrawal", m, one)
+		w.fail("%v: %s is accepted after its withdrawal", m, one)
 	}
 	before := w.report.accepted[one.key]
 	for _, other := range before {

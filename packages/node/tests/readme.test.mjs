@@ -1,4 +1,4 @@
-// README.md: its blocks run one behind the other and print what stands below them, and the service runs by itself.
+// README.md: its blocks run one after the other and print what stands below them, and the service runs by itself.
 
 import assert from "node:assert/strict";
 import { execFile, spawn } from "node:child_process";

@@ -375,7 +375,7 @@ test("a snapshot that fails is not tried again at each request", async () => {
   assert.equal(count, 1);
 });
 
-test("a mark stands behind a burst, and at the end", async () => {
+test("a mark stands after a burst, and at the end", async () => {
   const journal = await begun(state), sizes = async () => (await readFile(join(state, "journal.2"))).toString("latin1").replace(/\0+$/, "").length;
   await journal.keep(use(1));
   await until(async () => (await sizes()) > 130);

@@ -61,7 +61,7 @@ impl Faults {
         self.0.lock().unwrap().code = Some(code);
     }
 
-    /// Lets the call of this number from now on fail, counted from 1; or lets that one and all behind it not be made, as if the process were
+    /// Lets the call of this number from now on fail, counted from 1; or lets that one and all after it not be made, as if the process were
     /// killed. None: all are made.
     pub fn ends(&self, call: Option<(usize, bool)>) {
         self.0.lock().unwrap().ends = call;

@@ -345,7 +345,7 @@ public class ThreadsTest {
         }
     }
 
-    /** A check waits once more, behind the verification of the signature, during which others may call. */
+    /** A check waits once more, after the verification of the signature, during which others may call. */
     @Test
     public void aCheckWaitsBehindTheSignature() throws Exception {
         CountDownLatch verifies = new CountDownLatch(1);
