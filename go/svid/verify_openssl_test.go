@@ -6,6 +6,7 @@ import (
 	"fmt"
 	"os"
 	"runtime"
+	"runtime/debug"
 	"strconv"
 	"strings"
 	"sync"
@@ -28,12 +29,24 @@ func keptSeats(k *Key) (kept int) {
 	return kept
 }
 
+// collect frees what nothing refers to, and waits until the finalizers of that have run.
+func collect() {
+	for n := 0; n < 2; n++ { // (what the first ones let go has its own in the second round)
+		ran := make(chan struct{})
+		runtime.SetFinalizer(&struct{ ran chan struct{} }{ran}, func(it *struct{ ran chan struct{} }) { close(it.ran) })
+		runtime.GC()
+		<-ran
+	}
+}
+
 // OpenSSL's memory of a key is given back with the key, and what it keeps to verify by it with it.
 func TestKeysOfOpenSSLAreFreed(t *testing.T) {
 	one, err := issuer.New("example.org")
 	if err != nil {
 		t.Fatal(err)
 	}
+	defer debug.SetGCPercent(debug.SetGCPercent(-1)) // (so that no key of an earlier test goes meanwhile)
+	collect()
 	before := openHandles.Load()
 	keyring, err := NewKeyring(one.Bundles())
 	if err != nil {

@@ -589,9 +589,15 @@ test("after the module stopped, a new one judges, and the record is as it was", 
   }})()` }));
   await tab.click("example");
   await tab.click("use");
-  await tab.run(() => (window.stops = true));
+  await tab.run(() => {
+    const texts = () => ["verdict-said", "verdict-why"].map((id) => document.getElementById(id).textContent);
+    window.said = [];
+    new MutationObserver(() => window.said.push(texts().join(": ").slice(0, 45))).observe(document.body, { childList: true, subtree: true, characterData: true });
+    window.stops = true;
+  });
   await tab.write({ longest: "3600" });
-  assert.deepEqual([await tab.text("verdict-said"), (await tab.text("verdict-why")).slice(0, 33)], ["Not judged", "The library stopped: unreachable."]);
+  // (or a look at the time came first, and a new module judges by now)
+  assert.ok((await tab.run(() => window.said)).includes("Not judged: The library stopped: unreachable."), "the module did not stop");
   await tab.write({ longest: "" });
   assert.equal(await tab.text("verdict-said"), "Refused: Replayed");
   // (how often the time is looked at, while *Now* is pressed)

@@ -7,6 +7,7 @@ import static svid.Making.PATIENCE;
 import static svid.Making.until;
 
 import java.nio.file.Files;
+import java.nio.file.NoSuchFileException;
 import java.nio.file.Path;
 import java.nio.file.StandardCopyOption;
 import java.time.Clock;
@@ -16,6 +17,7 @@ import java.time.ZoneId;
 import java.time.ZoneOffset;
 import java.util.Arrays;
 import java.util.List;
+import java.util.Set;
 import java.util.concurrent.CompletableFuture;
 import java.util.concurrent.TimeUnit;
 import java.util.stream.IntStream;
@@ -72,16 +74,30 @@ public class LocalTest {
 
     /** The process is killed, and starts again: it writes no last snapshot. */
     private void killed() throws Exception {
-        Path copy = folder().resolveSibling("copy");
-        Files.copy(folder(), copy, StandardCopyOption.COPY_ATTRIBUTES);
-        for (String name : folder().toFile().list()) {
-            Files.copy(folder().resolve(name), copy.resolve(name), StandardCopyOption.COPY_ATTRIBUTES);
+        int tries = 1;
+        while (!isCopied(folder().resolveSibling("copy" + tries))) {
+            tries++;
         }
+        Path copy = folder().resolveSibling("copy" + tries);
         close();
         open = null;
         Files.move(folder(), folder().resolveSibling("ended"));
         Files.move(copy, folder());
         again();
+    }
+
+    /** Copies the folder as it is at one moment: a snapshot that is under way takes files away. */
+    private boolean isCopied(Path copy) throws Exception {
+        Set<String> names = Set.of(folder().toFile().list());
+        Files.copy(folder(), copy, StandardCopyOption.COPY_ATTRIBUTES);
+        try {
+            for (String name : names) {
+                Files.copy(folder().resolve(name), copy.resolve(name), StandardCopyOption.COPY_ATTRIBUTES);
+            }
+        } catch (NoSuchFileException gone) {
+            return false;
+        }
+        return names.equals(Set.of(folder().toFile().list()));
     }
 
     private static TokenKey key(int number) {
