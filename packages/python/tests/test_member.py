@@ -172,6 +172,14 @@ def test_one_of_many_threads_is_accepted():
         assert nothing_waits(checks)
 
 
+def test_a_validator_begins_once_the_store_answers():
+    store, said = Fickle(), []
+    store.before = lambda: time.sleep(0.5)
+    store.after = lambda: said.append("answered")
+    with strict(store):
+        assert said
+
+
 def test_validators_of_one_store():
     store, tokens = svid.testing.MemoryStore(), [fresh(jti=str(it)) for it in range(20)]
     with strict(store) as one, strict(store) as other:

@@ -67,6 +67,11 @@ impl Faults {
         self.0.lock().unwrap().ends = call;
     }
 
+    /// That call.
+    pub fn call(&self) -> Option<(usize, bool)> {
+        self.0.lock().unwrap().ends
+    }
+
     /// Whether that call came.
     pub fn has_ended(&self) -> bool {
         self.0.lock().unwrap().ends.map_or(false, |(left, _)| left == 0)

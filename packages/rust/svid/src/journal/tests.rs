@@ -43,8 +43,15 @@ fn failing(room: &Room) -> (Journal, Faults) {
     (opened(&room.0, &faults).expect("it is new"), faults)
 }
 
+/// (A program that another test starts has the lock of an ended journal too, until it runs: that is waited for.)
 fn opened(path: &Path, faults: &Faults) -> Result<Journal, JournalError> {
-    Journal::open_by(Folder::hold(path, faults.clone())?)
+    let (call, end) = (faults.call(), Instant::now() + WAIT);
+    loop {
+        match Folder::hold(path, faults.clone()) {
+            Err(JournalError::Held { .. }) if Instant::now() < end => faults.ends(call),
+            held => return Journal::open_by(held?),
+        }
+    }
 }
 
 #[test]

@@ -184,6 +184,7 @@ public class LocalTest {
             now = NOW;
             again();
             Instant before = put(7, owner(1), NOW + 600).deaf();
+            until(() -> Files.exists(folder().resolve("snapshot"))); // (a later one would tell the time, too)
             now = NOW + 20_000;
             open.put(List.of());
             if (isRestarted) {

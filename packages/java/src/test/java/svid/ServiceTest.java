@@ -188,6 +188,7 @@ public class ServiceTest {
             String token = issuer.token("/a", "ledger");
             assertEquals("NotClaimed", assertThrows(SvidException.class, () -> left.check(token)).word());
         }
+        assertEquals("NoMemory", new SvidException.OutOfMemory(null).word());
     }
 
     @Test
