@@ -27,7 +27,7 @@ type view struct {
 	life         string   // this member's number
 	asked        evidence // the last entry of its own that this member knew of, when it asked
 	claimed      string   // the owner that this entry has
-	anew         uint64   // of the shard, when it asked
+	doubts       uint64   // of the shard, when it asked
 	time, millis uint64
 	who          replication
 }
@@ -107,7 +107,7 @@ func (s *Store) look(ctx context.Context, c *conn, shards []*shard) ([]view, err
 	views := make([]view, len(shards))
 	s.mu.Lock()
 	for i, it := range shards {
-		views[i].asked, views[i].anew = it.claimed, it.anew
+		views[i].asked, views[i].doubts = it.claimed, it.doubts
 		claimed := it.claimed.key
 		if claimed == "" {
 			claimed = it.prefix + "epoch"
@@ -134,7 +134,7 @@ func (s *Store) look(ctx context.Context, c *conn, shards []*shard) ([]view, err
 	}
 	for i := range views {
 		of := answers[each*i:]
-		views[i] = view{raw: textOf(of[0]), seen: textOf(of[1]), life: textOf(of[2]), asked: views[i].asked, claimed: textOf(of[3]), anew: views[i].anew, time: seconds, millis: millis, who: who}
+		views[i] = view{raw: textOf(of[0]), seen: textOf(of[1]), life: textOf(of[2]), asked: views[i].asked, claimed: textOf(of[3]), doubts: views[i].doubts, time: seconds, millis: millis, who: who}
 	}
 	return views, nil
 }
@@ -258,7 +258,7 @@ func (s *Store) adopt(it *shard, v view) {
 	if r.id != it.record.id {
 		it.latest, it.life, it.lifeAt, it.claimed = v.time, 0, 0, evidence{} // (that epoch's end counts with all that was lost)
 	}
-	it.record, it.raw, it.agreed = r, v.raw, v.anew == it.anew
+	it.record, it.raw, it.agreed = r, v.raw, v.doubts == it.doubts
 	it.tick(v.time)
 }
 

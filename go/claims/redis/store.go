@@ -87,7 +87,7 @@ type shard struct {
 	record  record
 	raw     string   // the record as it is stored
 	agreed  bool     // the server has what this member knows of, and the record names its run
-	anew    uint64   // how often that was unknown, since another server may be there: a look that began before says nothing of it
+	doubts  uint64   // how often another server may have come: a look that began before that says nothing of it
 	latest  uint64   // the greatest time that was seen in the epoch
 	clock   clock    // the store's time, and this machine's
 	count   uint64   // what this member has counted up to
@@ -329,7 +329,7 @@ func (s *Store) lost() {
 }
 
 // doubt says that another server may be there.
-func (it *shard) doubt() { it.agreed, it.anew = false, it.anew+1 }
+func (it *shard) doubt() { it.agreed, it.doubts = false, it.doubts+1 }
 
 func (s *Store) isAgreed(shards []*shard) bool {
 	s.mu.Lock()

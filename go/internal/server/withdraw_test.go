@@ -106,7 +106,7 @@ func TestAWithdrawalIsToldAgainInTime(t *testing.T) {
 	b.others = nil
 	for second := 1; second <= early+2; second++ {
 		if b.pass(time.Second); (b.count(Send{}) > 0) != (second > early) {
-			t.Errorf("behind %d seconds it is told %d times", second, b.count(Send{}))
+			t.Errorf("after %d seconds it is told %d times", second, b.count(Send{}))
 		}
 	}
 }

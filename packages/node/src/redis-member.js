@@ -489,7 +489,10 @@ export class Member {
     let pause = 0, fault;
     for (const [n, it] of shards.entries()) {
       const [what, more, checked, ...rest] = answers[n], { count } = calls.get(it);
-      if (count < it.seen) continue; // (a later look was answered first)
+      if (count < it.seen) { // (a later look was answered first)
+        left.push(it);
+        continue;
+      }
       [it.seen, it.checked] = [count, checked];
       if (String(what) === "ok") {
         const [record, epoch, deaf, time, latest] = [rest[0], String(rest[1]), ...rest.slice(2).map(BigInt)];

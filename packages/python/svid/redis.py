@@ -297,10 +297,12 @@ class RedisStore(GroupStore):
         fault: StoreFault | None = None
         for it, (what, more, checked, *rest) in zip(shards, answers):
             if what == b"ok":
-                self._adopt(it, counts[it], checked, at, *rest)
+                if not self._adopt(it, counts[it], checked, at, *rest):
+                    waits.append(it)
                 continue
             with self._lock:
                 if counts[it] < it.seen:  # (a later look was answered first)
+                    waits.append(it)
                     continue
                 it.seen, it.checked, it.agreed = counts[it], checked, None
             if what == b"wait":
@@ -323,16 +325,17 @@ class RedisStore(GroupStore):
         deaf: int,
         moment: int,
         latest: int,
-    ) -> None:
-        """Takes what a server has of a shard."""
+    ) -> bool:
+        """Takes what a server has of a shard, unless a later look was answered first."""
         with self._lock:
-            if count < it.seen:  # (a later look was answered first)
-                return
+            if count < it.seen:
+                return False
             if (same := epoch == it.known.epoch) and it.known.latest > latest:
                 latest = it.known.latest
             mark = it.known.mark if same else b""
             it.known = _Known(record, epoch, deaf, latest, (count, moment), mark)
             it.seen, it.checked, it.agreed = count, checked, at
+        return True
 
     def _put_each(self, claims: Sequence[Claim], end: float) -> list[Found | StoreFault]:
         found: dict[int, Found | StoreFault] = {}

@@ -359,7 +359,7 @@ def test_a_connection_that_is_new_may_lead_to_another_server(machine, is_looked_
             store._adopt = adopt
             replaced()
             with store._connection(store._shards, time.monotonic() + PATIENCE):
-                adopt(*known)
+                return adopt(*known)
 
         assert put(store, claim(1))[0].deaf == 0
         if is_looked_at:
