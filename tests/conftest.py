@@ -1,11 +1,14 @@
 """What the tests stand on: the program, the test driver and the C library of these sources, and folders to work in."""
 
+import base64
 import os
 import shutil
 import socket
 import subprocess
 import tempfile
+import threading
 import time
+from contextlib import contextmanager
 from pathlib import Path
 
 import pytest
@@ -51,6 +54,32 @@ def await_(is_so, what, seen=lambda: ""):
     while not is_so():
         assert time.monotonic() < until, f"waited for {what}\n{seen()}"
         time.sleep(0.05)
+
+
+@contextmanager
+def answering(process, what):
+    """A process is to say something, or to end. One that does not in SVID_TEST_PATIENCE seconds is killed, and the test fails."""
+    is_late = threading.Event()
+
+    def end():
+        is_late.set()
+        process.kill()
+
+    timer = threading.Timer(PATIENCE, end)
+    timer.daemon = True
+    timer.start()
+    try:
+        yield
+    finally:
+        timer.cancel()
+        assert not is_late.is_set(), f"waited for {what}"
+
+
+def public_jwk(key):
+    """The public part of a key of P-256. (PyJWT leaves out zeros at the front of a coordinate, which RFC 7518, section 6.2.1.2, wants: of one key in 128.)"""
+    numbers = key.public_key().public_numbers()
+    x, y = (base64.urlsafe_b64encode(it.to_bytes(32, "big")).rstrip(b"=").decode() for it in (numbers.x, numbers.y))
+    return {"kty": "EC", "crv": "P-256", "x": x, "y": y}
 
 
 def held_port():

@@ -11,7 +11,8 @@ def main(bundles: str, audiences: str, longest: str) -> None:
         names = file.read().splitlines()
     read = sys.stdin.buffer.read
     try:
-        validator = svid.Validator(audiences=names, bundles=bundles, longest=int(longest), refresh=None)
+        # (a machine may stand still for a while)
+        validator = svid.Validator(audiences=names, bundles=bundles, longest=int(longest), refresh=None, wait=60)
     except svid.BadBundles as error:
         print("bundles", error)
         return

@@ -10,7 +10,7 @@ import urllib.request
 import zipfile
 
 import pytest
-from conftest import TOP, needs
+from conftest import TOP, answering, needs, public_jwk
 
 MODULE = "svid.example/go/v3"
 VENDOR = TOP / "go/vendor"
@@ -147,15 +147,15 @@ def test_the_service_of_the_readme(service, tmp_path):
     assert "libcrypto" in linked and "libsvid" not in linked
 
     key = ec.generate_private_key(ec.SECP256R1())
-    public = json.loads(jwt.algorithms.ECAlgorithm.to_jwk(key.public_key()))
     bundle = tmp_path / "bundle.json"
-    bundle.write_text(json.dumps({"keys": [{**public, "kid": "a", "use": "jwt-svid"}]}))
+    bundle.write_text(json.dumps({"keys": [{**public_jwk(key), "kid": "a", "use": "jwt-svid"}]}))
     claims = {"sub": "spiffe://example.org/web", "aud": "ledger", "exp": int(time.time()) + 3000}
     token = jwt.encode(claims, key, "ES256", {"kid": "a"})
 
     def started():
         running = subprocess.Popen([service.folder / "service", bundle, "127.0.0.1:0"], cwd=tmp_path, stdout=subprocess.PIPE, text=True)
-        return running, running.stdout.readline().split()[-1]
+        with answering(running, "the service to tell its address"):
+            return running, running.stdout.readline().split()[-1]
 
     running, address = started()
     try:

@@ -3,7 +3,7 @@
 import os
 import subprocess
 
-from conftest import TOP, needs
+from conftest import TOP, answering, needs
 
 
 def test_a_killed_example_leaves_no_server_and_no_folder(tmp_path):
@@ -14,11 +14,12 @@ def test_a_killed_example_leaves_no_server_and_no_folder(tmp_path):
     with subprocess.Popen(
         [TOP / "examples/group/run"], stdout=subprocess.PIPE, stderr=subprocess.STDOUT, text=True, env=environment
     ) as example:
-        for line in example.stdout:
-            if line.startswith("group over a stream: a accepted"):
-                break
-        else:
-            raise AssertionError(f"the example ends before it shows a group over a stream: {line}")
+        with answering(example, "the example to show a group over a stream"):
+            for line in example.stdout:
+                if line.startswith("group over a stream: a accepted"):
+                    break
+            else:
+                raise AssertionError(f"the example ends before it shows a group over a stream: {line}")
         assert [path.read_text().strip() for path in tmp_path.glob("*/server")], "the example has no server"
         example.kill()
         rest = subprocess.run(["timeout", "180", "cat"], stdin=example.stdout, stdout=subprocess.PIPE)

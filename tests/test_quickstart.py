@@ -12,7 +12,7 @@ import sys
 import time
 
 import pytest
-from conftest import TOP, await_, needs
+from conftest import PATIENCE, TOP, await_, needs
 
 README = TOP / "README.md"
 
@@ -63,7 +63,7 @@ def test_a_fresh_clone_accepts_a_token_of_ones_own_and_refuses_it_elsewhere(docs
     needs("go")
     [(serve, served), (mint, minted)] = typed
     # (go/build may install packages, which needs the network. The one of the session finds all of it done, and Go's own library compiled.)
-    subprocess.run([TOP / "go/build"], stdin=subprocess.DEVNULL, check=True)
+    subprocess.run([TOP / "go/build"], stdin=subprocess.DEVNULL, check=True, timeout=10 * PATIENCE)
     clone(tmp_path / "clone")
     environment = {**os.environ, "TMPDIR": str(tmp_path)}
     words = ["bash", "-c", f"ip link set lo up 2> /dev/null\n({serve}) > said 2>&1"]
@@ -73,9 +73,8 @@ def test_a_fresh_clone_accepts_a_token_of_ones_own_and_refuses_it_elsewhere(docs
     try:
         await_(lambda: said.exists() and served[-1] in said.read_text(), f"{serve!r} to say: {served[-1]}", lambda: said.read_text())
         beside = ["nsenter", "--target", str(terminal.pid), "--user", "--net", "--preserve-credentials"] if by_itself() else []
-        got = subprocess.run(
-            [*beside, "bash", "-c", mint], cwd=tmp_path / "clone", stdout=subprocess.PIPE, stderr=subprocess.STDOUT, text=True
-        )
+        how = {"stdout": subprocess.PIPE, "stderr": subprocess.STDOUT, "text": True, "timeout": PATIENCE}
+        got = subprocess.run([*beside, "bash", "-c", mint], cwd=tmp_path / "clone", **how)
         took = time.monotonic() - began
         assert docs.fits(minted, got.stdout), f"$ {mint}\n{got.stdout}"
         assert got.returncode == 0
@@ -91,7 +90,7 @@ def test_a_fresh_clone_accepts_a_token_of_ones_own_and_refuses_it_elsewhere(docs
 def end(terminal, said):
     """Ends svidd dev as ^C does, and waits for all of the terminal."""
     os.killpg(terminal.pid, signal.SIGINT)
-    terminal.wait()
+    terminal.wait(PATIENCE)
     assert all(line.startswith("svidd dev (for development only): ") for line in said.read_text().splitlines()), said.read_text()
 
 

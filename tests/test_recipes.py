@@ -11,12 +11,13 @@ import json
 import os
 import random
 import re
+import select
 import signal
 import subprocess
 import time
 
 import pytest
-from conftest import TOP
+from conftest import PATIENCE, TOP
 
 EXPIRY = 4102444800
 VALIDATOR_ID = "00112233445566778899aabbccddeeff"
@@ -93,10 +94,12 @@ class Run:
 
     def waits(self):
         """Waits for the end of all its processes, and answers the status of the shell."""
-        while os.read(self.ended, 1):
-            pass
+        if not select.select([self.ended], [], [], PATIENCE)[0]:
+            os.killpg(self.shell.pid, signal.SIGKILL)
+            raise AssertionError("a recipe does not end")
+        assert os.read(self.ended, 1) == b""
         os.close(self.ended)
-        return self.shell.wait()
+        return self.shell.wait(PATIENCE)
 
     def kills(self, only_shell):
         """Kills it, or the shell alone, and says whether that still ran."""

@@ -17,7 +17,7 @@ from contextlib import ExitStack
 from pathlib import Path
 
 import pytest
-from conftest import PATIENCE, TOP, await_, held_port, needs
+from conftest import PATIENCE, TOP, await_, held_port, needs, public_jwk
 from test_go_module import serve, vendored
 from test_packages import rows
 from test_release import NEEDED, SPIFFE_ID, VERSION, Room, output
@@ -82,7 +82,8 @@ def of_rust(room):
         "cargo/config.toml": CARGO_HOME,
         "src/main.rs": (SERVICES / "main.rs").read_text(),
         "Cargo.toml": f'[package]\nname = "of_the_release"\nversion = "1.0.0"\nedition = "2021"\n[dependencies]\n'
-        f'svid = {{ path = "svid-{VERSION}", features = ["openssl", "postgres"] }}\n',
+        f'svid = {{ path = "svid-{VERSION}", features = ["openssl", "postgres"] }}\n' + (TOP / "packages/rust/syn.toml").read_text(),
+        "build.rs": "fn main() {}\n",
     }.items():
         (room.folder / name).parent.mkdir(exist_ok=True)
         (room.folder / name).write_text(text)
@@ -210,7 +211,7 @@ class Key:
     def __init__(self, name):
         jwt, ec = pytest.importorskip("jwt"), pytest.importorskip("cryptography.hazmat.primitives.asymmetric.ec")
         self.name, self.key = name, ec.generate_private_key(ec.SECP256R1())
-        self.entry = json.loads(jwt.algorithms.ECAlgorithm.to_jwk(self.key.public_key())) | {"kid": name, "use": "jwt-svid"}
+        self.entry = public_jwk(self.key) | {"kid": name, "use": "jwt-svid"}
         self.encode = jwt.encode
 
     def token(self):
@@ -252,7 +253,7 @@ def serves(ends, folder, is_so, *words, **more):
     """Runs a server in a folder until the end of the session, and waits until it is there."""
     with open(folder / "log", "wb") as log:
         server = subprocess.Popen(words, stdin=subprocess.DEVNULL, stdout=log, stderr=log, cwd=folder, **more)
-    ends.callback(server.wait)
+    ends.callback(server.wait, PATIENCE)
     ends.callback(server.send_signal, signal.SIGINT)
     await_(is_so, words[0], (folder / "log").read_text)
 

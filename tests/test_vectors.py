@@ -16,7 +16,7 @@ READERS = {
     "go": ["go/internal/vectors/vectors_test.go"],
     "page": ["packages/page/tests/verdicts.mjs", "packages/page/tests/vectors.test.mjs"],
     "python": ["packages/python/tests/test_vectors.py", "packages/python/tests/vectors.py", "packages/python/tests/test_allow.py"],
-    "rust": ["packages/rust/svid/tests/vectors.rs", "packages/rust/svid/src/journal/tests.rs"],
+    "rust": ["packages/rust/svid/tests/all/vectors.rs", "packages/rust/svid/src/journal/tests.rs"],
 }
 
 

@@ -153,7 +153,7 @@ class Language:
         raise NotImplementedError
 
     def broken(self, status, said):
-        """Whether failed tests said that the program does not run, which says nothing of them."""
+        """Whether failed tests said that the program does not run, which says nothing of them: true, or what in `said` shows it."""
         raise NotImplementedError
 
 
@@ -214,8 +214,9 @@ def tried(language, it):
         return f"NOT CAUGHT: it took too long: its tests don't end within {LONGEST} seconds"
     if status == 0:
         return "NOT CAUGHT: it survived: its tests pass"
-    if language.broken(status, said):
-        return f"NOT CAUGHT: it does not compile, or its tests don't run:\n{end_of(said)}"
+    if found := language.broken(status, said):
+        shown = "" if found is True else f", as {said[found.start() :].splitlines()[0]!r} shows"
+        return f"NOT CAUGHT: it does not compile, or its tests don't run{shown}:\n{end_of(said)}"
     return ""
 
 

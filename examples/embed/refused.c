@@ -41,7 +41,20 @@ static uint8_t *copy(const uint8_t *bytes, size_t len) {
     return memcpy(new, bytes, len);
 }
 
-/* Verifies a token with the key of a row, as it is and with each allocation refused: how many there are. */
+/* Whether a verification by this algorithm, with this answer and so many allocations, came before: this one makes the same calls. */
+static int came_before(const uint8_t *alg, size_t alg_len, int due, long all) {
+    static struct { uint8_t alg[16]; int due; long all; } seen[64];
+    static size_t count;
+    size_t i;
+    must(alg_len <= sizeof seen[0].alg && count < 64, "no room for a verification");
+    for (i = 0; i < count; i++) if (!memcmp(seen[i].alg, alg, alg_len) && seen[i].due == due && seen[i].all == all) return 1;
+    memcpy(seen[count].alg, alg, alg_len);
+    seen[count].due = due;
+    seen[count++].all = all;
+    return 0;
+}
+
+/* Verifies a token with the key of a row, as it is and with each allocation refused, unless that came before: how many there are. */
 static long each(const uint8_t *alg_at, const uint8_t *jwk_at, const uint8_t *token_at, size_t len) {
     size_t alg_len = number(alg_at - 4), jwk_len = number(jwk_at - 4);
     uint8_t *alg = copy(alg_at, alg_len), *jwk = copy(jwk_at, jwk_len), *token = copy(token_at, len);
@@ -49,7 +62,7 @@ static long each(const uint8_t *alg_at, const uint8_t *jwk_at, const uint8_t *to
     int due = verify(NULL, alg, alg_len, jwk, jwk_len, token, len);
     asked = 0;   /* (the first call looked up what OpenSSL keeps) */
     must(verify(NULL, alg, alg_len, jwk, jwk_len, token, len) == due, "the second answer is another one");
-    all = asked;
+    all = came_before(alg, alg_len, due, asked) ? 0 : asked;
     for (refused_at = 1; refused_at <= all; refused_at++) {
         asked = 0;
         must(!verify(NULL, alg, alg_len, jwk, jwk_len, token, len) || due, "a bad signature is called good");

@@ -494,8 +494,8 @@ func (w *Watcher) fault(source string, err error) {
 	case err == nil && last != "":
 		delete(w.faults, source)
 		w.log("bundle source is well again", "source", source)
-	case err != nil && err.Error() != last:
-		w.faults[source] = err.Error()
+	case err != nil && brief.Cause(err) != last:
+		w.faults[source] = brief.Cause(err)
 		event := "bundle not read"
 		for _, b := range w.held {
 			if b.source == source || strings.HasSuffix(b.source, " of "+source) {

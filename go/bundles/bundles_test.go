@@ -238,6 +238,11 @@ func TestFaultsOfFilesThatAreGone(t *testing.T) {
 	if len(w.faults) != 1 || w.faults[named] == "" {
 		t.Errorf("%d faults are kept: %v", len(w.faults), w.faults)
 	}
+	for _, err := range []error{w.Fault(), w.FileFault()} {
+		if err == nil || !strings.HasPrefix(err.Error(), "named: ") { // (and it is none of the folder's)
+			t.Errorf("the fault of a file that a spec names: %v", err)
+		}
+	}
 }
 
 // An endpoint that does not answer, or stops within its answer, is given up; the last good bundle stays meanwhile, and
@@ -320,27 +325,39 @@ func TestFolder(t *testing.T) {
 	write(t, filepath.Join(dir, "named.json"), `{"keys":[1]}`)
 	named := filepath.Join(t.TempDir(), "other")
 	write(t, named, spire)
-	w, o := watch(t, nil, Folder(dir), Spec{Domain: "named", Source: named})
-	o.want(t, map[string]string{"example.org": spire, "named": spire})
+	first := filepath.Join(t.TempDir(), "first")
+	write(t, first, spire)
+	w, o := watch(t, nil, Spec{Domain: "first", Source: first}, Folder(dir), Spec{Domain: "named", Source: named})
+	o.want(t, map[string]string{"first": spire, "example.org": spire, "named": spire})
 	o.wantLines(t, 1, `"Example.com" is no trust domain's name`)
 	o.wantLines(t, 1, "the bundle of named comes from "+named)
 	o.wantLines(t, 0, "example.org.txt")
 
-	write(t, filepath.Join(dir, "b.json"), `{"keys":[]}`)
+	const none = `{"keys":[]}`
+	write(t, filepath.Join(dir, "b.json"), none)
+	write(t, first, none)
+	write(t, named, none)
+	w.Reload() // reads all of them
+	o.want(t, map[string]string{"first": none, "example.org": spire, "named": none, "b": none})
+	remove(t, filepath.Join(dir, "Example.com.json"))
+	remove(t, filepath.Join(dir, "named.json"))
 	write(t, filepath.Join(dir, "example.org.json"), "half")
 	w.Reload()
-	o.want(t, map[string]string{"example.org": spire, "named": spire, "b": `{"keys":[]}`})
+	o.want(t, map[string]string{"first": none, "example.org": spire, "named": none, "b": none})
+	if err := w.FileFault(); err == nil || !strings.HasPrefix(err.Error(), "example.org.json: ") {
+		t.Errorf("%v does not tell which file of the folder it is", err)
+	}
 	if err := os.Remove(filepath.Join(dir, "example.org.json")); err != nil {
 		t.Fatal(err)
 	}
 	w.Reload()
-	o.want(t, map[string]string{"named": spire, "b": `{"keys":[]}`})
+	o.want(t, map[string]string{"first": none, "named": none, "b": none})
 	o.wantLines(t, 1, "bundle dropped: its file is gone domain example.org")
 	if err := os.Rename(dir, dir+".away"); err != nil {
 		t.Fatal(err)
 	}
 	w.Reload()
-	o.want(t, map[string]string{"named": spire, "b": `{"keys":[]}`}) // A folder that can't be read takes nothing with it.
+	o.want(t, map[string]string{"first": none, "named": none, "b": none}) // A folder that can't be read takes nothing with it.
 	if err := os.Rename(dir+".away", dir); err != nil {
 		t.Fatal(err)
 	}
@@ -496,9 +513,9 @@ func TestSpecs(t *testing.T) {
 		}
 	}
 	for _, bad := range []string{"", "example.org", "example.org=", "=bundle.json", "Example.org=b", "a=http://h/b", "a=https://",
-		"a=https://user:secret@h/b", strings.Repeat("a", 256) + "=b"} {
-		if got, err := Parse(bad); err == nil {
-			t.Errorf("%q is %v", bad, got)
+		"a=https://user:secret@h/b", "a=https://user:sec ret@h/b", "a=http://user:secret@h/b", strings.Repeat("a", 256) + "=b"} {
+		if got, err := Parse(bad); err == nil || strings.Contains(err.Error(), "ret@") {
+			t.Errorf("%q is %v, and the error has the password or is none: %v", bad, got, err)
 		}
 	}
 	if _, err := Parse("bundle.json"); err == nil || !strings.Contains(err.Error(), `"bundle.json": name the one trust domain whose bundle it is`) {

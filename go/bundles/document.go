@@ -117,7 +117,7 @@ var errPrivate = errors.New("it has the private part of a key, and whoever reads
 func (d document) private() (number int, is bool) {
 	d.each(func(i int, entry json.RawMessage) {
 		var key map[string]json.RawMessage // (by the fields of a struct, "D" would count, too)
-		if !is && json.Unmarshal(entry, &key) == nil && (key["d"] != nil || key["k"] != nil) {
+		if !is && entry[0] == '{' && json.Unmarshal(entry, &key) == nil && (key["d"] != nil || key["k"] != nil) {
 			number, is = i, true
 		}
 	})
@@ -168,9 +168,10 @@ func (d document) refresh() time.Duration {
 }
 
 // passedOver says why an entry of keys signs no token, or nothing where it may: docs/FORMATS.md, "Bundles". The error is svid.ErrNoMemory.
+// (A bundle may have half a million entries, and errors.As takes longer than to check one.)
 func passedOver(entry json.RawMessage) (why string, err error) {
-	var fault svid.EntryFault
-	if err = svid.CheckEntry(entry); errors.As(err, &fault) {
+	err = svid.CheckEntry(entry)
+	if fault, is := err.(svid.EntryFault); is {
 		return fault.String(), nil
 	}
 	return "", err

@@ -5,6 +5,7 @@ import (
 	"crypto/x509"
 	"encoding/json"
 	"errors"
+	"net"
 	"net/http"
 	"net/http/httptest"
 	"runtime"
@@ -360,5 +361,28 @@ func TestAPrivateKeyInABundle(t *testing.T) {
 			continue
 		}
 		o.wantLines(t, 1, "bundle has a private key domain example.org source "+name+" "+want+" why it has the private part of a key")
+	}
+}
+
+// An address that resets each connection has one fault, whatever port this machine draws.
+func TestAFaultOfEachConnectionIsOne(t *testing.T) {
+	l, err := net.Listen("tcp", "127.0.0.1:0")
+	if err != nil {
+		t.Fatal(err)
+	}
+	defer l.Close()
+	go func() {
+		for conn, err := l.Accept(); err == nil; conn, err = l.Accept() {
+			_, _ = conn.Read(make([]byte, 1))
+			_ = conn.(*net.TCPConn).SetLinger(0)
+			conn.Close()
+		}
+	}()
+	c := newClock()
+	_, o := watch(t, func(o *Options) { o.after = c.after }, Spec{Domain: "example.org", Source: "https://" + l.Addr().String()})
+	for range make([]struct{}, 3) {
+		c.want(t, "a connection that is reset", shortestRefresh)
+		o.wantLines(t, 1, "bundle not read")
+		c.over(t)
 	}
 }

@@ -93,10 +93,14 @@ func (s Spec) check() error {
 	if !s.isAddress() {
 		return nil
 	}
-	if u, err := url.Parse(s.Source); err != nil || u.Host == "" || u.User != nil {
-		return fmt.Errorf("bundles: %s: %q is no address as https://HOST/PATH", s.Domain, s.Source)
+	u, err := url.Parse(s.Source)
+	switch {
+	case err == nil && u.Host != "" && u.User == nil:
+		return nil
+	case strings.Contains(s.Source, "@"): // (an error with the address would have the password)
+		return fmt.Errorf("bundles: %s: an address of a bundle has no name of a user, and no password: write https://HOST/PATH", s.Domain)
 	}
-	return nil
+	return fmt.Errorf("bundles: %s: %q is no address as https://HOST/PATH", s.Domain, s.Source)
 }
 
 // IsRemote says whether the source answers over a socket, so that its bundles come later than Watch returns.

@@ -365,6 +365,28 @@ func TestAStoreThatIsOfNoUse(t *testing.T) {
 	}
 }
 
+// A slowStore has a server that does not come up.
+type slowStore struct{ claims.Store }
+
+func (slowStore) Open(ctx context.Context) (claims.State, error) {
+	<-ctx.Done()
+	return claims.State{}, ctx.Err()
+}
+
+func (slowStore) Close() error { return nil }
+
+// A guard that is closed while its store does not come up has not failed.
+func TestCloseBeforeTheStoreIsThere(t *testing.T) {
+	var log bytes.Buffer
+	o := usual(t)
+	o.Store, o.Lines = slowStore{}, server.NewLog(&log, All)
+	g := open(t, o)
+	inTime(t, g.Close)
+	if strings.Contains(log.String(), `"event":"end"`) {
+		t.Errorf("it says %s", &log)
+	}
+}
+
 // Each judged token counts, and is a line of the log that does not have it.
 func TestEachJudgedTokenIsCountedAndLogged(t *testing.T) {
 	var log, metrics bytes.Buffer
@@ -639,6 +661,16 @@ func TestATrustDomainWithoutASource(t *testing.T) {
 	}
 	if err := of(example, "example.org"); !errors.Is(err, server.ErrNotReady) {
 		t.Errorf("of an empty folder: %v", err)
+	}
+	dir := t.TempDir()
+	if err := os.WriteFile(filepath.Join(dir, "example.org.json"), example.JWKSet(), 0o600); err != nil {
+		t.Fatal(err)
+	}
+	if err := g.Follow([]bundles.Spec{bundles.Folder(dir)}); err != nil {
+		t.Fatal(err)
+	}
+	if err := of(example, "example.org"); err != nil {
+		t.Errorf("of a folder that has it: %v", err)
 	}
 }
 

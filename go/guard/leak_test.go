@@ -12,6 +12,7 @@ import (
 	"runtime"
 	"runtime/debug"
 	"strings"
+	"sync/atomic"
 	"testing"
 	"time"
 
@@ -171,13 +172,17 @@ func TestRequestsLeaveNothing(t *testing.T) {
 	o.Mode, o.Caller = Reuse, "peer"
 	reuse := open(t, o)
 	o = usual(t)
-	away := errors.New("the store is away")
-	var fault error
-	store := &memory.Store{Terms: Terms(3600, 30), Fault: func() error { return fault }}
+	var isAway atomic.Bool // (the guard looks at its store meanwhile)
+	store := &memory.Store{Terms: Terms(3600, 30), Fault: func() error {
+		if isAway.Load() {
+			return errors.New("the store is away")
+		}
+		return nil
+	}}
 	o.State, o.Store, o.Wait = "", store, 2*time.Millisecond
 	strict := open(t, o)
 	await(t, strict)
-	fault = away
+	isAway.Store(true)
 	ctx := context.Background()
 	left, leave := context.WithCancel(ctx)
 	leave()

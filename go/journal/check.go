@@ -29,7 +29,7 @@ func Check(dir string) (*Report, error) {
 }
 
 func check(sys system, dir string) (*Report, error) {
-	var before *contents
+	before := ""
 	for try := 1; ; try++ {
 		found, err := readAll(sys, nil)
 		if try < mostTries && errors.Is(err, os.ErrNotExist) {
@@ -40,22 +40,9 @@ func check(sys system, dir string) (*Report, error) {
 		}
 		r := &Report{ValidatorID: found.id, HasID: found.hasID, Log: found.mark, InLog: found.isMarked, Files: found.files, Fault: found.fault(dir)}
 		// A file that grows while it is read can look damaged. Damage stays where it is.
-		if try == mostTries || !errors.Is(r.Fault, svid.ErrDamaged) || before != nil && sameFaults(before, found) {
+		if try == mostTries || !errors.Is(r.Fault, svid.ErrDamaged) || r.Fault.Error() == before {
 			return r, nil
 		}
-		before = found
+		before = r.Fault.Error()
 	}
-}
-
-// sameFaults says whether the files of two readings end at the same offsets for the same reasons.
-func sameFaults(a, b *contents) bool {
-	if len(a.files) != len(b.files) {
-		return false
-	}
-	for i, f := range a.files {
-		if g := b.files[i]; f.Name != g.Name || f.At != g.At || f.Fault != g.Fault {
-			return false
-		}
-	}
-	return true
 }

@@ -350,26 +350,35 @@ func TestCheckWhileAProcessWrites(t *testing.T) {
 	<-ended
 }
 
-// A file that grows while it is read looks damaged once. Damage that stays is reported.
-func TestCheckReadsTwiceWhatLooksDamaged(t *testing.T) {
+// A file that grows while it is read looks damaged, at another offset each time. Damage that stays where it is is reported.
+func TestCheckReadsAgainWhatLooksDamaged(t *testing.T) {
 	d, _ := thousand(t)
 	file := d.journal(3).file
 	good := file.seen
-	for _, row := range []struct{ heals, damaged bool }{{true, false}, {false, true}} {
-		file.seen = append([]byte(nil), good...)
-		file.seen[500] ^= 1
+	for _, row := range []struct {
+		at      []int // where a bit is changed when it is read for the nth time; no more of them are changed after these
+		reads   int
+		damaged bool
+	}{
+		{[]int{500}, 2, false},
+		{[]int{500, 500}, 2, true},
+		{[]int{500, 5000, 50_000}, 4, false},
+		{[]int{500, 5000, 500, 500}, 4, true},
+	} {
 		reads := 0
 		d.before = func(call, name string, _ int) (int, error) {
 			if call == "read" && name == "journal.3" {
-				if reads++; reads == 2 && row.heals {
-					file.seen = good
+				file.seen = append([]byte(nil), good...)
+				if reads < len(row.at) {
+					file.seen[row.at[reads]] ^= 1
 				}
+				reads++
 			}
 			return 0, nil
 		}
 		found, err := check(d, "disk")
-		if err != nil || errors.Is(found.Fault, svid.ErrDamaged) != row.damaged || reads != 2 {
-			t.Errorf("%v: damaged %v behind %d reads (%v)", row, found.Fault, reads, err)
+		if err != nil || errors.Is(found.Fault, svid.ErrDamaged) != row.damaged || reads != row.reads {
+			t.Errorf("%v: damaged %v after %d reads (%v)", row, found.Fault, reads, err)
 		}
 	}
 }

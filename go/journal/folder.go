@@ -54,7 +54,8 @@ type system interface {
 	remove(name string) error
 	sync() error // of the folder
 	// there returns nil while the folder is at its path, with the lock that is held; and with this validator ID, if id is not nil.
-	// Else the error is ErrMoved. It makes two calls that read no disk, and three more for the ID.
+	// Else the error is ErrMoved, or another one if there is no file descriptor or memory to read the ID. It makes two calls that
+	// read no disk, and three more for the ID.
 	there(id *svid.ValidatorID) error
 }
 
@@ -76,7 +77,11 @@ type folder struct {
 
 // openFolder opens the folder. It makes one that is not there, so that its name lasts.
 func openFolder(dir string) (*folder, error) {
-	f := &folder{dir: filepath.Clean(dir)}
+	path, err := filepath.Abs(dir) // (a service may go to another folder)
+	if err != nil {
+		return nil, fmt.Errorf("journal: %w", err)
+	}
+	f := &folder{dir: path}
 	if err := makeFolder(f); err != nil {
 		return nil, err
 	}
@@ -124,8 +129,11 @@ func (f *folder) open() error {
 	return nil
 }
 
-// syncFile is fsync. Tests let it fail.
-var syncFile = (*os.File).Sync
+// syncFile is fsync, and syncData is fdatasync. Tests let them fail.
+var (
+	syncFile = (*os.File).Sync
+	syncData = syscall.Fdatasync
+)
 
 func (f *folder) Close() error { return f.self.Close() }
 
@@ -186,6 +194,8 @@ func (f *folder) there(id *svid.ValidatorID) error {
 		return nil
 	}
 	switch now, err := readID(f); {
+	case errors.Is(err, syscall.EMFILE), errors.Is(err, syscall.ENFILE), errors.Is(err, syscall.ENOMEM):
+		return err // It says nothing of the folder, and whoever connects can use up the file descriptors.
 	case err != nil:
 		return fmt.Errorf("%w: %v", ErrMoved, err)
 	case now != *id:
@@ -227,11 +237,17 @@ func (f osFile) WriteAt(b []byte, at int64) (n int, err error) {
 
 func (f osFile) sync() error { return syncFile(f.File) }
 
+// datasync calls again where a signal came between, as package os does: on a file system in user space that may be.
 func (f osFile) datasync() error {
-	if err := syscall.Fdatasync(int(f.Fd())); err != nil {
-		return &os.PathError{Op: "fdatasync", Path: f.Name(), Err: err}
+	for {
+		err := syncData(int(f.Fd()))
+		if err == nil {
+			return nil
+		}
+		if err != syscall.EINTR {
+			return &os.PathError{Op: "fdatasync", Path: f.Name(), Err: err}
+		}
 	}
-	return nil
 }
 
 // hold locks the folder until the file that it returns is closed, and writes into it who holds it.

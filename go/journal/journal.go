@@ -172,9 +172,7 @@ func (j *Journal) Load(take func(messages []byte) error) error {
 	err := j.load(take)
 	j.write.Lock()
 	defer j.write.Unlock()
-	if j.broken == errUnread {
-		j.broken = err
-	}
+	j.broken = err
 	return err
 }
 

@@ -562,7 +562,7 @@ func TestGrowsByZeros(t *testing.T) {
 	}
 }
 
-// TestTooManyOpenFilesAreNotTheEnd has others take all files that are free, at each call of a snapshot.
+// TestTooManyOpenFilesAreNotTheEnd has others take all files that are free, at each call of a snapshot, and at a look for room.
 func TestTooManyOpenFilesAreNotTheEnd(t *testing.T) {
 	var before syscall.Rlimit
 	if err := syscall.Getrlimit(syscall.RLIMIT_NOFILE, &before); err != nil {
@@ -589,6 +589,38 @@ func TestTooManyOpenFilesAreNotTheEnd(t *testing.T) {
 		if err := j.Snapshot(writes(batches(0, 4))); err != nil {
 			t.Error(err)
 		}
+	}
+	j := mustOpen(t, t.TempDir())
+	syscall.Setrlimit(syscall.RLIMIT_NOFILE, &syscall.Rlimit{Cur: 3, Max: before.Max})
+	err := j.Room(context.Background())
+	syscall.Setrlimit(syscall.RLIMIT_NOFILE, &before)
+	if !errors.Is(err, syscall.EMFILE) || errors.Is(err, ErrMoved) || j.Moved() {
+		t.Errorf("a look for room: %v", err)
+	}
+	if err := j.Room(context.Background()); err != nil {
+		t.Error(err)
+	}
+	mustAppend(t, j, batch(0))
+}
+
+// A signal that comes while bytes go to the disk is no fault of the disk, and an error of it is one all the same.
+func TestASignalBetweenIsNoFaultOfTheDisk(t *testing.T) {
+	real, faults := syncData, []error{syscall.EINTR, syscall.EINTR}
+	defer func() { syncData = real }()
+	syncData = func(fd int) error {
+		if len(faults) > 0 {
+			fault := faults[0]
+			faults = faults[1:]
+			return fault
+		}
+		return real(fd)
+	}
+	j := mustOpen(t, t.TempDir())
+	j.quiet = 0 // (no mark comes by itself)
+	mustAppend(t, j, batch(0))
+	faults = []error{syscall.EINTR, syscall.EIO}
+	if err := j.Append(context.Background(), batch(1)); !errors.Is(err, syscall.EIO) || len(faults) != 0 {
+		t.Errorf("%v, %d faults left", err, len(faults))
 	}
 }
 
@@ -1519,6 +1551,7 @@ func TestNoFileStaysOpen(t *testing.T) {
 	mustClose(t, mustOpen(t, dir))
 	before := open()
 	for i := 0; i < 5; i++ {
+		mustClose(t, mustOpen(t, t.TempDir()))
 		j := mustOpen(t, dir)
 		if _, err := Open(dir); !errors.Is(err, ErrHeld) {
 			t.Fatal(err)
@@ -1533,15 +1566,20 @@ func TestNoFileStaysOpen(t *testing.T) {
 			}
 		}
 		mustClose(t, j)
-		good := readFile(t, dir, snapshotName)
-		if err := os.WriteFile(filepath.Join(dir, snapshotName), []byte("no batch"), 0o600); err != nil {
-			t.Fatal(err)
-		}
-		if _, err := load(Open(dir)); err == nil {
-			t.Fatal("a damaged snapshot")
-		}
-		if err := os.WriteFile(filepath.Join(dir, snapshotName), good, 0o600); err != nil {
-			t.Fatal(err)
+		for name, opens := range map[string]func() error{
+			snapshotName: func() error { _, err := load(Open(dir)); return err },
+			placeName:    func() error { _, err := Open(dir); return err },
+		} {
+			good := readFile(t, dir, name)
+			if err := os.WriteFile(filepath.Join(dir, name), []byte("no batch, and no ID"), 0o600); err != nil {
+				t.Fatal(err)
+			}
+			if err := opens(); err == nil {
+				t.Fatalf("%s is damaged", name)
+			}
+			if err := os.WriteFile(filepath.Join(dir, name), good, 0o600); err != nil {
+				t.Fatal(err)
+			}
 		}
 	}
 	if n := open(); n != before {

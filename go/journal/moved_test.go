@@ -64,6 +64,22 @@ func copyFolder(t *testing.T, from, to string) {
 	}
 }
 
+// A service that goes to another folder, as a daemon does, goes on to keep what it accepts.
+func TestAFolderOfARelativePath(t *testing.T) {
+	ctx := context.Background()
+	before, err := os.Getwd()
+	must(t, err)
+	defer func() { must(t, os.Chdir(before)) }()
+	must(t, os.Chdir(t.TempDir()))
+	j, err := Open("state")
+	must(t, err)
+	defer j.Close()
+	must(t, os.Chdir("/"))
+	must(t, j.Load(func([]byte) error { return nil }))
+	must(t, j.Append(ctx, batch(1)))
+	must(t, j.Snapshot(func(w io.Writer) error { _, err := w.Write(batch(1)); return err }))
+}
+
 // Once the path of a folder leads elsewhere, no append succeeds, no snapshot touches what is there now, and it stays so though the
 // folder comes back: another process may have had its path meanwhile.
 func TestAFolderThatIsMoved(t *testing.T) {

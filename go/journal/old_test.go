@@ -163,6 +163,14 @@ func TestDamageOfAnOldFolder(t *testing.T) {
 	}
 }
 
+// Nor may an old file that is not the last journal end in what a disk has where nothing was written: it was closed at its last message.
+func TestAnOldFileThatWasNotClosed(t *testing.T) {
+	dir := laid(t, map[string][]byte{"journal.1": append(batches(0, 3), 0, 0), "journal.2": batches(3, 5)})
+	if _, err := load(Open(dir)); !errors.Is(err, svid.ErrDamaged) || !strings.Contains(err.Error(), "journal.1 is damaged at byte") {
+		t.Errorf("it is opened, or not for that: %v", err)
+	}
+}
+
 // Behind its messages an old file is torn, up to the last byte that is neither zero nor all ones: so a disk may have what was not written.
 func TestWhatIsTornOfAnOldFile(t *testing.T) {
 	for rest, want := range map[string]int{"": 0, "\x00\x00": 0, "\xff\x00\xff": 0, "\x80": 1, "a\xc3\x00\xff": 2, "\x00\x00\x81\x00": 3} {

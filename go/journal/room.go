@@ -2,6 +2,7 @@ package journal
 
 import (
 	"context"
+	"errors"
 	"fmt"
 )
 
@@ -13,7 +14,7 @@ const leastRoom = 16 << 10
 // It puts zeros after the journal where that has less room, so what it finds stays there for the next Append.
 //
 // It waits as Append does: until the disk has answered to the writes before it, or ctx ends. Its error is what Append would
-// return.
+// return, or says that there is no file descriptor or memory to read the ID.
 func (j *Journal) Room(ctx context.Context) error {
 	c, err := j.join(&commit{room: true})
 	if err != nil {
@@ -35,8 +36,11 @@ func (j *Journal) makeRoom() error {
 	case j.old:
 		return errOld
 	}
-	if err := j.sys.there(&j.id); err != nil {
+	switch err := j.sys.there(&j.id); {
+	case errors.Is(err, ErrMoved):
 		return j.end(err)
+	case err != nil:
+		return err
 	}
 	_, at := j.core.Growing()
 	if j.room-at >= j.least {

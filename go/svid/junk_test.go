@@ -173,8 +173,14 @@ func TestAJunkTokenCostsLittle(t *testing.T) {
 		few := j
 		few.few = true
 		// (With each key it would be 26,000 hashes of the token, or thousands of verifications.)
-		if few, many := each(few), each(j); many > 4*few+20*time.Millisecond {
-			t.Errorf("%s: a junk token takes %v of a processor with a mebibyte of keys, and %v with %d keys", j.name, many, few, svid.MaxCandidates)
+		var ofFew, ofMany time.Duration
+		isMore := true
+		for try := 0; try < 3 && isMore; try++ { // (the collector, and other tests of this process, take some of the time)
+			ofFew, ofMany = each(few), each(j)
+			isMore = ofMany > 4*ofFew+20*time.Millisecond
+		}
+		if isMore {
+			t.Errorf("%s: a junk token takes %v of a processor with a mebibyte of keys, and %v with %d keys", j.name, ofMany, ofFew, svid.MaxCandidates)
 		}
 	}
 }

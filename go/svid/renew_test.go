@@ -75,7 +75,7 @@ func beside(v *Validator, renew func() error) (renewal, check time.Duration, err
 }
 
 // A check is not held up by a renewal, however many keys the bundles have. (Other work on the machine may hold it up: so
-// one of several tries is to show it. A check that waited for the bundles to be read would wait for half of the renewal or
+// one of many tries is to show it. A check that waited for the bundles to be read would wait for half of the renewal or
 // all of it, each time.)
 func TestARenewalHoldsUpNoCheck(t *testing.T) {
 	many := manyKeys()
@@ -85,7 +85,7 @@ func TestARenewalHoldsUpNoCheck(t *testing.T) {
 		"Renew":      func() error { return v.Renew(k, many) },
 	} {
 		held := true
-		for try := 0; try < 30 && held; try++ {
+		for end := time.Now().Add(patience.Long); held && time.Now().Before(end); {
 			renewal, check, err := beside(v, renew)
 			if err != nil {
 				t.Fatal(err)

@@ -16,7 +16,7 @@ import (
 // open opens the guard of a test.
 func open(t *testing.T, i *svidtest.Issuer, o guard.Options) *guard.Guard {
 	t.Helper()
-	o.Audiences, o.Bundles = []string{"ledger"}, []bundles.Spec{i.Bundle()}
+	o.Audiences, o.Bundles, o.Wait = []string{"ledger"}, []bundles.Spec{i.Bundle()}, patience.Long // (a busy machine may be slow, and each token is asked once)
 	g, err := guard.Open(o)
 	if err != nil {
 		t.Fatal(err)

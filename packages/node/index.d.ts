@@ -12,6 +12,7 @@ declare global {
   // (what TypeScript 5.2 and the types of Node declare in the same words)
   interface SymbolConstructor {
     readonly dispose: unique symbol;
+    readonly asyncDispose: unique symbol;
   }
   namespace Express {
     interface Request {
@@ -337,8 +338,10 @@ export class Bundles {
   bearer(values: readonly string[]): Bearer;
   /** Frees the bundles. Closing twice does nothing. */
   close(): void;
-  /** Does what `close` does, where the platform has this symbol. */
+  /** Does what `close` does, for `using`, where the platform has that. */
   [Symbol.dispose](): void;
+  /** The same, for `await using`. */
+  [Symbol.asyncDispose](): Promise<void>;
 }
 
 /**
@@ -371,7 +374,10 @@ export class Validator {
    * @param about the time, or an object with the time and the caller. In mode "bound" it must have a caller, and in any other mode none.
    */
   check(token: Token, about?: Seconds | CheckOptions): Promise<Accepted>;
-  /** Answers what `check` would, but the record gains no use: `check` may still accept it. */
+  /**
+   * Answers what `check` would, but the record gains no use: `check` may still accept it. It asks no store and knows no caller: a token that another
+   * validator accepted, or, in mode "bound", another caller's, may seem good to it.
+   */
   judge(token: Token, now?: Seconds): Promise<Accepted>;
   /**
    * Withdraws a token until it expires: from now on it is refused as `Withdrawn`. Send the `message` of its result to the other validators.
@@ -418,8 +424,10 @@ export class Validator {
   renew(bundles: BundleSet): void;
   /** Frees the record and the bundles, and ends once it has let go of the state folder. Closing twice does nothing. */
   close(): Promise<void>;
-  /** Does what `close` does, where the platform has this symbol. */
+  /** Begins what `close` does, for `using`, where the platform has that. Take `await using` with a state folder. */
   [Symbol.dispose](): void;
+  /** Does what `close` does, for `await using`. */
+  [Symbol.asyncDispose](): Promise<void>;
 }
 
 /** A request, as Express and node:http have it. */
@@ -452,7 +460,7 @@ export interface GuardOptions<Request extends Incoming = Incoming> {
    * RangeError.
    */
   openPaths?: string | readonly string[];
-  /** Is told why a request was answered with status 503. By default `console.error`. */
+  /** Is told why a request was answered with status 503. By default `console.error` has the reason alone, since a request has its token. */
   onError?: (why: unknown, req: Request) => void;
   /** Is told of each `Refusal`, and of each `NotAllowed`. By default nobody is. */
   onRefusal?: (why: Refusal | NotAllowed, req: Request) => void;

@@ -1,7 +1,7 @@
 // What a service needs to test its own use of this package: an issuer, a clock, and a store in memory. What everything does stands in testing.d.ts.
 
 import { Buffer } from "node:buffer";
-import { generateKeyPairSync, randomUUID, sign } from "node:crypto";
+import { createPrivateKey, createPublicKey, generateKeyPairSync, randomUUID, sign } from "node:crypto";
 
 export { MemoryStore } from "./src/stores.js";
 
@@ -86,6 +86,9 @@ export class Issuer {
   }
 }
 
+// (The key is read again: Node 20 hangs for ever if its collector comes while it writes a key as JWK that it has just made. What made it has the same lock.)
 function keyOf(kid) {
-  return { kid, ...generateKeyPairSync("ec", { namedCurve: "P-256" }) };
+  const type = "pkcs8", format = "der", publicKeyEncoding = { type: "spki", format };
+  const made = generateKeyPairSync("ec", { namedCurve: "P-256", publicKeyEncoding, privateKeyEncoding: { type, format } });
+  return { kid, privateKey: createPrivateKey({ key: made.privateKey, format, type }), publicKey: createPublicKey({ key: made.publicKey, ...publicKeyEncoding }) };
 }

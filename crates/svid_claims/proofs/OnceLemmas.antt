@@ -11,7 +11,7 @@ use Rattle.svid_claims.proofs.GroupsLemmas.{Grows, Sound, grows_on, happen_grows
 use Rattle.svid_claims.proofs.RowsLemmas.{is_same, same_is}
 
 module _ (t : Terms) where
-  -- A claim by which a member accepted: the store answered in front of its expiry, up to the margin; the token lives not too long by the answer's
+  -- A claim by which a member accepted: the store answered before its expiry, up to the margin; the token lives not too long by the answer's
   -- time, and longer than its `deaf`.
   pub record Claimed (w : World) (c : Answer) : Type 0 where
     pub index : ℕ

@@ -35,7 +35,7 @@ pub last_index : {A : Type 0} (xs : List A) (y : A) → slice_get (xs ++ y ∷ [
 last_index [] y = refl
 last_index (z ∷ xs) y = last_index xs y
 
--- what stands in it stood there in front of its end, or is its end
+-- what stands in it stood there already, or is its end
 pub index_cases : {A : Type 0} (xs : List A) (y : A) (k : ℕ) (x : A) → slice_get (xs ++ y ∷ []) k ≡ Some x → ((slice_get xs k ≡ Some x) × (k < length xs)) ⊎ ((y ≡ x) × (k ≡ length xs))
 index_cases [] y zero x e = inr (same_Some y x e, refl)
 index_cases [] y (suc k) x e = absurd (none-some x e)

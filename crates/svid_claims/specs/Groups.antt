@@ -45,7 +45,7 @@ pub record World : Type 0 where
   pub answers : List Answer
 
 -- What a group has for good: whether a token may be used once (`strict`), or any number of times by one owner; how long past its expiry a store
--- keeps an entry; how far a store's clock may step back behind what it has removed; how many seconds past a store's time a token may expire;
+-- keeps an entry; how far a store's clock may step back to before what it has removed; how many seconds past a store's time a token may expire;
 -- how far a member lets a store's time be ahead of its own; the store of a key; and, where the group is strict, the owner that a member
 -- claims for in each of its lives, by the token's expiry.
 pub record Terms : Type 0 where

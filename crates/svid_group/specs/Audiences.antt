@@ -55,7 +55,7 @@ TakesEach now far x (b ∷ batches) y = (next : State) × Takes (raised_to x now
 abbrev pub RecordsAreTakenOver : Type 0
 RecordsAreTakenOver = (x y : State) (batches : List BatchData) (now far : ℕ) → IsRecord x → Carry batches x → now ≤ x.moment → TakesEach now far (state_of 0 []) batches y → y ≡ x
 
--- a member that reads on from where another one is, with the uses beside its record, and behind as many earlier lives
+-- a member that reads on from where another one is, with the uses beside its record, and after as many earlier lives
 abbrev pub reads_on : MemberState → MemberState
 reads_on m = restored m.validator_id m.lasts (mark_of m) m.ready (uses_in (saved_of m.beside))
 

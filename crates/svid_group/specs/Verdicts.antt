@@ -32,7 +32,7 @@ GoesOn v (Call (Renew n renewal)) = n ≢ v
 GoesOn v (Anew n front until) = n ≢ v
 GoesOn v _ = Unit {0}
 
--- so it is where the validator judges a token, which is a tick, and accepts its claim behind any events with which it goes on
+-- so it is where the validator judges a token, which is a tick, and accepts its claim after any events with which it goes on
 abbrev pub JudgedAreVerdicts : Type 0
 JudgedAreVerdicts = (group : ℕ → Terms) (w : World) (v at now : ℕ) (token : List ℕ) (refused : Bool) (a : Accepted) (between : List Event) (c : Use)
     → let z = happen group (happens group w (Call (Tick v at))) between in
@@ -40,7 +40,7 @@ JudgedAreVerdicts = (group : ℕ → Terms) (w : World) (v at now : ℕ) (token 
     answer_at group w.group v at token refused ≡ Ok a → AllByRecursion (GoesOn v) between → IsClaimOf c a.used
     → Accepts group z v now c → verdict (setting_at group z.group v) y.moment y.uses token ≡ Ok (Some (made_at y.moment a))
 
--- and so with the setting of a renewal, where the token is judged once more behind it
+-- and so with the setting of a renewal, where the token is judged once more after it
 abbrev pub RenewedAreVerdicts : Type 0
 RenewedAreVerdicts = (group : ℕ → Terms) (w : World) (v at now : ℕ) (renewal : Renewal) (token : List ℕ) (refused : Bool) (a : Accepted) (c : Use)
     → let x = happens group w (Call (Renew v renewal)) in

@@ -49,7 +49,7 @@ func (g *Group) ask(ctx context.Context, wait time.Duration, what string, in, ou
 			return err
 		}
 	}
-	m, err := g.conn.RequestWithContext(ctx, "$JS.API."+what, request)
+	m, err := g.connection().RequestWithContext(ctx, "$JS.API."+what, request)
 	if err != nil {
 		return err
 	}

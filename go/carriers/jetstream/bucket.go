@@ -76,7 +76,7 @@ func bucketOf(info streamInfo) bucket {
 
 // makeBucket makes the bucket. That two members do so at once is no error: both ask for the same one.
 func (g *Group) makeBucket() error {
-	_, err := g.js.AddStream(&nats.StreamConfig{
+	_, err := g.jetStream().AddStream(&nats.StreamConfig{
 		Name:                 g.stream,
 		Description:          "uses and withdrawals of JWT-SVIDs",
 		Subjects:             []string{g.subject + ">"},

@@ -4,12 +4,16 @@ import (
 	"context"
 	"encoding/json"
 	"errors"
+	"fmt"
+	"os/exec"
 	"strings"
+	"sync/atomic"
 	"testing"
 	"time"
 
 	"github.com/nats-io/nats.go"
 
+	"svid.example/go/v3/internal/broker"
 	"svid.example/go/v3/internal/natstest"
 	"svid.example/go/v3/internal/patience"
 	"svid.example/go/v3/internal/streams"
@@ -163,6 +167,44 @@ func TestSettingsOfTheFuture(t *testing.T) {
 		if err := g.keeps(c); (err == nil) != good {
 			t.Errorf("%s: %v", text, err)
 		}
+	}
+}
+
+// Members that start together may each ask a cluster for the bucket, and one that was made first may be made again. The one that stays counts.
+func TestABucketThatAClusterMakesTwice(t *testing.T) {
+	t.Parallel()
+	ports, err := broker.FreePorts(1)
+	if err != nil {
+		t.Fatal(err)
+	}
+	address := fmt.Sprintf("127.0.0.1:%d", ports[0])
+	server := exec.Command("nats-server", "-a", "127.0.0.1", "-p", fmt.Sprint(ports[0])) // (without JetStream: the test answers)
+	if err := server.Start(); err != nil {
+		t.Fatal(err)
+	}
+	t.Cleanup(func() { server.Process.Kill(); server.Wait() })
+	nc := natstest.Connect(t, "nats://"+address)
+	g := &Group{conn: nc, stream: "KV_test", subject: "$KV.test.", options: options(1)}
+	g.options.Replicas = 3
+	first := time.Unix(1700000000, 0).UTC()
+	second := first.Add(time.Second)
+	var looks atomic.Int64
+	config := due("test")
+	config["max_msgs"], config["max_bytes"], config["max_consumers"], config["max_msg_size"], config["num_replicas"] = -1, -1, -1, -1, 3
+	_, err = nc.Subscribe("$JS.API.STREAM.INFO.KV_test", func(m *nats.Msg) {
+		made := first
+		if looks.Add(1) >= settled {
+			made = second
+		}
+		text, _ := json.Marshal(map[string]any{"config": config, "created": made, "state": map[string]any{}})
+		_ = m.Respond(text)
+	})
+	if err != nil {
+		t.Fatal(err)
+	}
+	b, err := g.openBucket(patient(t), 0)
+	if err != nil || !b.created.Equal(second) || looks.Load() < 2*settled-1 {
+		t.Errorf("after %d looks it was made at %v: %v", looks.Load(), b.created, err)
 	}
 }
 

@@ -100,8 +100,9 @@ func (g *Group) feedFrom(position uint64, wait time.Duration) (f *feed, isSlow b
 		return nil, false, err
 	}
 	f = newFeed(g)
-	inbox := g.conn.NewInbox()
-	f.inbox, err = g.conn.Subscribe(inbox, f.arrive)
+	nc := g.connection()
+	inbox := nc.NewInbox()
+	f.inbox, err = nc.Subscribe(inbox, f.arrive)
 	if err != nil {
 		return nil, false, err
 	}
@@ -317,7 +318,7 @@ func (f *feed) pop() *gathered {
 func (f *feed) control(c *control) (isOther bool, err error) {
 	for _, asks := range c.asks {
 		if strings.HasPrefix(asks, "$JS.FC."+f.group.stream+".") {
-			if err := f.group.conn.Publish(asks, nil); err != nil {
+			if err := f.group.connection().Publish(asks, nil); err != nil {
 				return false, err
 			}
 		}

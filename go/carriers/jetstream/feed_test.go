@@ -136,9 +136,17 @@ func TestTheRoomOfWhatIsGatheredCounts(t *testing.T) {
 	value := func(n int, data []byte) *nats.Msg {
 		return &nats.Msg{Sub: &nats.Subscription{}, Data: data, Reply: fmt.Sprintf("$JS.ACK.KV_test.c.1.%d.%d.1700000000000000000.0", n, n)}
 	}
+	long := strings.Repeat("k", 4000) // (a server takes no line of more than 4,096 bytes)
 	for what, small := range map[string]func(f *feed, n int){
 		"other messages": func(f *feed, n int) { f.arrive(&nats.Msg{}) },
 		"small values":   func(f *feed, n int) { f.arrive(value(n, []byte("a"))); f.arrive(&nats.Msg{}) },
+		"long keys": func(f *feed, n int) {
+			for i := 0; i < mostAtOnce/2; i++ { // (numbers rise by one)
+				m := value(2+(n-2)*mostAtOnce/2+i, []byte("a"))
+				m.Subject = long
+				f.arrive(m)
+			}
+		},
 	} {
 		f := newFeed(&Group{stream: "KV_test", life: context.Background()})
 		f.name("c")
@@ -174,7 +182,7 @@ func TestTheRoomOfWhatIsGatheredCounts(t *testing.T) {
 			t.Errorf("%s: %d bytes of room", what, room)
 		}
 		close(f.done)
-		<-came
+		awaitEnd(t, what+" to end", came)
 	}
 }
 

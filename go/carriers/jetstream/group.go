@@ -39,10 +39,12 @@ import (
 	"svid.example/go/v3/carriers"
 	"svid.example/go/v3/claims"
 	"svid.example/go/v3/internal/brief"
+	"svid.example/go/v3/internal/pause"
 )
 
 const (
 	connectWait  = 250 * time.Millisecond // between two tries to reach a server
+	replaceEvery = 10 * time.Second       // a connection takes the place of another one that the client gave up
 	pingEvery    = 5 * time.Second        // a server that misses two pings counts as gone
 	attemptWait  = time.Second            // for the broker's answer, before it is asked again
 	firstWait    = attemptWait / 4        // the same where a value is put for the first time: its server may have been restarted
@@ -116,12 +118,15 @@ func (o Options) Join(ctx context.Context, as carriers.Options, s carriers.Sink)
 // A Group is a member's tie to the others. Its methods may be called from many goroutines at once.
 type Group struct {
 	options Options
-	stream  string // the bucket's stream
-	subject string // what its keys' subjects begin with
+	stream  string       // the bucket's stream
+	subject string       // what its keys' subjects begin with
+	linking sync.RWMutex // guards the four below
 	conn    *nats.Conn
+	linked  time.Time // when conn began
 	js      nats.JetStreamContext
-	member  string   // this member's name in keys
-	secret  [32]byte // what the tags of its keys are made from
+	hear    func(*nats.Conn) // lets a connection hear summaries; nil before Summaries
+	member  string           // this member's name in keys
+	secret  [32]byte         // what the tags of its keys are made from
 
 	stored atomic.Uint64 // the position of the last own value that the broker has stored, as far as it has said so
 
@@ -131,8 +136,7 @@ type Group struct {
 	aside  atomic.Uint64
 	quiet  carriers.Quiet // of values that were put aside
 	asked  carriers.Quiet // of summaries that could not be answered
-	faults carriers.Quiet // that the client reports of the broker
-	fault  string
+	faults brief.Causes   // that the client reports of the broker: its goroutine alone uses them
 
 	ready chan struct{}
 	life  context.Context // ends with Close
@@ -192,25 +196,34 @@ func (o Options) check() error {
 	return nil
 }
 
-// connect tries until a server answers or ctx ends.
+// connect tries until a server answers or ctx ends. At some errors of the broker, as that a limit is exceeded, the client gives a connection up:
+// then another one takes its place.
 func (g *Group) connect(ctx context.Context) error {
 	options := append([]nats.Option{
 		nats.Name("svidd " + hex.EncodeToString(g.options.ValidatorID[:])),
 		nats.NoEcho(), // A member's summary goes to another one.
 		nats.MaxReconnects(-1),
+		nats.IgnoreAuthErrorAbort(), // A broker may refuse a member until its users, or the member's credentials, are other ones.
 		nats.ReconnectWait(connectWait),
 		nats.ReconnectBufSize(-1), // What can't be sent now fails now, and its caller tries again.
 		nats.PingInterval(pingEvery),
 		nats.MaxPingsOutstanding(2),
-		nats.DisconnectErrHandler(func(_ *nats.Conn, err error) { g.log("broker lost", "why", err) }),
-		nats.ReconnectHandler(func(nc *nats.Conn) { g.log("broker found", "server", nc.ConnectedUrlRedacted()) }),
-		nats.ErrorHandler(func(_ *nats.Conn, _ *nats.Subscription, err error) {
-			held, ok := g.faults.Speak(time.Now())
-			if ok || err.Error() != g.fault { // The client calls this in one goroutine.
-				g.log("broker says", "why", err, "unlogged", held)
+		nats.DisconnectErrHandler(func(nc *nats.Conn, err error) {
+			if last := nc.LastError(); last != nil && nc.IsClosed() {
+				err = last
 			}
-			g.fault = err.Error()
+			g.log("broker lost", "why", err)
 		}),
+		nats.ClosedHandler(func(nc *nats.Conn) {
+			if g.connection() == nc && g.life.Err() == nil {
+				go g.replace()
+			}
+		}),
+		nats.ReconnectHandler(func(nc *nats.Conn) {
+			g.faults.Forget()
+			g.log("broker found", "server", nc.ConnectedUrlRedacted())
+		}),
+		nats.ErrorHandler(func(_ *nats.Conn, _ *nats.Subscription, err error) { g.brokerSays(err) }),
 	}, g.options.Connect...)
 	said := ""
 	return carriers.Persist(ctx, "group: connect", func() (bool, error) {
@@ -224,16 +237,68 @@ func (g *Group) connect(ctx context.Context) error {
 			nc.Close()
 			return true, err
 		}
-		g.conn, g.js = nc, js
+		if !g.link(nc, js) {
+			nc.Close()
+			return true, nats.ErrConnectionClosed
+		}
 		return true, nil
 	})
+}
+
+// brokerSays logs what the client reports. It may report the same many times a second.
+func (g *Group) brokerSays(err error) {
+	if g.faults.IsNew(time.Now(), err) {
+		g.log("broker says", "why", err)
+	}
+}
+
+// replace connects again, where the client has given up. What reads the bucket finds that out by the silence of its feed.
+func (g *Group) replace() {
+	g.linking.RLock()
+	rest := replaceEvery - time.Since(g.linked)
+	g.linking.RUnlock()
+	if !pause.For(g.life, rest) || g.connect(g.life) != nil {
+		return
+	}
+	nc := g.connection()
+	g.log("broker found", "server", nc.ConnectedUrlRedacted())
+	g.linking.RLock()
+	defer g.linking.RUnlock()
+	if g.hear != nil {
+		g.hear(nc)
+	}
+}
+
+// link lets a connection count, unless the group was closed meanwhile.
+func (g *Group) link(nc *nats.Conn, js nats.JetStreamContext) bool {
+	g.linking.Lock()
+	defer g.linking.Unlock()
+	if g.life.Err() != nil {
+		return false
+	}
+	g.conn, g.js, g.linked = nc, js, time.Now()
+	return true
+}
+
+// connection is the one that counts.
+func (g *Group) connection() *nats.Conn {
+	g.linking.RLock()
+	defer g.linking.RUnlock()
+	return g.conn
+}
+
+// jetStream is that of the connection.
+func (g *Group) jetStream() nats.JetStreamContext {
+	g.linking.RLock()
+	defer g.linking.RUnlock()
+	return g.js
 }
 
 // Ready is closed once the sink was given every value that the bucket held when this member joined.
 func (g *Group) Ready() <-chan struct{} { return g.ready }
 
 // Connected says whether the broker is there at this moment.
-func (g *Group) Connected() bool { return g.conn.IsConnected() }
+func (g *Group) Connected() bool { return g.connection().IsConnected() }
 
 // Taken returns how many values the sink took.
 func (g *Group) Taken() uint64 { return g.taken.Load() }
@@ -267,7 +332,7 @@ func (g *Group) Put(ctx context.Context, kind Kind, number uint64, message []byt
 			wait = attemptWait
 		}
 		m := &nats.Msg{Subject: subject, Header: nats.Header{}, Data: message}
-		ack, err := g.js.PublishMsg(m, nats.Context(attempt), nats.ExpectLastSequencePerSubject(0))
+		ack, err := g.jetStream().PublishMsg(m, nats.Context(attempt), nats.ExpectLastSequencePerSubject(0))
 		switch {
 		case err == nil:
 			g.isStored(ack.Sequence)
@@ -305,8 +370,10 @@ func (g *Group) isStored(position uint64) {
 
 // Close ends what Join and Summaries began, and lets go of the broker. It returns when no Take is under way.
 func (g *Group) Close() error {
+	g.linking.Lock()
 	g.end()
-	g.conn.Close() // It ends each wait for a message.
+	g.linking.Unlock()
+	g.connection().Close() // It ends each wait for a message.
 	g.tasks.Wait()
 	return nil
 }
@@ -343,8 +410,8 @@ func (g *Group) take(values []Value) {
 
 // logChange logs why something does not work that is tried again and again, when that is something else than said.
 func (g *Group) logChange(said *string, event string, why error) {
-	if *said != why.Error() {
-		*said = why.Error()
+	if cause := brief.Cause(why); *said != cause {
+		*said = cause
 		g.log(event, "why", why)
 	}
 }

@@ -9,6 +9,7 @@ import (
 	"io"
 	"net"
 	"os"
+	"path/filepath"
 	"regexp"
 	"runtime"
 	"strings"
@@ -125,15 +126,25 @@ func (m *member) log(event string, fields ...any) {
 	m.lines = append(m.lines, fmt.Sprint(append([]any{event}, fields...)...))
 }
 
-func (m *member) logged(text string) bool {
+// said are the lines so far.
+func (m *member) said() []string {
+	m.logMu.Lock()
+	defer m.logMu.Unlock()
+	return append([]string(nil), m.lines...)
+}
+
+func (m *member) logged(text string) bool { return m.logs(text) > 0 }
+
+// logs is how many lines have a text.
+func (m *member) logs(text string) (n int) {
 	m.logMu.Lock()
 	defer m.logMu.Unlock()
 	for _, line := range m.lines {
 		if strings.Contains(line, text) {
-			return true
+			n++
 		}
 	}
-	return false
+	return n
 }
 
 func options(id byte, urls ...string) Options {
@@ -157,12 +168,18 @@ func join(t *testing.T, o Options) *member {
 	}
 	m.Group = g
 	t.Cleanup(func() { g.Close() })
-	select {
-	case <-g.Ready():
-	case <-time.After(patience.Long):
-		t.Fatal("not ready")
-	}
+	awaitEnd(t, "a member to be ready", g.Ready())
 	return m
+}
+
+// awaitEnd waits until a channel is closed.
+func awaitEnd(t *testing.T, what string, end <-chan struct{}) {
+	t.Helper()
+	select {
+	case <-end:
+	case <-time.After(patience.Long):
+		t.Fatalf("waited %v for %s", patience.Long, what)
+	}
 }
 
 func tell(t *testing.T, m *member, n int) []byte {
@@ -205,7 +222,7 @@ func TestTellsTheOthers(t *testing.T) {
 	wantBegins(t, a, Log{})
 	wantBegins(t, c, Log{Ready: 192})
 	if a.Aside() != 0 {
-		t.Error(a.Aside(), a.lines)
+		t.Error(a.Aside(), a.said())
 	}
 }
 
@@ -289,7 +306,7 @@ func wantOneOrder(t *testing.T, members []*member, want int) {
 		natstest.Await(t, "all values", func() bool { return len(m.inOrder()) >= want })
 		got := m.inOrder()
 		if n := len(m.begins()); n != 1 {
-			t.Fatalf("member %d began %d times: %v", i, n, m.lines)
+			t.Fatalf("member %d began %d times: %v", i, n, m.said())
 		}
 		if first == nil {
 			first = got
@@ -551,7 +568,7 @@ func TestAGapIsTold(t *testing.T) {
 		Value{Kind: Uses, Position: 4, Message: last})
 	wantBegins(t, b, Log{})
 	if !b.logged("values are gonefrom2to2") {
-		t.Error(b.lines)
+		t.Error(b.said())
 	}
 }
 
@@ -582,7 +599,7 @@ func TestAGapInFrontOfTheFirstValueIsTold(t *testing.T) {
 		p.hold(false)
 		awaitHeld(t, b, last)
 		if !b.logged("values are gone") || !b.logged(errGone.Error()) {
-			t.Error(b.lines)
+			t.Error(b.said())
 		}
 		next := tell(t, a, 3+10*round)
 		awaitHeld(t, b, next)
@@ -628,7 +645,7 @@ func TestWhatIsGoneBeforeAMemberJoins(t *testing.T) {
 	wantBegins(t, b, Log{Passed: 2, Ready: 3, Missed: true})
 	const front = "values before the first one are gone"
 	if !b.logged(front) || !b.logged(errGone.Error()) || a.logged(front) {
-		t.Error(b.lines, a.lines)
+		t.Error(b.said(), a.said())
 	}
 	by.edit(func(c *nats.StreamConfig) { c.MaxAge, c.Duplicates = 100*time.Millisecond, 100*time.Millisecond })
 	by.awaitLeft(0)
@@ -636,7 +653,7 @@ func TestWhatIsGoneBeforeAMemberJoins(t *testing.T) {
 	o.TTL = 100 * time.Millisecond
 	c := join(t, o)
 	if !c.logged(front) || c.logged(errGone.Error()) {
-		t.Error(c.lines)
+		t.Error(c.said())
 	}
 	wantBegins(t, c, Log{Passed: 3, Ready: 3})
 }
@@ -683,7 +700,7 @@ func TestValuesThatWereReadAreNoGap(t *testing.T) {
 	for _, m := range []*member{a, b, c} {
 		awaitHeld(t, m, last)
 		if got := m.inOrder(); got[len(got)-1].Position != 4 || m.logged("values are gone") || len(m.begins()) != 1 {
-			t.Errorf("%+v %v", got, m.lines)
+			t.Errorf("%+v %v", got, m.said())
 		}
 	}
 }
@@ -733,7 +750,7 @@ func TestValuesAtPositionsThatWereReadBefore(t *testing.T) {
 	}
 	wantBegins(t, b, Log{}, Log{Ready: 4, Missed: true})
 	if !b.logged("the broker has lost values") {
-		t.Error(b.lines)
+		t.Error(b.said())
 	}
 }
 
@@ -761,8 +778,10 @@ func whileEnded(t *testing.T, end func(*broker.Server)) {
 			end(s)
 			time.Sleep(time.Second)
 			restart(t, s)
-			for replicas(members[0]) < 3 && !t.Failed() {
-				time.Sleep(10 * time.Millisecond)
+			for look, late := patience.Looks(), time.Now().Add(patience.Long); replicas(members[0]) < 3 && !t.Failed(); look() {
+				if time.Now().After(late) {
+					t.Errorf("waited %v for the three servers to have the bucket as it is", patience.Long)
+				}
 			}
 		}
 	}()
@@ -778,7 +797,7 @@ func whileEnded(t *testing.T, end func(*broker.Server)) {
 	wantOneOrder(t, members, 6*n)
 	for _, m := range members {
 		if m.logged("values are gone") || m.logged("lost values") {
-			t.Error(m.lines)
+			t.Error(m.said())
 		}
 	}
 	t.Logf("%d values, read by three members in one order", 6*n)
@@ -864,7 +883,7 @@ func TestValuesAreTakenAtOnce(t *testing.T) {
 		t.Fatal(err)
 	}
 	t.Cleanup(func() { g.Close() })
-	<-g.Ready()
+	awaitEnd(t, "a member to be ready", g.Ready())
 	if len(b.held) != 1000 || g.Taken() != 1000 || g.Aside() != 3 || b.most < 2 || b.most > mostAtOnce {
 		t.Errorf("%d held, %d taken, %d aside, %d at once", len(b.held), g.Taken(), g.Aside(), b.most)
 	}
@@ -921,7 +940,7 @@ func TestReadyThoughTheLastValuesAreGone(t *testing.T) {
 	}
 	awaitHeld(t, b, tell(t, b, 9))
 	if b.logged("reading the bucket anew") {
-		t.Error(b.lines)
+		t.Error(b.said())
 	}
 }
 
@@ -949,6 +968,44 @@ func TestJoinWaitsForABroker(t *testing.T) {
 	restart(t, s)
 	if err := <-joined; err != nil {
 		t.Fatal(err)
+	}
+}
+
+// A broker that refuses a member is asked again and again, and the log says so once.
+func TestABrokerThatRefusesIsToldOnce(t *testing.T) {
+	t.Parallel()
+	server, err := net.Listen("tcp", "127.0.0.1:0")
+	if err != nil {
+		t.Fatal(err)
+	}
+	defer server.Close()
+	var asked atomic.Int64
+	go func() {
+		for {
+			c, err := server.Accept()
+			if err != nil {
+				return
+			}
+			go func() {
+				defer c.Close()
+				io.WriteString(c, "INFO {}\r\n-ERR 'Authorization Violation'\r\n")
+				io.Copy(io.Discard, c)
+				asked.Add(1)
+			}()
+		}
+	}()
+	m, o := &member{}, options(1, "nats://"+server.Addr().String())
+	o.Log = m.log
+	ctx, cancel := context.WithCancel(context.Background())
+	ended := make(chan struct{})
+	go func() {
+		defer close(ended)
+		_, err = Join(ctx, o, &sink{})
+	}()
+	natstest.Await(t, "tries", func() bool { return asked.Load() > 3 })
+	cancel()
+	if awaitEnd(t, "the end of who joins", ended); err == nil || m.logs("broker not reached") != 1 {
+		t.Errorf("%v, and the log says %v", err, m.said())
 	}
 }
 
@@ -997,7 +1054,7 @@ func TestSummariesBringBackWhatWasLost(t *testing.T) {
 	}
 	natstest.Await(t, "20,000 uses", func() bool { return got() == 20000 })
 	if b.Aside() != 0 {
-		t.Error(b.Aside(), b.lines)
+		t.Error(b.Aside(), b.said())
 	}
 }
 
@@ -1005,14 +1062,12 @@ func TestSummariesOfOneMember(t *testing.T) {
 	t.Parallel()
 	s := natstest.Start(t)
 	a := join(t, options(1, s.URL))
-	asked := make(chan bool, 100)
-	a.Summaries(time.Millisecond, func() ([]byte, error) { asked <- true; return []byte("of a"), nil },
+	var asked atomic.Int32
+	a.Summaries(time.Millisecond, func() ([]byte, error) { asked.Add(1); return []byte("of a"), nil },
 		func([]byte, int) ([][]byte, error) { t.Error("a member answers itself"); return nil, nil })
-	for i := 0; i < 5; i++ {
-		<-asked
-	}
+	natstest.Await(t, "five summaries", func() bool { return asked.Load() >= 5 })
 	if a.logged("no answer") {
-		t.Error(a.lines)
+		t.Error(a.said())
 	}
 }
 
@@ -1026,6 +1081,77 @@ func TestABrokerThatIsAwayForLong(t *testing.T) {
 	}
 }
 
+// A broker that refuses a member for a while, as one whose users are changed first, is found again by itself.
+func TestABrokerThatRefusesForAWhile(t *testing.T) {
+	t.Parallel()
+	file := filepath.Join(t.TempDir(), "nats.conf")
+	users := func(password string) {
+		text := `accounts: { svid: { jetstream: enabled, users: [ { user: admin, password: secret }, { user: member, password: ` + password + ` } ] } }
+no_auth_user: admin
+`
+		if err := os.WriteFile(file, []byte(text), 0o600); err != nil {
+			t.Fatal(err)
+		}
+	}
+	users("known")
+	s := natstest.Start(t, "-c", file)
+	var refused atomic.Int32
+	o := options(1, s.URL)
+	var joined atomic.Pointer[Group]
+	o.Connect = []nats.Option{nats.UserInfo("member", "known"), nats.ErrorHandler(func(_ *nats.Conn, _ *nats.Subscription, err error) {
+		if g := joined.Load(); g != nil {
+			refused.Add(1)
+			g.brokerSays(err)
+		}
+	})}
+	a := join(t, o)
+	joined.Store(a.Group)
+	from := time.Now()
+	for _, password := range []string{"other", "known"} {
+		users(password)
+		s.Kill()
+		restart(t, s)
+		natstest.Await(t, "the broker to refuse the member", func() bool { return refused.Load() > 3 || a.conn.IsClosed() })
+		if a.conn.IsClosed() {
+			t.Fatal("the client has given up")
+		}
+	}
+	awaitHeld(t, a, tell(t, a, 1))
+	if lines, minutes := a.logs("broker says"), int(time.Since(from)/time.Minute); lines == 0 || lines > 1+minutes {
+		t.Errorf("%d refusals are %d lines", refused.Load(), lines)
+	}
+}
+
+// The client gives a connection up where the broker says that a limit is exceeded. Once the limit is another one, the group has another connection:
+// values come by it, and summaries.
+func TestABrokerWhoseLimitIsExceededForAWhile(t *testing.T) {
+	t.Parallel()
+	file := filepath.Join(t.TempDir(), "nats.conf")
+	limit := func(text string) {
+		if err := os.WriteFile(file, []byte(text), 0o600); err != nil {
+			t.Fatal(err)
+		}
+	}
+	limit("")
+	s := natstest.Start(t, "-c", file)
+	a, b := join(t, options(1, s.URL)), join(t, options(2, s.URL))
+	var asked atomic.Int32
+	b.Summaries(time.Hour, func() ([]byte, error) { return []byte("of b"), nil }, func([]byte, int) ([][]byte, error) { asked.Add(1); return nil, nil })
+	first := []*nats.Conn{a.connection(), b.connection()}
+	limit("max_subscriptions: 1")
+	s.Kill()
+	restart(t, s)
+	for _, nc := range first {
+		natstest.Await(t, "the end of a connection", nc.IsClosed)
+	}
+	limit("")
+	s.Kill()
+	restart(t, s)
+	awaitHeld(t, b, tell(t, a, 1))
+	a.Summaries(10*time.Millisecond, func() ([]byte, error) { return []byte("of a"), nil }, func([]byte, int) ([][]byte, error) { return nil, nil })
+	natstest.Await(t, "a summary", func() bool { return asked.Load() > 0 })
+}
+
 // Servers that have no leader give no answer, however long one waits. So a longer wait for the next one is of no use.
 func TestServersWithoutALeaderAreNotSlow(t *testing.T) {
 	t.Parallel()
@@ -1036,10 +1162,13 @@ func TestServersWithoutALeaderAreNotSlow(t *testing.T) {
 	servers[1].Kill()
 	servers[2].Kill()
 	natstest.Await(t, "the server that is left", func() bool { return a.Connected() && a.conn.ConnectedUrl() == servers[0].URL })
-	natstest.Await(t, "the end of its time as a leader", func() bool { return !servers[0].Answers() })
-	if _, isSlow, err := a.feedFrom(1, readWait); err == nil || isSlow {
-		t.Errorf("%v, slow: %v", err, isSlow)
-	}
+	natstest.Await(t, "the end of its time as a leader, and an answer that is not slow", func() bool {
+		f, isSlow, err := a.feedFrom(1, readWait)
+		if err == nil {
+			f.close()
+		}
+		return err != nil && !isSlow
+	})
 }
 
 // A member is ready with the last value that the bucket held when it joined, and not before.
@@ -1159,6 +1288,66 @@ func TestPositionsThatWereReadBefore(t *testing.T) {
 	}
 }
 
+// A guarded is a sink that looks whether another call could reach it now.
+type guarded struct {
+	group *Group
+	calls int
+	open  bool
+}
+
+func (s *guarded) look() {
+	s.calls++
+	if s.group.taking.TryLock() {
+		s.group.taking.Unlock()
+		s.open = true
+	}
+}
+
+func (s *guarded) Begin(Log)                   { s.look() }
+func (s *guarded) Take(values []Value) []error { s.look(); return nil }
+
+// A sink is called by one goroutine at a time, though answers of others come beside what is read.
+func TestASinkIsCalledOnceAtATime(t *testing.T) {
+	t.Parallel()
+	s := &guarded{group: new(Group)}
+	s.group.sink = s
+	s.group.begin(Log{})
+	s.group.take([]Value{{Kind: Answer}})
+	if s.calls != 2 || s.open {
+		t.Errorf("%d calls; another one could come meanwhile: %v", s.calls, s.open)
+	}
+}
+
+// A member that asks for its own values by itself takes none that stand after another value than the last one that it has read: the brokers have lost
+// some, and gave their positions to others.
+func TestAPullBehindALoss(t *testing.T) {
+	t.Parallel()
+	a := join(t, options(1, natstest.Start(t).URL))
+	for n := 1; n < 4; n++ {
+		tell(t, a, n)
+	}
+	first, err := a.get(patient(t), patience.Long, map[string]any{"seq": 1})
+	if err != nil {
+		t.Fatal(err)
+	}
+	at := func(stamp time.Time) (*reader, *sink) {
+		s := &sink{}
+		g := &Group{conn: a.conn, stream: a.stream, subject: a.subject, sink: s, ready: make(chan struct{}), life: patient(t)}
+		g.stored.Store(3)
+		return &reader{group: g, bucket: bucket{first: 1, last: 3, created: time.Now()}, seen: 1, stamp: stamp}, s
+	}
+	same, taken := at(first.Time)
+	natstest.Await(t, "the next values", func() bool { same.pull(); return same.seen == 3 })
+	if got := len(taken.inOrder()); got != 2 {
+		t.Errorf("%d values", got)
+	}
+	other, none := at(first.Time.Add(time.Nanosecond))
+	other.pull()
+	if got := len(none.inOrder()); got != 0 || other.seen != 1 {
+		t.Errorf("behind another value %d were taken, up to %d", got, other.seen)
+	}
+}
+
 // A server that was just elected may say at first that the bucket has less than it has. That is no loss; what it says for a while
 // is one.
 func TestWhatABrokerSaysOfALoss(t *testing.T) {
@@ -1234,7 +1423,7 @@ func TestCloseInTheMidstOfValues(t *testing.T) {
 	if err != nil {
 		t.Fatal(err)
 	}
-	<-b.begun
+	awaitEnd(t, "the first values", b.begun)
 	closed := make(chan struct{})
 	go func() { defer close(closed); g.Close() }()
 	natstest.Await(t, "the end of the connection", func() bool { return !g.Connected() })
@@ -1244,7 +1433,7 @@ func TestCloseInTheMidstOfValues(t *testing.T) {
 	default:
 	}
 	close(b.free)
-	<-closed
+	awaitEnd(t, "the group to be closed", closed)
 	natstest.Await(t, "the end of its goroutines", func() bool { return runtime.NumGoroutine() <= before })
 }
 
@@ -1252,6 +1441,18 @@ func TestCloseInTheMidstOfValues(t *testing.T) {
 func TestCloseLeavesNothing(t *testing.T) {
 	s := natstest.Start(t)
 	before := runtime.NumGoroutine()
+	// (so does a member that gave up as it joined, and one that only looked whether it can join)
+	over, end := context.WithCancel(context.Background())
+	end()
+	for i := 0; i < 10; i++ { // (so many that goroutines which end meanwhile do not hide them)
+		if _, err := Join(over, options(1, s.URL), &sink{}); !errors.Is(err, context.Canceled) {
+			t.Errorf("joined with a context that is over: %v", err)
+		}
+		if err := options(1, s.URL).Check(patient(t), time.Hour); err != nil {
+			t.Error(err)
+		}
+	}
+	natstest.Await(t, "the end of the goroutines of who never joined", func() bool { return runtime.NumGoroutine() <= before })
 	for _, away := range []bool{false, true} {
 		a := join(t, options(1, s.URL))
 		a.Summaries(time.Millisecond, func() ([]byte, error) { return []byte("of a"), nil }, func([]byte, int) ([][]byte, error) { return nil, nil })

@@ -67,11 +67,12 @@ func TestARepairThatFailedWaitsForItsTime(t *testing.T) {
 
 // However often reading failed, it begins again soon.
 func TestTheRestBeforeReadingHasABound(t *testing.T) {
-	rest := time.Duration(attemptPause)
-	for i := 0; i < 1000; i++ {
-		before := rest
-		if rest = longer(rest); rest < before || rest <= 0 || rest > mostAnewWait {
-			t.Fatalf("behind %d failures: %v, and %v before", i+1, rest, before)
+	for rest, most := range map[time.Duration]time.Duration{attemptPause: mostAnewWait, readWait: mostReadWait} {
+		for i := 0; i < 1000; i++ {
+			before := rest
+			if rest = longer(rest, most); rest < before || rest <= 0 || rest > most {
+				t.Fatalf("behind %d failures: %v, and %v before", i+1, rest, before)
+			}
 		}
 	}
 }

@@ -155,7 +155,7 @@ func TestNoHeaderHidesAValue(t *testing.T) {
 			p.cut()
 			awaitHeld(t, b, tell(t, a, 3))
 			if b.logged("values are gone") || len(b.begins()) != 1 {
-				t.Error(b.lines)
+				t.Error(b.said())
 			}
 			if got := l.keys(); len(got) != 6 {
 				t.Errorf("%v", got)
@@ -175,11 +175,12 @@ func TestABadHeaderStopsNothing(t *testing.T) {
 	for n := 0; n < 200; n++ {
 		fmt.Fprintf(&text, "HPUB $KV.test.u.liar.%d %d %d\r\n%s\r\n", n, len(bad), len(bad), bad)
 	}
+	from := time.Now()
 	raw(t, s.URL, text.String())
 	natstest.Await(t, "them to be read", func() bool { return b.Aside() == 200 })
 	b.logMu.Lock()
-	if len(b.lines) > 30 {
-		t.Errorf("%d lines of log for 200 values", len(b.lines))
+	if seconds := int(time.Since(from) / time.Second); len(b.lines) > 30+seconds {
+		t.Errorf("%d lines of log for 200 values within %d seconds", len(b.lines), seconds)
 	}
 	b.logMu.Unlock()
 	s.Kill()
@@ -198,16 +199,20 @@ func TestManyBadSummaries(t *testing.T) {
 		return nil, errors.New("no summary")
 	})
 	l := newLiar(t, s.URL)
+	from := time.Now()
 	natstest.Await(t, "them to be asked", func() bool {
-		if err := l.conn.PublishRequest("svid.test.summary", l.conn.NewInbox(), []byte("lie")); err != nil {
-			t.Fatal(err)
+		for n := 0; n < 20; n++ {
+			if err := l.conn.PublishRequest("svid.test.summary", l.conn.NewInbox(), []byte("lie")); err != nil {
+				t.Fatal(err)
+			}
 		}
 		return asked.Load() > 200
 	})
 	a.logMu.Lock()
 	defer a.logMu.Unlock()
-	if len(a.lines) == 0 || len(a.lines) > 30 {
-		t.Errorf("%d lines of log for 200 summaries", len(a.lines))
+	// A line each second at the most, however long a busy machine takes.
+	if seconds := int(time.Since(from) / time.Second); len(a.lines) == 0 || len(a.lines) > 30+seconds {
+		t.Errorf("%d lines of log for %d summaries within %d seconds", len(a.lines), asked.Load(), seconds)
 	}
 }
 
@@ -229,10 +234,16 @@ func TestValuesOfAnotherFeed(t *testing.T) {
 	}
 	a := join(t, options(1, s.URL))
 	awaitHeld(t, a, tell(t, a, 1))
-	if err := l.conn.Flush(); err != nil {
+	if err := l.conn.FlushTimeout(patience.Long); err != nil {
 		t.Fatal(err)
 	}
-	name := strings.Split(<-inboxes, ".")[3]
+	var inbox string
+	select {
+	case inbox = <-inboxes:
+	case <-time.After(patience.Long):
+		t.Fatal("no value was delivered")
+	}
+	name := strings.Split(inbox, ".")[3]
 	victim, err := l.js.ConsumerInfo("KV_test", name)
 	if err != nil {
 		t.Fatal(err)
@@ -301,7 +312,7 @@ func staysAtItsFeed(t *testing.T) bool {
 	for own, others := 0, 0; own < 2 || others < 20; {
 		m := next()
 		if m.Subject != inbox {
-			t.Logf("a heartbeat to %s, and not to %s: %s", m.Subject, inbox, a.lines)
+			t.Logf("a heartbeat to %s, and not to %s: %s", m.Subject, inbox, a.said())
 			return false
 		}
 		if m.Header.Get("Nats-Last-Consumer") == "1" {
@@ -314,7 +325,7 @@ func staysAtItsFeed(t *testing.T) bool {
 		awaitHeld(t, a, tell(t, a, n))
 	}
 	if a.logged("another feed") {
-		t.Log(a.lines)
+		t.Log(a.said())
 		return false
 	}
 	return true
@@ -338,7 +349,7 @@ func TestAValueForAnAnswer(t *testing.T) {
 	}); err != nil {
 		t.Fatal(err)
 	}
-	if err := l.conn.Flush(); err != nil {
+	if err := l.conn.FlushTimeout(patience.Long); err != nil {
 		t.Fatal(err)
 	}
 	// (The client takes a value for an answer where one request alone waits, and the reader has some, too.)
@@ -410,6 +421,7 @@ func raw(t *testing.T, url, text string) {
 		t.Fatal(err)
 	}
 	defer c.Close()
+	_ = c.SetDeadline(time.Now().Add(patience.Long))
 	if _, err := c.Write([]byte("CONNECT {\"headers\":true,\"verbose\":false}\r\n" + text + "PING\r\n")); err != nil {
 		t.Fatal(err)
 	}

@@ -172,7 +172,7 @@ func TestTheServersOfDeploy(t *testing.T) {
 	liar := natstest.Connect(t, server, mustConnect(t, own)...)
 	asked, err := liar.SubscribeSync("svid.svid.summary")
 	if err == nil {
-		err = liar.Flush()
+		err = liar.FlushTimeout(patience.Long)
 	}
 	if err != nil {
 		t.Fatal(err)
@@ -181,10 +181,13 @@ func TestTheServersOfDeploy(t *testing.T) {
 		if err := b.conn.PublishRequest("svid.svid.summary", reply, []byte("of a liar")); err != nil {
 			t.Fatal(err)
 		}
-		// (a answers them one after the other)
-		if err := b.repair("svid.svid.summary", func() ([]byte, error) { return []byte("of b"), nil }); err != nil {
-			t.Fatal(err)
-		}
+		natstest.Await(t, "an answer of a, which answers one summary after the other", func() bool {
+			err := b.repair("svid.svid.summary", func() ([]byte, error) { return []byte("of b"), nil })
+			if err != nil {
+				t.Log(err)
+			}
+			return err == nil
+		})
 		for { // (b asks others too, at times)
 			m, err := asked.NextMsg(patience.Long)
 			if err != nil {
@@ -199,7 +202,7 @@ func TestTheServersOfDeploy(t *testing.T) {
 				t.Fatal(err)
 			}
 		}
-		if err := liar.Flush(); err != nil {
+		if err := liar.FlushTimeout(patience.Long); err != nil {
 			t.Fatal(err)
 		}
 		if after, err := b.info(patient(t), patience.Long); err != nil || !after.Created.Equal(before.Created) || after.State != before.State {
@@ -229,7 +232,7 @@ func TestTheServersOfDeploy(t *testing.T) {
 	}
 	for _, m := range []*member{b, c, d} {
 		if m.logged("iolation") {
-			t.Error(m.lines)
+			t.Error(m.said())
 		}
 	}
 	openStore(t, server, own)
@@ -566,7 +569,11 @@ func TestCredentials(t *testing.T) {
 	if err := os.WriteFile(files.Creds, []byte(jwt), 0o600); err != nil {
 		t.Fatal(err)
 	}
-	if _, err := nats.Connect("nats://"+address, options...); err == nil || !strings.Contains(err.Error(), files.Creds) {
-		t.Errorf("without a seed: %v", err)
-	}
+	natstest.Await(t, "an error that names the file without a seed", func() bool { // (a busy machine is late)
+		_, err := nats.Connect("nats://"+address, options...)
+		if err == nil {
+			t.Fatal("it is let in without a seed")
+		}
+		return strings.Contains(err.Error(), files.Creds)
+	})
 }

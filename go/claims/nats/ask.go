@@ -66,8 +66,9 @@ func (s *Store) send(q question, to slot) (token string, err error) {
 	}
 	token = base64.RawURLEncoding.EncodeToString(b[:])
 	s.waiting[token] = to
+	nc := s.conn
 	s.mu.Unlock()
-	if err := s.conn.PublishMsg(&client.Msg{Subject: q.subject, Reply: s.inbox + "." + token, Data: q.data, Header: q.header}); err != nil {
+	if err := nc.PublishMsg(&client.Msg{Subject: q.subject, Reply: s.inbox + "." + token, Data: q.data, Header: q.header}); err != nil {
 		s.forget(token)
 		return "", err
 	}

@@ -76,9 +76,10 @@ func TestTheServersClock(t *testing.T) {
 	shift(t, m.Pid(), 5000)
 	o := claimstest.Options{Name: "clock", Terms: claimstest.Usual}
 	a, b := open(t, m, o), open(t, m, o)
+	from := claimstest.Now()
 	before := claimstest.State(t, a)
-	if ahead := before.Time - claimstest.Now(); ahead < 4990 || ahead > 5010 {
-		t.Fatalf("the server's clock is %d s ahead", ahead)
+	if to := claimstest.Now(); before.Time+1 < from+5000 || before.Time > to+5000 {
+		t.Fatalf("the server's clock is at %d, from %d to %d by this machine's", before.Time, from, to)
 	}
 	claim := func(expires uint64) claims.Claim {
 		return claims.Claim{Key: claimstest.Key(), Owner: claimstest.Own(1), Expires: expires}

@@ -4,6 +4,7 @@ import (
 	"context"
 	"fmt"
 	"path/filepath"
+	"strings"
 	"sync"
 	"syscall"
 	"testing"
@@ -283,7 +284,7 @@ func TestAClusterIsPutBackUnseen(t *testing.T) {
 
 func clusterIsPutBack(t *testing.T, isSeen bool) {
 	dirs := []string{t.TempDir(), t.TempDir(), t.TempDir()}
-	servers, err := broker.NewCluster(dirs)
+	servers, err := broker.NewCluster(dirs, "--no_advertise") // (so that a proxy is all that its member knows)
 	if err != nil {
 		t.Fatal(err)
 	}
@@ -303,16 +304,18 @@ func clusterIsPutBack(t *testing.T, isSeen bool) {
 		all(func(server *broker.Server) { natstest.Await(t, "JetStream", server.Answers) })
 	}
 	start()
-	begin := func() *Store {
+	begin := func(o Options) *Store {
 		store := newStore(t, o)
-		if isSeen {
-			store.forRun = compares
-		}
 		t.Cleanup(func() { store.Close() })
 		claimstest.Open(t, store)
 		return store
 	}
-	a, b := begin(), begin()
+	proxy, through := logtest.NewProxy(t, strings.TrimPrefix(servers[0].URL, "nats://")), o
+	through.Servers = []string{"nats://" + proxy.Address}
+	a, b := begin(through), begin(o)
+	if isSeen {
+		b.compares()
+	}
 	before := claimstest.State(t, a)
 	claimstest.Put(t, a, one(1))
 	natstest.Await(t, "all servers to have all", func() bool { return areCurrent(t, servers[0].URL, o.Name) })
@@ -331,9 +334,11 @@ func clusterIsPutBack(t *testing.T, isSeen bool) {
 	for i, dir := range dirs {
 		logtest.CopyAll(t, filepath.Join(kept, fmt.Sprint(i)), dir)
 	}
+	proxy.Shut(true)
 	start()
 	c.Owner = claimstest.Own(2)
-	if f := claimstest.Put(t, b, c)[0]; isSeen && claimstest.Judge(c, f, 60) == claimstest.Mine {
+	f := beforeItComesBack(t, proxy, servers[1].URL, o.Name, func() claims.Found { return claimstest.Try(b, patience.Long, c)[0] })
+	if isSeen && claimstest.Judge(c, f, 60) == claimstest.Mine {
 		t.Errorf("accepted twice: %+v", f)
 	}
 	var is claims.State
@@ -341,7 +346,7 @@ func clusterIsPutBack(t *testing.T, isSeen bool) {
 		is = claimstest.State(t, a)
 		return is.Epoch != before.Epoch && claimstest.State(t, b).Epoch == is.Epoch
 	})
-	if late := claimstest.State(t, begin()); is.Deaf < before.Time+o.Terms.Lasts || late.Epoch != is.Epoch || late.Deaf != is.Deaf {
+	if late := claimstest.State(t, begin(o)); is.Deaf < before.Time+o.Terms.Lasts || late.Epoch != is.Epoch || late.Deaf != is.Deaf {
 		t.Errorf("%+v, %+v later, and before %+v", is, late, before)
 	}
 }

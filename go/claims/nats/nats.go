@@ -26,6 +26,7 @@ import (
 	client "github.com/nats-io/nats.go"
 
 	"svid.example/go/v3/claims"
+	"svid.example/go/v3/internal/brief"
 	"svid.example/go/v3/internal/pause"
 	"svid.example/go/v3/svid"
 )
@@ -33,9 +34,11 @@ import (
 const (
 	connectWait    = 50 * time.Millisecond // between two attempts to connect
 	dialWait       = 2 * time.Second       // for a connection to one server
+	replaceEvery   = 10 * time.Second      // a connection takes the place of another one that the client gave up
 	pingWait       = 2 * time.Second       // between two signs of life of the server; it is away after two without one
 	attemptWait    = time.Second           // for an answer of the server, before it is asked again
 	againWait      = 20 * time.Millisecond // before a server is asked again that said at once that it can't answer
+	mostRest       = time.Second           // before a server is asked again for a connection: it may log each one that it refuses
 	mostUnderWay   = 64                    // requests of one call that wait for an answer
 	lossWait       = 3 * time.Second       // for an own record to be read by a server that was just elected
 	waitRun        = time.Second           // for which a new run of the server waits for members that miss claims
@@ -68,16 +71,17 @@ type Store struct {
 	o    Options
 	base string // of the subjects
 
-	conn  *client.Conn
 	inbox string               // of answers
 	told  *client.Subscription // to the epochs' records, as their writers send them
 	news  sync.Mutex           // of who reads what told has
 	life  context.Context
 	end   context.CancelFunc
 
-	mu      sync.Mutex // of these
-	random  *bufio.Reader
-	waiting map[string]slot // requests without an answer, by the last part of where it goes
+	mu        sync.Mutex // of these
+	conn      *client.Conn
+	connected time.Time // when conn began
+	random    *bufio.Reader
+	waiting   map[string]slot // requests without an answer, by the last part of where it goes
 
 	lookMu    sync.Mutex // of these
 	isLooking bool
@@ -86,8 +90,8 @@ type Store struct {
 	settleMu sync.Mutex // of this
 	settling *settling
 	every    time.Duration // between two looks at the streams
-	forRun   time.Duration // for which this member waits at a new run of the server for others that miss claims
-	forNew   time.Duration // and in a new store, for others that know another one
+	forRun   atomic.Int64  // nanoseconds for which this member waits at a new run of the server for others that miss claims
+	forNew   atomic.Int64  // and in a new store, for others that know another one (tests end these waits)
 	looked   atomic.Int64  // when all was found to be as it must be, by this machine's clock, in nanoseconds since 1970
 
 	unsteady atomic.Uint64 // how often the server was away, or did not answer
@@ -96,6 +100,9 @@ type Store struct {
 	knownMu  sync.Mutex    // of the next one, while it changes
 	known    atomic.Pointer[known]
 	time     atomic.Int64 // the greatest one of the store that was seen in the epoch, in nanoseconds since 1970
+
+	// These belong to the client's goroutine that calls handlers.
+	brokerSaid brief.Causes
 
 	// These belong to the goroutine that settles.
 	said     string // why the store was in doubt, as the log has it
@@ -129,7 +136,9 @@ func New(o Options) (*Store, error) {
 	if o.Replicas == 0 {
 		o.Replicas = 1
 	}
-	s := &Store{o: o, base: "$KV." + o.Name + "-claims.", random: bufio.NewReaderSize(rand.Reader, 1<<10), waiting: map[string]slot{}, every: lookEvery, forRun: waitRun, forNew: waitNew}
+	s := &Store{o: o, base: "$KV." + o.Name + "-claims.", inbox: client.NewInbox(), random: bufio.NewReaderSize(rand.Reader, 1<<10), waiting: map[string]slot{}, every: lookEvery}
+	s.forRun.Store(int64(waitRun))
+	s.forNew.Store(int64(waitNew))
 	s.life, s.end = context.WithCancel(context.Background())
 	s.doubts.Store(1) // Nothing is known of the server yet.
 	return s, nil
@@ -142,55 +151,112 @@ func (s *Store) log(event string, fields ...any) {
 	}
 }
 
-// connect connects, and tries until ctx ends. From then on the client connects again by itself, for ever.
+// connect connects, and tries until ctx ends. From then on the client connects again by itself, for ever. At some errors of the server, as that a
+// limit is exceeded, the client gives the connection up: then another one takes its place.
 func (s *Store) connect(ctx context.Context) error {
-	if s.conn != nil {
-		return nil
-	}
 	options := append([]client.Option{
 		client.Name("svid claims " + s.o.Name),
 		client.Timeout(dialWait),
 		client.MaxReconnects(-1),
+		client.IgnoreAuthErrorAbort(), // A server may refuse a member until its users, or the member's credentials, are other ones.
 		client.ReconnectWait(connectWait),
 		client.ReconnectJitter(connectWait, connectWait),
 		client.PingInterval(pingWait),
 		client.MaxPingsOutstanding(2),
 		client.ReconnectBufSize(-1), // Nothing is sent later that was to be sent while no server was there.
-		client.DisconnectErrHandler(func(_ *client.Conn, err error) { s.away(err) }),
-		client.ReconnectHandler(func(nc *client.Conn) {
-			s.log("broker found", "server", nc.ConnectedUrlRedacted())
-			s.doubts.Add(1)
-			if s.known.Load() != nil {
-				s.settle() // (whoever misses a claim says so at once)
+		client.DisconnectErrHandler(func(nc *client.Conn, err error) {
+			if s.connection() == nc {
+				s.away(saidBy(nc, err))
 			}
 		}),
-		client.ErrorHandler(func(_ *client.Conn, _ *client.Subscription, err error) { s.log("broker says", "why", err) }),
+		client.ReconnectHandler(func(nc *client.Conn) {
+			s.brokerSaid.Forget()
+			s.isBack(nc)
+		}),
+		client.ClosedHandler(func(nc *client.Conn) {
+			if s.connection() == nc && s.life.Err() == nil {
+				go s.replace()
+			}
+		}),
+		client.ErrorHandler(func(_ *client.Conn, _ *client.Subscription, err error) { s.brokerSays(err) }),
 	}, s.o.Connect...)
-	var nc *client.Conn
-	for {
-		var err error
-		if nc, err = client.Connect(strings.Join(s.o.Servers, ","), options...); err == nil {
-			break
+	for rest := againWait; ; rest *= 2 {
+		nc, err := client.Connect(strings.Join(s.o.Servers, ","), options...)
+		if err == nil {
+			if err = s.subscribe(nc); err == nil && s.keepConnection(nc) {
+				return nil
+			}
+			nc.Close()
 		}
-		if !pause.For(ctx, againWait) {
+		if s.life.Err() != nil {
+			return client.ErrConnectionClosed
+		}
+		if rest > mostRest {
+			rest = mostRest
+		}
+		if !pause.For(ctx, rest) {
 			return failed("connect", err)
 		}
 	}
-	s.inbox = client.NewInbox()
+}
+
+// subscribe lets a new connection hear what is for this member.
+func (s *Store) subscribe(nc *client.Conn) error {
 	if _, err := nc.Subscribe(s.inbox+".*", s.hear); err != nil {
-		nc.Close()
-		return err
+		return saidBy(nc, err)
 	}
-	var err error
-	if s.told, err = nc.SubscribeSync(s.base + "e.*"); err != nil {
-		nc.Close()
-		return err
+	told, err := nc.SubscribeSync(s.base + "e.*")
+	if err == nil {
+		err = nc.FlushTimeout(dialWait) // (the server may refuse them)
 	}
-	if !s.keepConnection(nc) {
-		nc.Close()
-		return client.ErrConnectionClosed
+	if err != nil {
+		return saidBy(nc, err)
 	}
+	s.news.Lock()
+	s.told = told
+	s.news.Unlock()
 	return nil
+}
+
+// saidBy is why a connection has ended, or err where it has not, or nobody said why.
+func saidBy(nc *client.Conn, err error) error {
+	if last := nc.LastError(); last != nil && nc.IsClosed() {
+		return last
+	}
+	return err
+}
+
+// replace connects again, where the client has given up.
+func (s *Store) replace() {
+	s.mu.Lock()
+	rest := replaceEvery - time.Since(s.connected)
+	s.mu.Unlock()
+	if pause.For(s.life, rest) && s.connect(s.life) == nil {
+		s.isBack(s.connection())
+	}
+}
+
+// isBack lets nothing count that was known of the server before.
+func (s *Store) isBack(nc *client.Conn) {
+	s.log("broker found", "server", nc.ConnectedUrlRedacted())
+	s.doubts.Add(1)
+	if s.known.Load() != nil {
+		s.settle() // (whoever misses a claim says so at once)
+	}
+}
+
+// connection is the one that counts; nil before there is one.
+func (s *Store) connection() *client.Conn {
+	s.mu.Lock()
+	defer s.mu.Unlock()
+	return s.conn
+}
+
+// brokerSays logs what the client reports. It may report the same many times a second.
+func (s *Store) brokerSays(err error) {
+	if s.brokerSaid.IsNew(time.Now(), err) {
+		s.log("broker says", "why", err)
+	}
 }
 
 // keepConnection lets the store have a connection, unless it was closed meanwhile.
@@ -200,7 +266,7 @@ func (s *Store) keepConnection(nc *client.Conn) bool {
 	if s.life.Err() != nil {
 		return false
 	}
-	s.conn = nc
+	s.conn, s.connected = nc, time.Now()
 	return true
 }
 

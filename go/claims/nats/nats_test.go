@@ -6,6 +6,7 @@ import (
 	"os"
 	"path/filepath"
 	"strings"
+	"sync"
 	"syscall"
 	"testing"
 	"time"
@@ -21,8 +22,8 @@ import (
 	"svid.example/go/v3/svid"
 )
 
-// compares is for how long a member waits for another one that looks at once: a busy machine takes its time.
-const compares = 10 * time.Second
+// compares lets a member wait at a new run of the server until another one of its test has ended the epoch.
+func (s *Store) compares() { s.forRun.Store(int64(patience.Long)) }
 
 func TestMain(m *testing.M) {
 	waitNew, lookEvery = 2*time.Second, 0
@@ -32,7 +33,8 @@ func TestMain(m *testing.M) {
 // A machine is a server of NATS that the suite uses.
 type machine struct {
 	*broker.Server
-	dir string
+	dir     string
+	emptied sync.Map // groups whose store was removed, by their names
 }
 
 func newMachine(t testing.TB) *machine { return newMachineWith(t, "") }
@@ -103,16 +105,30 @@ func (m *machine) Store(t testing.TB, o claimstest.Options) claims.Store {
 		url = "nats://" + o.Address
 	}
 	s := newStore(t, Options{Servers: []string{url}, Name: o.Name, Terms: o.Terms})
-	s.forNew = waitNew / 20 // (no member knows another store, where the test does not say so)
+	s.forNew.Store(int64(waitNew / 20)) // (no member knows another store, where the test does not say so)
 	if o.Compares {
-		s.forRun, s.forNew = compares, compares
+		s.compares()
+		if _, is := m.emptied.Load(o.Name); is { // (so another member of the test knows the store of before)
+			s.forNew.Store(int64(patience.Long))
+		}
 	}
 	return s
 }
 
 func newStore(t testing.TB, o Options) *Store {
 	t.Helper()
+	lines := &said{group: t.Name() + " " + o.Name}
 	o.Log = func(event string, fields ...any) {
+		lines.add(fmt.Sprintln(append([]any{event}, fields...)...))
+		if strings.HasPrefix(event, "the epoch ended") {
+			logs.Range(func(s, of any) bool {
+				if of.(*said).group == lines.group {
+					s.(*Store).forRun.Store(0)
+					s.(*Store).forNew.Store(0)
+				}
+				return true
+			})
+		}
 		if testing.Verbose() && os.Getenv("SVID_TEST_LOG") != "" {
 			fmt.Fprintln(os.Stderr, append([]any{time.Now().Format("05.000"), t.Name(), event}, fields...)...)
 		}
@@ -121,7 +137,39 @@ func newStore(t testing.TB, o Options) *Store {
 	if err != nil {
 		t.Fatal(err)
 	}
+	logs.Store(s, lines)
+	t.Cleanup(func() { logs.Delete(s) })
 	return s
+}
+
+// logs has the lines of each store's log.
+var logs sync.Map
+
+// A said is the lines of a log.
+type said struct {
+	group string // of a test, whose stores belong together
+	mu    sync.Mutex
+	lines []string
+}
+
+func (s *said) add(line string) {
+	s.mu.Lock()
+	defer s.mu.Unlock()
+	s.lines = append(s.lines, line)
+}
+
+// logged is how many lines of a store's log have a text.
+func logged(s *Store, text string) (n int) {
+	it, _ := logs.Load(s)
+	lines := it.(*said)
+	lines.mu.Lock()
+	defer lines.mu.Unlock()
+	for _, line := range lines.lines {
+		if strings.Contains(line, text) {
+			n++
+		}
+	}
+	return n
 }
 
 // adminAt does what an administrator can.
@@ -143,6 +191,7 @@ func admin(t testing.TB, url string) client.JetStreamContext {
 
 func (m *machine) Empty(t testing.TB, name string) {
 	t.Helper()
+	m.emptied.Store(name, true)
 	js := admin(t, m.URL)
 	for _, ending := range endings {
 		if err := js.DeleteStream("KV_" + name + "-claims" + ending); err != nil {

@@ -37,11 +37,7 @@ no_auth_user: admin
 func TestRightsSuffice(t *testing.T) {
 	t.Parallel()
 	m, member, rights := permitted(t)
-	spy, err := client.Connect(m.URL, client.Timeout(patience.Long))
-	if err != nil {
-		t.Fatal(err)
-	}
-	defer spy.Close()
+	spy := natstest.Connect(t, m.URL)
 	var mu sync.Mutex
 	used := map[string]bool{}
 	for _, all := range []string{"$JS.API.>", "$KV.>"} {
@@ -124,11 +120,7 @@ func TestRightsDoNoMore(t *testing.T) {
 	t.Cleanup(func() { a.Close() })
 	claimstest.Open(t, a)
 	denied := make(chan string, 100)
-	nc, err := client.Connect(m.URL, member, client.Timeout(patience.Long), client.ErrorHandler(func(_ *client.Conn, _ *client.Subscription, err error) { denied <- err.Error() }))
-	if err != nil {
-		t.Fatal(err)
-	}
-	defer nc.Close()
+	nc := natstest.Connect(t, m.URL, member, client.ErrorHandler(func(_ *client.Conn, _ *client.Subscription, err error) { denied <- err.Error() }))
 	violation := func(what string) {
 		t.Helper()
 		nc.FlushTimeout(patience.Long)

@@ -11,6 +11,7 @@ import (
 	client "github.com/nats-io/nats.go"
 
 	"svid.example/go/v3/claims"
+	"svid.example/go/v3/internal/brief"
 	"svid.example/go/v3/internal/pause"
 	"svid.example/go/v3/internal/streams"
 )
@@ -33,9 +34,9 @@ func (s *Store) settle() *settling {
 				doubts := s.doubts.Load()
 				if now.err = s.check(s.life); now.err != nil {
 					s.doubts.Add(1)
-					if said := now.err.Error(); s.said != said && s.life.Err() == nil {
-						s.said = said
-						s.log("no claim is answered", "why", said)
+					if cause := brief.Cause(now.err); s.said != cause && s.life.Err() == nil {
+						s.said = cause
+						s.log("no claim is answered", "why", now.err.Error())
 					}
 					break
 				}
@@ -299,15 +300,13 @@ func (s *Store) raise(ctx context.Context, x exam) error {
 // After it, a new store's record notes when the streams were made. A server that has just made one may say another time a moment later, as
 // make has it. Nobody is answered before that.
 func (s *Store) quarantine(ctx context.Context, x exam, k *known, unsteady bool) error {
-	is, now, until := x.is, x.now, int64(0)
-	if k == nil && is.Before == "" {
-		until = is.Began + int64(s.forNew)
+	is, now, began := x.is, x.now, x.is.Began
+	isNewStore, isNewRun := k == nil && is.Before == "", is.Run != x.run || unsteady && !is.isAlone && k != nil
+	waits := func() bool {
+		return isNewStore && now < began+s.forNew.Load() || isNewRun && now < x.now+s.forRun.Load()
 	}
-	if wait := now + int64(s.forRun); (is.Run != x.run || unsteady && !is.isAlone && k != nil) && until < wait {
-		until = wait
-	}
-	isNew := k == nil && now < until
-	for now < until {
+	isNew := k == nil && waits()
+	for waits() {
 		if !pause.For(ctx, quarantineLook) {
 			return ctx.Err()
 		}
@@ -392,7 +391,7 @@ func (s *Store) run(all [kinds]*info) string {
 	if i.Cluster != nil {
 		return i.Cluster.Leader // "" while there is none
 	}
-	return s.conn.ConnectedServerId()
+	return s.connection().ConnectedServerId()
 }
 
 // readEpochs reads the epochs' stream on from what is known. isSame says that it still has the known record: else it was read from its

@@ -134,15 +134,17 @@ func (s *Store) withdrawalOf(subject string) (w claims.Withdrawal, ok bool) {
 
 // Open is part of claims.Store.
 func (s *Store) Open(ctx context.Context) (claims.State, error) {
-	if err := s.connect(ctx); err != nil {
-		return claims.State{}, err
+	if s.connection() == nil {
+		if err := s.connect(ctx); err != nil {
+			return claims.State{}, err
+		}
 	}
 	return s.state(ctx)
 }
 
 // State is part of claims.Store.
 func (s *Store) State(ctx context.Context) (claims.State, error) {
-	if s.conn == nil {
+	if s.connection() == nil {
 		return claims.State{}, errors.New("claims: the store is not open")
 	}
 	if since := time.Now().UnixNano() - s.looked.Load(); since >= int64(s.every) || since < 0 {

@@ -31,6 +31,17 @@ func follow(t *testing.T, primary *machine, more ...string) *machine {
 	return startIn(t, dir, more...)
 }
 
+// waitsFor sets for which standbys a server waits, and returns once its commits do.
+func (s *machine) waitsFor(t testing.TB, names string) {
+	t.Helper()
+	s.do(t, "ALTER SYSTEM SET synchronous_standby_names = '"+names+"'")
+	s.do(t, "SELECT pg_reload_conf()")
+	logtest.Await(t, "the server to read its settings", func() bool {
+		return s.Do(`DO $$ BEGIN ASSERT current_setting('synchronous_standby_names') = '`+names+`'; END $$`) == nil
+	})
+	s.do(t, "CHECKPOINT") // (by then the checkpointer has read them too, which tells commits to wait)
+}
+
 // has waits until a server has so many claims.
 func (s *machine) has(t testing.TB, n int) {
 	t.Helper()
@@ -42,6 +53,37 @@ func (s *machine) has(t testing.TB, n int) {
 func (s *machine) promote(t testing.TB) {
 	t.Helper()
 	s.do(t, "SELECT pg_promote()")
+}
+
+// A member waits for an answer, and does not look at the store meanwhile. Its server ends, an older copy comes up at the same address, and another member
+// wins the token there: the late answer does not count.
+func TestALateAnswerOfAServerThatIsGone(t *testing.T) {
+	t.Parallel()
+	s := start(t)
+	proxy := logtest.NewProxy(t, s.Postgres.Address)
+	o := Options{URLs: []string{s.URL}, Name: "svid"}
+	b := open(t, o)
+	o.URLs = []string{strings.Replace(s.URL, s.Postgres.Address, proxy.Address, 1)}
+	a := open(t, o)
+	mine(t, a, claim(1))
+	restore := logtest.Copied(t, s.Dir, s.Postgres.Stop, s.Postgres.Kill, s.start)
+	mine(t, a, claim(1))
+	c := claim(1)
+	release := proxy.Hold(t, c.Key[:])
+	late := make(chan claims.Found, 1)
+	go func() { late <- claimstest.Try(a, patience.Long, c)[0] }()
+	s.has(t, 3)
+	if !proxy.HasLost() {
+		t.Skip("the key does not go over the wire as it is")
+	}
+	restore()
+	claimstest.Watch(t, b)
+	won := by(2, c)
+	mine(t, b, won)
+	release()
+	if f := <-late; claimstest.Judge(c, f, 60) == claimstest.Mine {
+		t.Errorf("accepted twice: %+v", f)
+	}
 }
 
 // A standby that lacks claims and is promoted ends the epoch, for members that run and for one that knows nothing of the primary.
@@ -112,13 +154,13 @@ func TestFailoverToAStandbyThatHasAll(t *testing.T) {
 func TestFailoverToTheWrongStandby(t *testing.T) {
 	t.Parallel()
 	primary := start(t)
-	primary.do(t, schemaWith("svid", "5 seconds")) // (in which the other member looks)
+	primary.do(t, Schema("svid", claimstest.Usual, ""))
 	right := follow(t, primary, "-c", "cluster_name=right")
 	wrong := follow(t, primary, "-c", "cluster_name=wrong")
-	primary.do(t, "ALTER SYSTEM SET synchronous_standby_names = '\"right\"'")
-	primary.do(t, "SELECT pg_reload_conf()")
+	primary.waitsFor(t, `"right"`)
 	o := Options{URLs: []string{primary.URL, wrong.URL, right.URL}, Name: "svid", Replicas: 2}
 	a, b := open(t, o), open(t, o)
+	primary.comparing(t, "svid")
 	mine(t, a, claim(1))
 	wrong.has(t, 1)
 	before := claimstest.State(t, a)
@@ -130,8 +172,7 @@ func TestFailoverToTheWrongStandby(t *testing.T) {
 	right.Postgres.Kill()
 	wrong.start(t)
 	wrong.promote(t)
-	wrong.do(t, "ALTER SYSTEM SET synchronous_standby_names = '*'")
-	wrong.do(t, "SELECT pg_reload_conf()")
+	wrong.waitsFor(t, "*")
 	follow(t, wrong)
 	claimstest.Watch(t, a)
 	again := by(2, lost)
@@ -197,7 +238,7 @@ func TestTwoStandbysArePromoted(t *testing.T) {
 	one.promote(t)
 	two.promote(t)
 	logtest.Await(t, "the member to see both", func() bool {
-		_, err := a.State(context.Background())
+		_, err := a.State(limited(t))
 		return err != nil && strings.Contains(err.Error(), "addresses 2 and 3 are both primaries: stop the wrong one")
 	})
 	if f := claimstest.Try(a, time.Second, claim(1))[0]; f.Err == nil {
@@ -210,7 +251,7 @@ func TestTwoStandbysArePromoted(t *testing.T) {
 // Servers that don't come of one are no servers of one store.
 func TestServersOfTwoClusters(t *testing.T) {
 	t.Parallel()
-	claimstest.Refuses(t, newStore(t, Options{URLs: []string{start(t).URL, foreign(t).URL}, Name: "svid"}), "two database clusters")
+	claimstest.Refuses(t, newStore(t, Options{URLs: []string{start(t).URL, foreign(t).URL}, Name: "svid"}), "addresses 1 and 2 are primaries of two database clusters")
 }
 
 // foreign is a server whose data have another identifier.
@@ -235,11 +276,7 @@ func TestStandbysAreNotWaitedForAnyMore(t *testing.T) {
 	s := start(t)
 	s.do(t, Schema("svid", claimstest.Usual, ""))
 	standby := follow(t, s)
-	set := func(names string) {
-		s.do(t, "ALTER SYSTEM SET synchronous_standby_names = '"+names+"'")
-		s.do(t, "SELECT pg_reload_conf()")
-	}
-	set("*")
+	s.waitsFor(t, "*")
 	a := open(t, Options{URLs: []string{s.URL}, Name: "svid", Replicas: 2})
 	mine(t, a, claim(1))
 	standby.has(t, 1)
@@ -252,8 +289,7 @@ func TestStandbysAreNotWaitedForAnyMore(t *testing.T) {
 	logtest.Await(t, "the claims to wait", func() bool {
 		return s.Do(fmt.Sprintf(`DO $$ BEGIN ASSERT (SELECT count(*) FROM pg_stat_activity WHERE wait_event = 'SyncRep') = %d; END $$`, len(these))) == nil
 	})
-	s.do(t, "ALTER SYSTEM SET synchronous_standby_names = ''")
-	s.do(t, "SELECT pg_reload_conf()")
+	s.waitsFor(t, "")
 	for range these {
 		if f := <-found; f.Err == nil {
 			t.Errorf("answered, and no standby has it: %+v", f)
@@ -265,10 +301,10 @@ func TestStandbysAreNotWaitedForAnyMore(t *testing.T) {
 			t.Errorf("%+v", f)
 		}
 	}
-	if _, err := a.State(context.Background()); err == nil {
+	if _, err := a.State(limited(t)); err == nil {
 		t.Error("a state without standbys")
 	}
-	set("*")
+	s.waitsFor(t, "*")
 	for again := 0; again < 3; again++ {
 		ctx, cancel := context.WithTimeout(context.Background(), 300*time.Millisecond)
 		a.State(ctx)
@@ -281,7 +317,7 @@ func TestStandbysAreNotWaitedForAnyMore(t *testing.T) {
 	}
 	standby.Postgres.Resume()
 	for _, c := range these {
-		logtest.Await(t, "a look", func() bool { _, err := a.State(context.Background()); return err == nil })
+		logtest.Await(t, "a look", func() bool { _, err := a.State(limited(t)); return err == nil })
 		mine(t, a, c)
 	}
 	standby.has(t, 4)
@@ -293,8 +329,7 @@ func TestWhatIsGivenUpEndsAtTheServer(t *testing.T) {
 	s := start(t)
 	s.do(t, Schema("svid", claimstest.Usual, ""))
 	standby := follow(t, s)
-	s.do(t, "ALTER SYSTEM SET synchronous_standby_names = '*'")
-	s.do(t, "SELECT pg_reload_conf()")
+	s.waitsFor(t, "*")
 	a := open(t, Options{URLs: []string{s.URL}, Name: "svid"})
 	standby.Postgres.Pause()
 	waiting := func(holds string) bool {
@@ -337,8 +372,7 @@ func TestACancelledWait(t *testing.T) {
 	s := start(t)
 	s.do(t, Schema("svid", claimstest.Usual, ""))
 	standby := follow(t, s)
-	s.do(t, "ALTER SYSTEM SET synchronous_standby_names = '*'")
-	s.do(t, "SELECT pg_reload_conf()")
+	s.waitsFor(t, "*")
 	for _, n := range []int{1, 2} {
 		a := open(t, Options{URLs: []string{s.URL}, Name: "svid", Replicas: 2})
 		these := make([]claims.Claim, n)

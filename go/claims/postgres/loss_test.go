@@ -87,6 +87,7 @@ func TestRowsThatGoByHandEndTheEpoch(t *testing.T) {
 		}
 		next := claimstest.State(t, b)
 		another(t, before, a, b, open(t, o))
+		s.do(t, fmt.Sprintf("SELECT %s.next('%s', NULL)", name, before.Epoch)) // (as a member that saw the loss as well)
 		if is := claimstest.State(t, a); is.Epoch != next.Epoch {
 			t.Errorf("%s: the epoch ended twice", statement)
 		}
@@ -143,7 +144,7 @@ func TestAClaimThatWaitsWhileTheEpochEnds(t *testing.T) {
 			hold(t, s, "svid", func(c *conn) {
 				go func() { found <- claimstest.Try(b, patience.Long, again...) }()
 				awaitLock(t, s, found)
-				if _, err := c.query(context.Background(), "TRUNCATE svid.claim"); err != nil {
+				if _, err := c.query(limited(t), "TRUNCATE svid.claim"); err != nil {
 					t.Fatal(err)
 				}
 			})
@@ -197,14 +198,14 @@ func waitForLocks(t testing.TB, s *machine) {
 // hold holds the table of claims while something is done in the same transaction.
 func hold(t testing.TB, s *machine, name string, do func(c *conn)) {
 	t.Helper()
-	c, err := dial(context.Background(), s.URL)
+	c, err := dial(limited(t), s.URL)
 	if err != nil {
 		t.Fatal(err)
 	}
 	defer c.close()
 	run := func(text string) {
 		t.Helper()
-		if _, err := c.query(context.Background(), text); err != nil {
+		if _, err := c.query(limited(t), text); err != nil {
 			t.Fatal(err)
 		}
 	}
@@ -226,13 +227,13 @@ func TestOneOrder(t *testing.T) {
 		if string(first.Key[:]) > string(second.Key[:]) {
 			first, second = second, first
 		}
-		c, err := dial(context.Background(), s.URL)
+		c, err := dial(limited(t), s.URL)
 		if err != nil {
 			return err
 		}
 		defer c.close()
 		for _, text := range []string{"BEGIN", fmt.Sprintf(`INSERT INTO svid.claim VALUES ('\x%x', sha256('x'), 1)`, first.Key[:])} {
-			if _, err := c.query(context.Background(), text); err != nil {
+			if _, err := c.query(limited(t), text); err != nil {
 				return err
 			}
 		}
@@ -278,6 +279,12 @@ func TestWithdrawalsOfAnotherEpoch(t *testing.T) {
 			t.Errorf("%q: %v", wrong, all)
 		}
 	}
+	s.do(t, "UPDATE svid.told SET last = 1::bigint << 62") // (a position has 63 bits)
+	withdraw(1)
+	all, last = claimstest.Withdrawals(t, b, "")
+	if again, _ := claimstest.Withdrawals(t, b, last); len(all) != 4 || len(again) != 0 {
+		t.Errorf("%d withdrawals, and %d of them are read again", len(all), len(again))
+	}
 }
 
 // An entry that stops an insert, and is gone when its owner is read, is no answer.
@@ -286,8 +293,8 @@ func TestAnEntryThatIsGoneMeanwhile(t *testing.T) {
 	s := start(t)
 	text := Schema("svid", claimstest.Usual, "")
 	for from, remove := range map[string]string{
-		"  there := (SELECT '\\x01'":                 "SET session_replication_role = replica; DELETE FROM svid.claim WHERE key = token;\n",
-		"  SELECT string_agg(CASE WHEN c.key IS NOT": "SET session_replication_role = replica; DELETE FROM svid.claim WHERE key = ANY (keys);\n",
+		"  there := (SELECT '\\x01'":                  "SET session_replication_role = replica; DELETE FROM svid.claim WHERE key = token;\n",
+		"  SELECT string_agg(CASE WHEN c.key IS NULL": "SET session_replication_role = replica; DELETE FROM svid.claim WHERE key = ANY (keys);\n",
 	} {
 		if strings.Count(text, from) != 1 {
 			t.Fatalf("%q is not in the schema", from)
@@ -351,6 +358,43 @@ func TestAnOlderCopyThatWentOn(t *testing.T) {
 	another(t, before, a, b, open(t, o))
 }
 
+// A claim that is there already is put again, in one call with another one, which lives less long. A server that was put back lacks that one alone: it is
+// seen all the same, whether the call stored that one or an earlier call, which had no answer that counts.
+func TestAnotherClaimOfACall(t *testing.T) {
+	t.Parallel()
+	for name, isStored := range map[string]bool{"stored": true, "there": false} {
+		isStored := isStored
+		t.Run(name, func(t *testing.T) {
+			t.Parallel()
+			s := &suite{start(t)}
+			o := Options{URLs: []string{s.URL}, Name: "svid"}
+			a, b := open(t, o), open(t, o)
+			s.comparing(t, "svid")
+			again, lost := claim(1), claim(1)
+			lost.Expires -= 1000
+			mine(t, a, again)
+			before := claimstest.State(t, a)
+			restore := s.Copy(t)
+			if !isStored { // (that this call was answered is not known to the member)
+				c := open(t, o)
+				mine(t, c, lost)
+				c.Close()
+			}
+			for _, f := range claimstest.Put(t, a, again, lost) {
+				if f.Err != nil || f.Owner != again.Owner {
+					t.Fatalf("%+v", f)
+				}
+			}
+			restore()
+			claimstest.Watch(t, a)
+			if f := claimstest.Put(t, b, by(2, lost))[0]; claimstest.Judge(by(2, lost), f, 60) != claimstest.Unknown {
+				t.Errorf("%+v", f)
+			}
+			another(t, before, a, b)
+		})
+	}
+}
+
 // A store made again while a member runs that knew the one before is another history: also where an administrator makes it.
 func TestAStoreMadeAgain(t *testing.T) {
 	t.Parallel()
@@ -359,7 +403,7 @@ func TestAStoreMadeAgain(t *testing.T) {
 	a := open(t, o)
 	before := claimstest.State(t, a)
 	mine(t, a, claim(1))
-	s.do(t, "DROP SCHEMA svid CASCADE; "+schemaWith("svid", "5 seconds"))
+	s.do(t, "DROP SCHEMA svid CASCADE; "+comparingSchema(t, "svid"))
 	claimstest.Watch(t, a)
 	another(t, before, open(t, o), a)
 }
@@ -429,9 +473,10 @@ func TestALookAtAStoreOfWhichMuchIsOver(t *testing.T) {
 	// (There is always more.)
 	s.do(t, fmt.Sprintf(`CREATE OR REPLACE FUNCTION svid.expire() RETURNS bigint LANGUAGE sql AS $$ SELECT %d + 0 * nextval('svid.looks') $$`, pieces))
 	s.do(t, fmt.Sprintf(`INSERT INTO svid.claim VALUES (sha256('a'), sha256('x'), %d)`, over-1))
-	logtest.Await(t, "a look that removes", func() bool {
+	logtest.Await(t, "a look that removes more than once", func() bool {
+		s.do(t, `SELECT setval('svid.looks', 1)`)
 		claimstest.State(t, a)
-		return s.Do(`DO $$ BEGIN ASSERT (SELECT is_called FROM svid.looks); END $$`) == nil
+		return s.Do(`DO $$ BEGIN ASSERT (SELECT last_value FROM svid.looks) > 2; END $$`) == nil
 	})
 }
 
@@ -478,7 +523,7 @@ func TestNobodyLooks(t *testing.T) {
 	if f := claimstest.Try(a, patience.Long, c)[0]; !errors.Is(f.Err, errUnlooked) {
 		t.Errorf("%+v", f)
 	}
-	if f := claimstest.Try(a, patience.Long, c)[0]; f.Err != nil || f.Owner != c.Owner || f.Deaf != 0 {
+	if f := mine(t, a, c); f.Deaf != 0 { // (Put again where a busy machine takes so long that nobody looks once more.)
 		t.Errorf("after a look: %+v", f)
 	}
 }

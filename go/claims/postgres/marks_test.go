@@ -2,6 +2,7 @@ package postgres
 
 import (
 	"math/rand"
+	"reflect"
 	"testing"
 
 	"svid.example/go/v3/claims"
@@ -43,6 +44,63 @@ func TestAFewMarksAreKept(t *testing.T) {
 		m.drop(last+20, 10)
 		if len(m.all) != 0 {
 			t.Errorf("%s: %d are kept that are over", name, len(m.all))
+		}
+	}
+}
+
+// Of claims that earlier calls stored nobody knows the order. Each is kept once, until one that was stored later outlives it, and none takes the room of the
+// last calls.
+func TestEachClaimThatWasThereIsKept(t *testing.T) {
+	var m marks
+	expires := func() (all []uint64) {
+		for _, one := range m.all {
+			all = append(all, one.Expires)
+		}
+		return all
+	}
+	one := func(n uint64) claims.Claim { return claims.Claim{Key: [32]byte{byte(n), byte(n >> 8)}, Expires: n} }
+	for n := uint64(1); n <= recent; n++ {
+		m.add(one(10 + n))
+	}
+	for _, n := range []uint64{5, 300, 500, 400, 500, 18, 200} {
+		m.found(one(n))
+	}
+	if want := []uint64{500, 400, 300, 200, 5, 11, 12, 13, 14, 15, 16, 17, 18}; !reflect.DeepEqual(expires(), want) {
+		t.Errorf("%v, and not %v", expires(), want)
+	}
+	m.add(one(350))
+	for n := uint64(0); n < recent; n++ {
+		m.add(one(20 + n))
+	}
+	if want := []uint64{500, 400, 350, 20, 21, 22, 23, 24, 25, 26, 27}; !reflect.DeepEqual(expires(), want) {
+		t.Errorf("%v, and not %v", expires(), want)
+	}
+	for n := uint64(1000); n < 1100; n++ {
+		m.found(one(n))
+	}
+	if is := expires(); len(is) != mostMarks || is[0] != 1099 || is[mostMarks-recent] != 20 || is[mostMarks-1] != 27 {
+		t.Errorf("%v", is)
+	}
+}
+
+// Calls that are under way together may be answered in any order. Whichever was the last one at the server, it is kept.
+func TestEachCallThatIsUnderWayMayBeTheLast(t *testing.T) {
+	for at := 0; at < mostCalls; at++ {
+		var m marks
+		last := claims.Claim{Key: [32]byte{1}, Expires: 100}
+		for n := 0; n < mostCalls; n++ {
+			if n == at {
+				m.add(last)
+			} else {
+				m.add(claims.Claim{Key: [32]byte{2, byte(n)}, Expires: 100})
+			}
+		}
+		isKept := false
+		for _, one := range m.all {
+			isKept = isKept || one == last
+		}
+		if !isKept {
+			t.Errorf("the last claim is not kept where %d answers of %d come after it", mostCalls-1-at, mostCalls)
 		}
 	}
 }

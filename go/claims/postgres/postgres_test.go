@@ -1,6 +1,7 @@
 package postgres
 
 import (
+	"context"
 	"fmt"
 	"os"
 	"strings"
@@ -11,10 +12,14 @@ import (
 	"svid.example/go/v3/claims/claimstest"
 	"svid.example/go/v3/internal/broker"
 	"svid.example/go/v3/internal/logtest"
+	"svid.example/go/v3/internal/patience"
 )
 
 // A machine is a server of PostgreSQL of a test.
-type machine struct{ *broker.Postgres }
+type machine struct {
+	*broker.Postgres
+	compared []string // the stores whose members wait until the epoch has ended
+}
 
 // start starts a server, which ends with the test.
 func start(t testing.TB, more ...string) *machine {
@@ -34,7 +39,7 @@ func startIn(t testing.TB, dir string, more ...string) *machine {
 		t.Fatal(err)
 	}
 	t.Cleanup(p.Kill)
-	s := &machine{p}
+	s := &machine{Postgres: p}
 	s.start(t)
 	return s
 }
@@ -73,21 +78,56 @@ func schemaWith(name, quarantined string) string {
 	return strings.ReplaceAll(Schema(name, claimstest.Usual, ""), fmt.Sprintf("interval '%d milliseconds'", quarantine.Milliseconds()), "interval '"+quarantined+"'")
 }
 
-// comparing lets the members of a store wait at another run of the server for so long that each of them has surely looked, also on a busy machine.
-// Where there is no store, it makes a new one of that kind.
+// comparingSchema is Schema of a store in which nobody is answered, once it is new or at another run of the server, until a member has ended the epoch:
+// a busy machine may be slow to let that member look. Who waits looks again soon.
+func comparingSchema(t testing.TB, name string) string {
+	t.Helper()
+	text := schemaWith(name, fmt.Sprintf("%d milliseconds", patience.Long.Milliseconds()))
+	const atARun = "      ready = clock_timestamp() + "
+	_, long, _ := strings.Cut(text, atARun)
+	long, _, _ = strings.Cut(long, " WHERE ")
+	for from, to := range map[string]string{
+		"SET id = gen_random_uuid(),": "SET id = gen_random_uuid(), ready = clock_timestamp(),", "wait := greatest(": "wait := least(100, greatest(",
+		"e.ready - clock_timestamp())));": "e.ready - clock_timestamp()))));", atARun + long: atARun + `(SELECT c.time FROM "` + name + `".compares AS c)`,
+	} {
+		if strings.Count(text, from) != 1 {
+			t.Fatalf("%q is not once in the schema", from)
+		}
+		text = strings.Replace(text, from, to, 1)
+	}
+	return text + comparesFor(name, long)
+}
+
+// comparesFor makes the table that says for how long the members of a store compare.
+func comparesFor(name, long string) string {
+	return fmt.Sprintf("\nDROP TABLE IF EXISTS %q.compares;\nCREATE TABLE %[1]q.compares AS SELECT %s AS time;\n", name, long)
+}
+
+// comparing lets the members of a store wait so from now on. Where there is no store, it makes a new one of that kind.
 func (s *machine) comparing(t testing.TB, name string) {
 	t.Helper()
-	text := schemaWith(name, "5 seconds")
-	start, end := `CREATE FUNCTION "`+name+`".state(`, "END $$;"
-	_, function, _ := strings.Cut(text, start)
-	function, _, _ = strings.Cut(function, end)
-	function = strings.Replace(start, "CREATE", "CREATE OR REPLACE", 1) + function + end
+	s.compared = append(s.compared, name)
+	text := comparingSchema(t, name)
+	var functions []string
+	for _, of := range []string{"next", "state"} {
+		start, end := `CREATE FUNCTION "`+name+`".`+of+"(", "END $$;"
+		_, function, _ := strings.Cut(text, start)
+		function, _, _ = strings.Cut(function, end)
+		functions = append(functions, strings.Replace(start, "CREATE", "CREATE OR REPLACE", 1)+function+end)
+	}
 	logtest.Await(t, "a store whose members compare", func() bool {
 		if s.Do(`SELECT 1 FROM "`+name+`".epoch`) == nil {
-			return s.Do(function) == nil
+			return s.Do(strings.Join(functions, "\n")+text[strings.LastIndex(text, "\nDROP TABLE"):]) == nil
 		}
 		return s.Do(text) == nil // (a member that runs may make it at the same time)
 	})
+}
+
+// limited is a context that ends when the patience of tests does.
+func limited(t testing.TB) context.Context {
+	ctx, cancel := context.WithTimeout(context.Background(), patience.Long)
+	t.Cleanup(cancel)
+	return ctx
 }
 
 func newStore(t testing.TB, o Options) claims.Store {
@@ -119,7 +159,11 @@ func (s *suite) Resume(testing.TB)  { s.Postgres.Resume() }
 
 func (s *suite) Copy(t testing.TB) func() {
 	t.Helper()
-	return logtest.Copied(t, s.Dir, s.Postgres.Stop, s.Postgres.Kill, s.start)
+	restore := logtest.Copied(t, s.Dir, s.Postgres.Stop, s.Postgres.Kill, s.start)
+	for _, name := range s.compared { // (The server that goes on has lost nothing. The copy has the long time.)
+		s.do(t, fmt.Sprintf("UPDATE %q.compares SET time = interval '0'; UPDATE %[1]q.epoch SET ready = least(ready, clock_timestamp())", name))
+	}
+	return restore
 }
 
 // Empty drops the schema, again where a member that looks at it holds what the server wants at the moment, and waits for what it holds.

@@ -3,8 +3,11 @@ package postgres
 import (
 	"context"
 	"fmt"
+	"io"
+	"net"
 	"net/url"
 	"os"
+	"runtime/debug"
 	"strings"
 	"testing"
 	"time"
@@ -81,7 +84,7 @@ func TestRights(t *testing.T) {
 		t.Errorf("%v", all)
 	}
 	claimstest.State(t, b)
-	member := &machine{&broker.Postgres{URL: o.URLs[0]}}
+	member := &machine{Postgres: &broker.Postgres{URL: o.URLs[0]}}
 	for _, query := range []string{
 		`SELECT * FROM svid.claim`, `SELECT * FROM svid.epoch`, `SELECT * FROM svid.withdrawal`, `SELECT * FROM svid.past`, `SELECT * FROM svid.told`,
 		`INSERT INTO svid.claim VALUES (sha256('x'), sha256('x'), 1)`, `UPDATE svid.claim SET owner = sha256('x')`, `DELETE FROM svid.claim`, `TRUNCATE svid.claim`,
@@ -151,7 +154,10 @@ func TestAServerThatForgets(t *testing.T) {
 	for _, name := range []string{"fsync", "full_page_writes"} {
 		s.do(t, "ALTER SYSTEM SET "+name+" = off")
 		s.do(t, "SELECT pg_reload_conf()")
-		logtest.Await(t, "the setting", func() bool { _, err := a.State(context.Background()); return err != nil })
+		logtest.Await(t, "the setting", func() bool {
+			_, err := a.State(limited(t))
+			return err != nil && strings.Contains(err.Error(), name+" is off and must be on")
+		})
 		if f := claimstest.Try(a, patience.Long, claim(1))[0]; f.Err == nil || !strings.Contains(f.Err.Error(), name+" is off and must be on") {
 			t.Errorf("%+v", f)
 		}
@@ -160,7 +166,7 @@ func TestAServerThatForgets(t *testing.T) {
 		}
 		s.do(t, "ALTER SYSTEM RESET "+name)
 		s.do(t, "SELECT pg_reload_conf()")
-		logtest.Await(t, "the setting", func() bool { _, err := a.State(context.Background()); return err == nil })
+		logtest.Await(t, "the setting again", func() bool { _, err := a.State(limited(t)); return err == nil })
 		mine(t, a, claim(1))
 	}
 }
@@ -270,6 +276,59 @@ func TestOptionsOfTheEnvironment(t *testing.T) {
 	if _, err := New(Options{URLs: []string{"postgres://h/d"}, Name: "svid"}); err == nil {
 		t.Error("what the library can't use is no error")
 	}
+}
+
+// A session that can't begin leaves no connection: a member tries again and again, and would use up those of the server.
+func TestASessionThatCantBeginLeavesNothing(t *testing.T) {
+	l, err := net.Listen("tcp", "127.0.0.1:0")
+	if err != nil {
+		t.Fatal(err)
+	}
+	defer l.Close()
+	defer debug.SetGCPercent(debug.SetGCPercent(-1)) // (which closes what nobody has)
+	left := make(chan error, 1)
+	go func() {
+		c, err := l.Accept()
+		if err != nil {
+			left <- err
+			return
+		}
+		defer c.Close()
+		// The server lets the member in, is ready, and refuses the first query as one that shuts down does.
+		const refusal = "SFATAL\x00C57P01\x00Mit ends\x00\x00"
+		_, _ = c.Write([]byte("R\x00\x00\x00\x08\x00\x00\x00\x00Z\x00\x00\x00\x05IE\x00\x00\x00" + string(rune(4+len(refusal))) + refusal + "Z\x00\x00\x00\x05I"))
+		_ = c.SetReadDeadline(time.Now().Add(patience.Long))
+		_, err = io.Copy(io.Discard, c)
+		left <- err
+	}()
+	ctx, cancel := context.WithTimeout(context.Background(), patience.Long)
+	defer cancel()
+	c, err := dial(ctx, "postgres://u@"+l.Addr().String()+"/d?sslmode=disable")
+	if err == nil || !strings.Contains(err.Error(), "it ends") {
+		t.Errorf("%v, %v", c, err)
+	}
+	if err := <-left; err != nil {
+		t.Errorf("the connection stays: %v", err)
+	}
+}
+
+// So does a server that does not say what it is.
+func TestAServerThatDoesNotSayWhatItIsLeavesNothing(t *testing.T) {
+	defer debug.SetGCPercent(debug.SetGCPercent(-1)) // (which closes what nobody has)
+	s := start(t)
+	s.do(t, "CREATE ROLE poor LOGIN")
+	s.do(t, "REVOKE EXECUTE ON FUNCTION pg_control_system() FROM PUBLIC")
+	ctx, cancel := context.WithTimeout(context.Background(), patience.Long)
+	defer cancel()
+	at := &server{number: 1, url: s.as("poor", "any")}
+	for i := 0; i < 5; i++ {
+		if c, _, err := reach(ctx, at); err == nil || !strings.Contains(err.Error(), "pg_control_system") {
+			t.Fatalf("%v, %v", c, err)
+		}
+	}
+	logtest.Await(t, "all connections to end", func() bool {
+		return s.Do(`DO $$ BEGIN ASSERT (SELECT count(*) FROM pg_stat_activity WHERE usename = 'poor') = 0; END $$`) == nil
+	})
 }
 
 // A member that ends leaves no connection, also where it ends while it connects.

@@ -164,8 +164,8 @@ CREATE TRIGGER stays BEFORE DELETE OR TRUNCATE ON {{S}}.epoch FOR EACH STATEMENT
 CREATE TRIGGER stays BEFORE DELETE OR TRUNCATE ON {{S}}.told FOR EACH STATEMENT EXECUTE FUNCTION {{S}}.stays();
 
 -- Puts claims where none are, and says what is there: nothing more than a head where all are there by this call. Else each one has 33
--- bytes: 1 and the owner that is there, 0 where nothing is there, or 2 where the token expires too late. A claim that somebody else has
--- not committed is waited for, but not for long: the others of the call must not wait for it.
+-- bytes: 3 or 1 and the owner that is there, by this call or an earlier one, 0 where nothing is there, or 2 where the token expires too
+-- late. A claim that somebody else has not committed is waited for, but not for long: the others of the call must not wait for it.
 CREATE FUNCTION {{S}}.put(keys bytea[], owners bytea[], ends bigint[]) RETURNS bytea
 LANGUAGE plpgsql SECURITY DEFINER SET search_path = pg_catalog, pg_temp SET lock_timeout = '100ms' AS $$
 DECLARE
@@ -179,7 +179,8 @@ BEGIN
   IF stored = cardinality(keys) THEN
     RETURN {{HEAD}};
   END IF;
-  SELECT string_agg(CASE WHEN c.key IS NOT NULL THEN '\x01'::bytea || substr(c.owner, 1, 32) ELSE {{NONE}} END, ''::bytea ORDER BY u.i) INTO there
+  SELECT string_agg(CASE WHEN c.key IS NULL THEN {{NONE}} WHEN c.xmin = pg_current_xact_id_if_assigned()::xid THEN '\x03'::bytea || substr(c.owner, 1, 32)
+      ELSE '\x01'::bytea || substr(c.owner, 1, 32) END, ''::bytea ORDER BY u.i) INTO there
     FROM {{S}}.epoch AS e, unnest(keys, owners, ends) WITH ORDINALITY AS u(k, o, x, i) LEFT JOIN {{S}}.claim AS c ON c.key = u.k;
   RETURN {{HEAD}} || there;
 END $$;

@@ -3,6 +3,8 @@ package postgres
 import (
 	"context"
 	"errors"
+	"runtime"
+	"strings"
 	"testing"
 	"time"
 
@@ -43,6 +45,51 @@ func TestTheLaterTimelineCounts(t *testing.T) {
 		if err := s.use(s.all[1-at]); !errors.Is(err, errStale) {
 			t.Errorf("the primary of before: %v", err)
 		}
+	}
+}
+
+// Two primaries are named by the numbers of their addresses, so that somebody knows which one to take out.
+func TestTwoPrimariesAreNamed(t *testing.T) {
+	standby, primary := role{system: "1"}, role{primary: true, system: "1", line: "00000001"}
+	for what, s := range map[string]*servers{
+		"addresses 2 and 4 are primaries of two database clusters": looked(0, standby, primary, standby, role{primary: true, system: "2", line: "00000001"}),
+		"addresses 1 and 3 are both primaries":                     looked(0, primary, standby, role{primary: true, system: "1", line: "00000001", started: "later"}),
+	} {
+		if _, err := s.primary(); err == nil || !strings.Contains(err.Error(), what) {
+			t.Errorf("%v, want %q", err, what)
+		}
+	}
+}
+
+// Servers that nobody can look at are waited for in time.
+func TestServersThatNobodyLooksAt(t *testing.T) {
+	s := newServers(make([]string, 2), make(chan struct{}))
+	s.begun = true
+	ctx, cancel := context.WithTimeout(context.Background(), time.Millisecond)
+	defer cancel()
+	ended := make(chan error, 1)
+	go func() { _, err := s.await(ctx); ended <- err }()
+	select {
+	case err := <-ended:
+		if !errors.Is(err, context.DeadlineExceeded) {
+			t.Error(err)
+		}
+	case <-time.After(patience.Long):
+		t.Error("it does not end")
+	}
+}
+
+// However often the primary is asked for, each server is looked at by one goroutine.
+func TestEachServerIsLookedAtOnce(t *testing.T) {
+	s := looked(0, role{primary: true, system: "1"}, role{system: "1"})
+	defer s.wait()
+	defer close(s.done)
+	before := runtime.NumGoroutine()
+	for i := 0; i < 100; i++ {
+		_, _ = s.await(context.Background()) // (nobody is there)
+	}
+	if n := runtime.NumGoroutine() - before; n >= 100 {
+		t.Errorf("%d goroutines more", n)
 	}
 }
 

@@ -167,14 +167,18 @@ func (s *Store) call(ctx context.Context, text string, values ...driver.Value) (
 	return s.callThen(ctx, func(context.Context, *conn) error { return nil }, text, values...)
 }
 
-// confirm asks whether the standbys have what was committed on this connection, where a claim is to have some.
-func (s *Store) confirm(ctx context.Context, c *conn) error {
-	if s.options.Replicas <= 1 {
-		return nil
+// confirm asks whether the standbys have what was committed on this connection by a call that began at a time, where a claim is to have some. Where the
+// call took long, it asks whether the server is still there: a member that was away would see later that it is not.
+func (s *Store) confirm(ctx context.Context, c *conn, begun time.Time) (err error) {
+	if s.options.Replicas > 1 {
+		var rows [][]driver.Value
+		rows, err = c.call(ctx, "SELECT "+quoted(s.options.Name)+".kept($1::integer)", int64(s.options.Replicas))
+		if err == nil && (len(rows) != 1 || rows[0][0] != true) {
+			err = errAlone
+		}
 	}
-	rows, err := c.call(ctx, "SELECT "+quoted(s.options.Name)+".kept($1::integer)", int64(s.options.Replicas))
-	if err == nil && (len(rows) != 1 || rows[0][0] != true) {
-		err = errAlone
+	if err == nil && time.Since(begun) > quarantine/3 {
+		_, err = c.role(ctx)
 	}
 	return err
 }
@@ -526,23 +530,29 @@ func (s *Store) Put(ctx context.Context, these []claims.Claim, found []claims.Fo
 		}
 		return
 	}
-	var mark *claims.Claim
+	var stored *claims.Claim // the one that stays for longest
+	var earlier []claims.Claim
 	for i := range these {
 		found[i] = claims.Found{Owner: these[i].Owner, Time: a.time, Deaf: a.deaf}
 		if len(a.rest) > 0 {
 			found[i].Owner, found[i].Err = cell(a.rest[i*cellLen : (i+1)*cellLen])
 		}
-		if found[i].Err == nil && found[i].Owner == these[i].Owner && (mark == nil || mark.Expires < these[i].Expires) {
-			mark = &these[i]
+		if found[i].Err != nil || found[i].Owner != these[i].Owner {
+			continue
+		}
+		if !a.stored(i) {
+			earlier = append(earlier, these[i])
+		} else if stored == nil || stored.Expires < these[i].Expires {
+			stored = &these[i]
 		}
 	}
-	s.keep(mark, a.epoch)
+	s.keep(stored, earlier, a.epoch)
 }
 
 // cell reads what put answers for one claim.
 func cell(bytes []byte) (owner claims.Owner, err error) {
 	switch bytes[0] {
-	case 1:
+	case 1, cellStored:
 		copy(owner[:], bytes[1:])
 		return owner, nil
 	case 2:
@@ -551,15 +561,18 @@ func cell(bytes []byte) (owner claims.Owner, err error) {
 	return owner, errGone
 }
 
-// keep keeps in mind that a claim is there.
-func (s *Store) keep(mark *claims.Claim, epoch string) {
-	if mark == nil {
-		return
-	}
+// keep keeps in mind which claims are there: one that a call stored, or none, and those that were there earlier.
+func (s *Store) keep(stored *claims.Claim, earlier []claims.Claim, epoch string) {
 	s.mu.Lock()
 	defer s.mu.Unlock()
-	if s.epoch == epoch {
-		s.marks.add(*mark)
+	if s.epoch != epoch {
+		return
+	}
+	for _, one := range earlier {
+		s.marks.found(one)
+	}
+	if stored != nil {
+		s.marks.add(*stored)
 	}
 }
 
@@ -590,7 +603,8 @@ func (s *Store) decide(ctx context.Context, n int, text string, values ...driver
 	case <-ctx.Done():
 		return a, ctx.Err()
 	}
-	rows, err := s.callThen(ctx, s.confirm, text, values...)
+	begun := time.Now()
+	rows, err := s.callThen(ctx, func(ctx context.Context, c *conn) error { return s.confirm(ctx, c, begun) }, text, values...)
 	<-s.calls
 	if err == errMissing || err == errAlone {
 		if _, err := s.look(ctx); err != nil {
@@ -627,16 +641,15 @@ func (s *Store) Withdraw(ctx context.Context, w claims.Withdrawal) (owner claims
 	if err != nil {
 		return owner, err
 	}
-	owner = claims.Withdrawn
-	if len(a.rest) > 0 {
-		if owner, err = cell(a.rest); err != nil {
-			return owner, err
-		}
+	one := claims.Claim{Key: w.Key, Owner: claims.Withdrawn, Expires: w.Expires}
+	if len(a.rest) == 0 {
+		s.keep(&one, nil, a.epoch)
+		return one.Owner, nil
 	}
-	if owner == claims.Withdrawn {
-		s.keep(&claims.Claim{Key: w.Key, Owner: owner, Expires: w.Expires}, a.epoch)
+	if owner, err = cell(a.rest); err == nil && owner == one.Owner {
+		s.keep(nil, []claims.Claim{one}, a.epoch)
 	}
-	return owner, nil
+	return owner, err
 }
 
 // Withdrawals is part of claims.Store.

@@ -75,7 +75,12 @@ const (
 	counts    = 0
 	answerLen = 1 + 8 + 8 + 16
 	cellLen   = 1 + 32
+
+	cellStored = 3
 )
+
+// stored says whether the call stored the claim with a number, where it is there.
+func (a *answer) stored(n int) bool { return len(a.rest) == 0 || a.rest[n*cellLen] == cellStored }
 
 // answered reads an answer.
 func answered(rows [][]driver.Value) (a answer, ok bool) {

@@ -75,6 +75,11 @@ func (s *server) dial(ctx context.Context) (*conn, error) {
 	}
 	if len(first) > 0 {
 		answers, err := c.do(ctx, first...)
+		for i, answer := range answers {
+			if fault, is := answer.(redis.Error); is && password != "" { // (a server that does not know AUTH says what it was given)
+				answers[i] = redis.Error(strings.ReplaceAll(string(fault), password, "***"))
+			}
+		}
 		if err == nil {
 			err = firstFailure(answers)
 		}

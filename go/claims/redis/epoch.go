@@ -22,12 +22,12 @@ var errMeanwhile = errors.New("the server came up again, or another one took ove
 
 // A view is what a server has of a shard at one moment.
 type view struct {
-	raw          string   // the record
-	seen         string   // the greatest time that a member has written, and in which epoch
-	life         string   // this member's number
-	asked        evidence // the last entry of its own that this member knew of, when it asked
-	claimed      string   // the owner that this entry has
-	doubts       uint64   // of the shard, when it asked
+	raw          string     // the record
+	seen         string     // the greatest time that a member has written, and in which epoch
+	life         string     // this member's number
+	asked        []evidence // what this member had put, when it asked
+	claimed      []any      // the owner that each of these entries has
+	doubts       uint64     // of the shard, when it asked
 	time, millis uint64
 	who          replication
 }
@@ -58,7 +58,7 @@ func (s *Store) compare(ctx context.Context, c *conn, shards []*shard) error {
 			s.disagree(shards)
 			return err
 		}
-		wrote := false
+		again := false
 		var wait error
 		for i, it := range shards {
 			next, err := s.due(it, views[i], c.node)
@@ -70,15 +70,15 @@ func (s *Store) compare(ctx context.Context, c *conn, shards []*shard) error {
 				return err
 			}
 			if next == nil {
-				s.adopt(it, views[i])
+				again = !s.adopt(it, views[i]) || again
 				continue
 			}
 			if err := s.swap(ctx, c, it, views[i].raw, next.text()); err != nil {
 				return err
 			}
-			wrote = true
+			again = true
 		}
-		if !wrote {
+		if !again {
 			return wait
 		}
 	}
@@ -102,18 +102,16 @@ func isKnown(v view) bool {
 
 // look reads what a server has.
 func (s *Store) look(ctx context.Context, c *conn, shards []*shard) ([]view, error) {
-	const each = 4
 	var commands []command
 	views := make([]view, len(shards))
 	s.mu.Lock()
 	for i, it := range shards {
 		views[i].asked, views[i].doubts = it.claimed, it.doubts
-		claimed := it.claimed.key
-		if claimed == "" {
-			claimed = it.prefix + "epoch"
-		}
 		commands = append(commands, cmd("GETRANGE", it.prefix+"epoch", 0, mostRecord), cmd("GETRANGE", it.prefix+"seen", 0, 63),
-			cmd("GETRANGE", it.lifeKey(s.life), 0, 31), cmd("GETRANGE", claimed, 0, 31))
+			cmd("GETRANGE", it.lifeKey(s.life), 0, 31))
+		for _, one := range it.claimed {
+			commands = append(commands, cmd("GETRANGE", one.key, 0, 31))
+		}
 	}
 	s.mu.Unlock()
 	answers, err := c.do(ctx, append(commands, cmd("TIME"), cmd("INFO", "replication"))...)
@@ -133,8 +131,9 @@ func (s *Store) look(ctx context.Context, c *conn, shards []*shard) ([]view, err
 		return nil, err
 	}
 	for i := range views {
-		of := answers[each*i:]
-		views[i] = view{raw: textOf(of[0]), seen: textOf(of[1]), life: textOf(of[2]), asked: views[i].asked, claimed: textOf(of[3]), doubts: views[i].doubts, time: seconds, millis: millis, who: who}
+		v := &views[i]
+		v.raw, v.seen, v.life, v.time, v.millis, v.who = textOf(answers[0]), textOf(answers[1]), textOf(answers[2]), seconds, millis, who
+		v.claimed, answers = answers[3:3+len(v.asked)], answers[3+len(v.asked):]
 	}
 	return views, nil
 }
@@ -237,7 +236,12 @@ func (s *Store) lacks(it *shard, v view) bool {
 			return true
 		}
 	}
-	return v.asked.key != "" && v.time+1 < v.asked.until && v.claimed != string(v.asked.owner[:])
+	for n, one := range v.asked {
+		if v.time+1 < one.until && textOf(v.claimed[n]) != string(one.owner[:]) {
+			return true
+		}
+	}
+	return false
 }
 
 func maximum(a, b uint64) uint64 {
@@ -247,19 +251,25 @@ func maximum(a, b uint64) uint64 {
 	return b
 }
 
-// adopt takes a record that was read.
-func (s *Store) adopt(it *shard, v view) {
+// adopt takes a record that was read. It does not where an answer of an earlier run came after the look had begun: nobody has compared what that put.
+func (s *Store) adopt(it *shard, v view) bool {
 	r, ok := readRecord(v.raw)
 	if !ok {
-		return
+		return true
 	}
 	s.mu.Lock()
 	defer s.mu.Unlock()
+	for _, one := range it.claimed {
+		if r.id == it.record.id && r.run != it.record.run && !knows(v.asked, one) {
+			return false
+		}
+	}
 	if r.id != it.record.id {
-		it.latest, it.life, it.lifeAt, it.claimed = v.time, 0, 0, evidence{} // (that epoch's end counts with all that was lost)
+		it.latest, it.life, it.lifeAt, it.claimed = v.time, 0, 0, nil // (that epoch's end counts with all that was lost)
 	}
 	it.record, it.raw, it.agreed = r, v.raw, v.doubts == it.doubts
 	it.tick(v.time)
+	return true
 }
 
 // tick notes the store's time.

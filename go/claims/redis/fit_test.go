@@ -4,6 +4,8 @@ import (
 	"context"
 	"errors"
 	"fmt"
+	"io"
+	"net"
 	"os"
 	"path/filepath"
 	"strings"
@@ -340,11 +342,33 @@ func TestPasswords(t *testing.T) {
 			t.Fatal(err)
 		}
 	}
+	unaware, err := net.Listen("tcp", "127.0.0.1:0") // (as a Redis that does not know AUTH)
+	if err != nil {
+		t.Fatal(err)
+	}
+	defer unaware.Close()
+	go func() {
+		for {
+			c, err := unaware.Accept()
+			if err != nil {
+				return
+			}
+			go func() {
+				defer c.Close()
+				for room := make([]byte, 1<<10); err == nil; {
+					if _, err = c.Read(room); err == nil {
+						_, err = io.WriteString(c, "-ERR unknown command 'AUTH', with args beginning with: 'sesame' \r\n")
+					}
+				}
+			}()
+		}
+	}()
 	for name, row := range map[string]struct {
 		url, variable string
 		good          bool
 	}{
 		"none":        {s.URL, "", false},
+		"unaware":     {"redis://:sesame@" + unaware.Addr().String(), "", false},
 		"url":         {strings.Replace(s.URL, "redis://", "redis://:sesame@", 1), "", true},
 		"file":        {s.URL + "?password_file=" + file, "", true},
 		"file, CR LF": {s.URL + "?password_file=" + file + ".crlf", "", true},
@@ -364,6 +388,35 @@ func TestPasswords(t *testing.T) {
 				t.Error(err)
 			}
 		})
+	}
+}
+
+// A Sentinel is shown its own password, and never the servers': one without a password refuses that, and one of another team would know it.
+func TestPasswordsOfSentinels(t *testing.T) {
+	file := filepath.Join(t.TempDir(), "password")
+	if err := os.WriteFile(file, []byte("open\n"), 0o600); err != nil {
+		t.Fatal(err)
+	}
+	t.Setenv(passwordVariable, "of the environment")
+	for ending, want := range map[string][2]string{
+		"":                                {"", "sesame"},
+		"&password_file=" + file:          {"", "open"},
+		"&sentinel_password_file=" + file: {"open", "sesame"},
+	} {
+		sentinel, err := parse("redis+sentinel://:sesame@h?service=svid" + ending)
+		if err != nil {
+			t.Fatal(err)
+		}
+		for i, one := range []*server{&sentinel, sentinel.at("h:6379")} {
+			if is, err := one.secret(); err != nil || is != want[i] {
+				t.Errorf("%s: the password of %s is %q, and must be %q: %v", ending, []string{"a Sentinel", "the server"}[i], is, want[i], err)
+			}
+		}
+	}
+	if one, err := parse("redis+sentinel://h?service=svid"); err != nil {
+		t.Fatal(err)
+	} else if is, err := one.secret(); is != "" || err != nil {
+		t.Errorf("the password of a Sentinel is %q: %v", is, err)
 	}
 }
 
@@ -418,7 +471,12 @@ func TestASocket(t *testing.T) {
 // Options that can't be used are errors that have no secret of them.
 func TestOptions(t *testing.T) {
 	t.Parallel()
+	empty := filepath.Join(t.TempDir(), "empty")
+	if err := os.WriteFile(empty, nil, 0o600); err != nil {
+		t.Fatal(err)
+	}
 	for text, want := range map[string]string{
+		"rediss://h?ssl_ca_certs=" + empty:    empty + ": no certificate in it",
 		"redis://h":                           "",
 		"redis://h:1/3":                       "",
 		"rediss://u:secret@[::1]:6380/0":      "",

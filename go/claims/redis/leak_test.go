@@ -4,7 +4,9 @@ import (
 	"context"
 	"errors"
 	"net"
+	"runtime/debug"
 	"testing"
+	"time"
 
 	"svid.example/go/v3/internal/logtest"
 )
@@ -44,6 +46,55 @@ func TestEachSearchForThePrimaryLeavesNothing(t *testing.T) {
 	})
 }
 
+// What is asked on a connection of its own leaves none, whether it fails or not: else members that try again and again would use up those of the server.
+func TestWhatIsAskedOnceLeavesNothing(t *testing.T) {
+	server := start(t)
+	defer debug.SetGCPercent(debug.SetGCPercent(-1)) // (which closes what nobody has)
+	before := server.sockets(t)
+	for what, try := range map[string]struct {
+		ask  func(s *Store) error
+		good bool
+	}{
+		"a password that is refused": {func(s *Store) error {
+			s.servers[0].user, s.servers[0].password = "nobody", "wrong"
+			_, err := s.servers[0].dial(limited(t))
+			return err
+		}, false},
+		"what the server is": {func(s *Store) error { return s.find(limited(t)) }, true},
+		"whether it fits":    {func(s *Store) error { return s.Check(limited(t)) }, true},
+		"the ID of no server of a Cluster": {func(s *Store) error {
+			if err := s.find(limited(t)); err != nil {
+				return nil
+			}
+			s.cluster, s.shards[0].at = true, server.Redis.Address
+			_, err := s.reach(limited(t), s.shards[0])
+			return err
+		}, false},
+		"the primary, under two names": {func(s *Store) error {
+			s.servers = append(s.servers, s.servers[0])
+			c, err := s.primary(limited(t))
+			if err == nil {
+				c.Close()
+			}
+			return err
+		}, true},
+		"the primary, as a replica": {func(s *Store) error {
+			server.do(t, "REPLICAOF", "127.0.0.1", "1")
+			defer server.do(t, "REPLICAOF", "NO", "ONE")
+			_, err := s.primary(limited(t))
+			return err
+		}, false},
+		"slots of no Cluster": {func(s *Store) error { _, err := s.servers[0].slots(limited(t)); return err }, false},
+	} {
+		for i := 0; i < 5; i++ {
+			if err := try.ask(newOwn(t, Options{URLs: []string{server.URL}})); (err == nil) != try.good {
+				t.Errorf("%s: %v", what, err)
+			}
+		}
+		logtest.Await(t, "the connections to end that asked for "+what, func() bool { return server.sockets(t) <= before })
+	}
+}
+
 // A burst of calls leaves as many connections as wait for the next one, and no more.
 func TestABurstLeavesFewConnections(t *testing.T) {
 	t.Parallel()
@@ -72,17 +123,20 @@ func TestAServerThatIsAwayIsAskedNowAndThen(t *testing.T) {
 	}
 	defer l.Close()
 	s := newOwn(t, Options{URLs: []string{"redis+sentinel://" + l.Addr().String() + "?service=a", "redis+sentinel://127.0.0.1:1?service=a"}})
-	asked := 0
+	asked, tried, from := 0, 0, time.Now()
 	faults := make([]error, 2)
 	for i := 0; i < 20; i++ {
-		s.ask(context.Background(), func(context.Context, int, *conn) { asked++ }, faults)
+		s.ask(limited(t), func(context.Context, int, *conn) { asked++ }, faults)
+		var refused *net.OpError
+		if errors.As(faults[1], &refused) {
+			tried++
+		}
 	}
 	if asked != 20 || faults[0] != nil || faults[1] == nil {
 		t.Errorf("the one that is there was asked %d times: %v", asked, faults)
 	}
-	var refused *net.OpError
-	if errors.As(faults[1], &refused) {
-		t.Errorf("one that is away was asked each time: %v", faults[1])
+	if took := time.Since(from); tried < 1 || tried > 1+int(took/askOthers) {
+		t.Errorf("one that is away was asked %d times in %v: %v", tried, took, faults[1])
 	}
 }
 

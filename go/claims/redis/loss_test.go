@@ -4,12 +4,14 @@ import (
 	"context"
 	"errors"
 	"fmt"
+	"io"
 	"net"
 	"os"
 	"os/exec"
 	"path/filepath"
 	"strings"
 	"sync"
+	"sync/atomic"
 	"testing"
 	"time"
 	"unsafe"
@@ -250,6 +252,47 @@ func TestAPrimaryThatWasAReplica(t *testing.T) {
 	ended(t, before, newStore(t, o), a, b)
 }
 
+// Once the server at an address is a replica, the next call connects again: the address may lead to the primary by then.
+func TestAnAddressThatLeadsToAnotherServer(t *testing.T) {
+	t.Parallel()
+	replica, primary := start(t), start(t)
+	var to atomic.Value
+	to.Store(replica.Redis.Address)
+	s := openedOwn(t, Options{URLs: []string{"redis://" + leading(t, &to)}})
+	put(t, s, 1)
+	replica.do(t, "REPLICAOF", "127.0.0.1", "1")
+	to.Store(primary.Redis.Address)
+	logtest.Await(t, "a claim at the primary", func() bool {
+		return claimstest.Try(s, time.Second, claim(2))[0].Err == nil
+	})
+}
+
+// leading is an address that leads each new connection to another one.
+func leading(t *testing.T, to *atomic.Value) string {
+	t.Helper()
+	l, err := net.Listen("tcp", "127.0.0.1:0")
+	if err != nil {
+		t.Fatal(err)
+	}
+	t.Cleanup(func() { l.Close() })
+	go func() {
+		for {
+			from, err := l.Accept()
+			if err != nil {
+				return
+			}
+			other, err := net.Dial("tcp", to.Load().(string))
+			if err != nil {
+				from.Close()
+				continue
+			}
+			go func() { _, _ = io.Copy(other, from); other.Close() }()
+			go func() { _, _ = io.Copy(from, other); from.Close() }()
+		}
+	}()
+	return l.Addr().String()
+}
+
 // As before, and it lost nothing that the record tells, for a member that put nothing meanwhile: each put looks at the server's run.
 func TestEachPutLooksAtTheRun(t *testing.T) {
 	t.Parallel()
@@ -351,6 +394,7 @@ func TestSentinel(t *testing.T) {
 				all = append(all, startReplica(t, primary))
 			}
 			var o Options
+			var sentinels []*broker.Redis
 			for i := 0; i < 3; i++ {
 				s, err := broker.NewSentinel(t.TempDir(), "svid", primary.Redis.Address, 2)
 				if err == nil {
@@ -360,7 +404,7 @@ func TestSentinel(t *testing.T) {
 					t.Fatal(err)
 				}
 				t.Cleanup(s.Kill)
-				o.URLs = append(o.URLs, s.URL)
+				sentinels, o.URLs = append(sentinels, s), append(o.URLs, s.URL)
 			}
 			for _, url := range o.URLs {
 				one, err := parse(url)
@@ -396,6 +440,7 @@ func TestSentinel(t *testing.T) {
 				lost = put(t, a, 1)
 			}
 			primary.Redis.Kill()
+			notice(t, sentinels...)
 			if replicas == 1 {
 				all[1].Redis.Resume()
 				refused(t, b, lost)
@@ -408,6 +453,16 @@ func TestSentinel(t *testing.T) {
 			end()
 			stays(t, before, a, b, opened(t, o))
 		})
+	}
+}
+
+// notice lets Sentinels notice that the primary has ended.
+func notice(t *testing.T, sentinels ...*broker.Redis) {
+	t.Helper()
+	for _, s := range sentinels {
+		if err := s.Notice("svid"); err != nil {
+			t.Fatal(err)
+		}
 	}
 }
 
@@ -474,8 +529,9 @@ func TestAClockThatIsADayOff(t *testing.T) {
 	}
 	before = claimstest.State(t, a)
 	set(day)
+	from := claimstest.Now()
 	is = claimstest.State(t, b)
-	if is.Epoch != before.Epoch || is.Time < claimstest.Now()+day-10 {
+	if is.Epoch != before.Epoch || is.Time < from+day-1 {
 		t.Errorf("%+v", is)
 	}
 	c := claim(1)
@@ -584,6 +640,230 @@ func TestLateAnswers(t *testing.T) {
 	stays(t, before, a, b)
 }
 
+// lateAnswer is a member to whom an answer comes late: the claim is put, and what was found comes after release.
+func lateAnswer(t *testing.T, s *machine) (a claims.Store, c claims.Claim, release func() claims.Found) {
+	t.Helper()
+	proxy := logtest.NewProxy(t, s.Redis.Address)
+	a, c = opened(t, Options{URLs: []string{"redis://" + proxy.Address}}), claim(1)
+	put(t, a, 1)
+	end := proxy.Hold(t, c.Key[:])
+	found := make(chan claims.Found, 1)
+	go func() { found <- claimstest.Try(a, patience.Long, c)[0] }()
+	logtest.Await(t, "the entry", func() bool { return s.do(t, "EXISTS", keyOf(c)) == ":1" })
+	return a, c, func() claims.Found { end(); return <-found }
+}
+
+// Two answers are read in another order than that in which the server put the entries. Of both, a member knows the one that was put last.
+func TestAnswersInAnotherOrder(t *testing.T) {
+	t.Parallel()
+	for name, prepare := range map[string]func(t *testing.T, s *machine){
+		"alone": func(*testing.T, *machine) {}, "with a replica": func(t *testing.T, s *machine) { startReplica(t, s) },
+	} {
+		prepare := prepare
+		t.Run(name, func(t *testing.T) {
+			s := start(t)
+			prepare(t, s)
+			a, first, release := lateAnswer(t, s)
+			before := claimstest.State(t, a)
+			last := put(t, a, 1)
+			if f := release(); claimstest.Judge(first, f, 60) != claimstest.Mine {
+				t.Fatalf("%+v", f)
+			}
+			s.do(t, "DEL", keyOf(last))
+			claimstest.State(t, a)
+			ended(t, before, newStore(t, Options{URLs: []string{s.URL}}), a)
+		})
+	}
+}
+
+// The server may take a part of a call, then another call, and then the rest, whose claims others have won. Of both calls, a member knows the entry that
+// was put last.
+func TestACallThatIsCut(t *testing.T) {
+	t.Parallel()
+	s := start(t)
+	startReplica(t, s)
+	proxy := logtest.NewProxy(t, s.Redis.Address)
+	a, b := opened(t, Options{URLs: []string{"redis://" + proxy.Address}}), opened(t, Options{URLs: []string{s.URL}})
+	before := claimstest.State(t, a)
+	these := []claims.Claim{claim(1), put(t, b, 2)}
+	these[1].Owner = these[0].Owner
+	release := proxy.Cut(t, these[1].Key[:])
+	answers := make(chan []claims.Found, 1)
+	go func() { answers <- claimstest.Try(a, patience.Long, these...) }()
+	logtest.Await(t, "the first part", func() bool { return s.do(t, "EXISTS", keyOf(these[0])) == ":1" })
+	last := put(t, a, 1)
+	release()
+	if f := <-answers; claimstest.Judge(these[0], f[0], 60) != claimstest.Mine || f[1].Err != nil || f[1].Owner == these[1].Owner {
+		t.Fatalf("%+v", f)
+	}
+	s.do(t, "DEL", keyOf(last))
+	claimstest.State(t, a)
+	ended(t, before, newStore(t, Options{URLs: []string{s.URL}}), a)
+}
+
+// A claim whose answer was lost finds its own entry. A member that was answered so knows it as one that it has put, beside those that came later.
+func TestAnEntryThatWasFound(t *testing.T) {
+	t.Parallel()
+	for _, isLast := range []bool{true, false} {
+		isLast := isLast
+		t.Run(fmt.Sprint(isLast), func(t *testing.T) {
+			s := start(t)
+			proxy := logtest.NewProxy(t, s.Redis.Address)
+			a := opened(t, Options{URLs: []string{"redis://" + proxy.Address}})
+			before := claimstest.State(t, a)
+			put(t, a, 1)
+			found := claim(1)
+			proxy.Lose(found.Key[:])
+			claimstest.Try(a, patience.Long, found)
+			last := put(t, a, 1)
+			if f := claimstest.Put(t, a, found)[0]; !proxy.HasLost() || claimstest.Judge(found, f, 60) != claimstest.Mine {
+				t.Fatalf("%+v", f)
+			}
+			if !isLast {
+				found = last
+			}
+			s.do(t, "DEL", keyOf(found))
+			claimstest.State(t, a)
+			ended(t, before, newStore(t, Options{URLs: []string{s.URL}}), a)
+		})
+	}
+}
+
+// Claims whose answers were lost find their entries in one call. Whichever came last at the server, the member knows it.
+func TestEntriesThatWereFound(t *testing.T) {
+	t.Parallel()
+	s := start(t)
+	proxy := logtest.NewProxy(t, s.Redis.Address)
+	a := opened(t, Options{URLs: []string{"redis://" + proxy.Address}})
+	before := claimstest.State(t, a)
+	put(t, a, 1) // (then the server has the scripts of others)
+	first, last := claim(1), claim(1)
+	for _, c := range []claims.Claim{first, last} {
+		proxy.Lose(c.Key[:])
+		claimstest.Try(a, patience.Long, c)
+		if !proxy.HasLost() {
+			t.Fatal("the answer came")
+		}
+	}
+	for n, f := range claimstest.Put(t, a, last, first) {
+		if claimstest.Judge(first, f, 60) != claimstest.Mine {
+			t.Fatalf("%d: %+v", n, f)
+		}
+	}
+	s.do(t, "DEL", keyOf(last))
+	claimstest.State(t, a)
+	ended(t, before, newStore(t, Options{URLs: []string{s.URL}}), a)
+}
+
+// A member knows few entries, however many it puts or finds: each look asks for all of them.
+func TestFewEntriesAreKnown(t *testing.T) {
+	t.Parallel()
+	it := &shard{prefix: "svid:"}
+	p := &part{shards: []*shard{it}, claims: []int{0}, of: []int{0}}
+	for n := 0; n < 2*mostKnown; n++ {
+		c := claim(1)
+		p.note(1, []int{0}, []any{c.Owner[:]}, []claims.Claim{c}, []sent{{}}, false)
+	}
+	if len(it.claimed) != mostKnown {
+		t.Errorf("%d that were found", len(it.claimed))
+	}
+	for n := 0; n < 2; n++ {
+		p.note(1, []int{0}, []any{"OK"}, []claims.Claim{claim(1)}, []sent{{claimed: it.claimed}}, true)
+		if len(it.claimed) != 1 {
+			t.Errorf("%d entries are known after a new one, and not that one alone", len(it.claimed))
+		}
+	}
+	last := it.claimed[0]
+	for n := 0; n < 2*mostKnown; n++ {
+		c := claim(1)
+		p.note(1, []int{0}, []any{c.Owner[:]}, []claims.Claim{c}, []sent{{}}, false)
+	}
+	if len(it.claimed) != mostKnown || !knows(it.claimed, last) {
+		t.Errorf("%d entries are known, and the one that was put last is one of them: %t", len(it.claimed), knows(it.claimed, last))
+	}
+}
+
+// An answer comes once its member has compared with a later run of the server, which lacks the entry: another member has won the token there.
+func TestAnAnswerOfAnEarlierRun(t *testing.T) {
+	t.Parallel()
+	s := start(t)
+	a, c, release := lateAnswer(t, s)
+	b := opened(t, Options{URLs: []string{s.URL}})
+	before := claimstest.State(t, a)
+	s.do(t, "DEL", keyOf(c))
+	s.Redis.Kill()
+	s.Start(t)
+	logtest.Await(t, "the later run", func() bool { put(t, a, 1); return claimstest.State(t, a).Epoch == before.Epoch })
+	other := c
+	other.Owner = claimstest.Own(2)
+	won := claimstest.Put(t, b, other)[0]
+	if f := release(); claimstest.Judge(c, f, 60) == claimstest.Mine && claimstest.Judge(other, won, 60) == claimstest.Mine {
+		t.Errorf("accepted twice: %+v and %+v", f, won)
+	}
+	stays(t, before, a, b)
+}
+
+// As before, for a member that looked at nothing meanwhile.
+func TestALateAnswerOfAServerThatIsGone(t *testing.T) {
+	t.Parallel()
+	s := start(t)
+	a, c, release := lateAnswer(t, s)
+	b := opened(t, Options{URLs: []string{s.URL}})
+	s.do(t, "DEL", keyOf(c))
+	s.Redis.Kill()
+	s.Start(t)
+	other := c
+	other.Owner = claimstest.Own(2)
+	won := claimstest.Put(t, b, other)[0]
+	if f := release(); claimstest.Judge(c, f, 60) == claimstest.Mine && claimstest.Judge(other, won, 60) == claimstest.Mine {
+		t.Errorf("accepted twice: %+v and %+v", f, won)
+	}
+	claimstest.State(t, a)
+}
+
+// A claim compares with a server that is slow for as long as anybody waits for it, though no look has time enough.
+func TestAServerThatIsSlow(t *testing.T) {
+	t.Parallel()
+	s := start(t)
+	proxy := logtest.NewProxy(t, s.Redis.Address)
+	a := opened(t, Options{URLs: []string{"redis://" + proxy.Address}})
+	proxy.Delay(turnWait + turnWait/10)
+	ctx, cancel := context.WithTimeout(context.Background(), turnWait)
+	defer cancel()
+	if _, err := a.State(ctx); err == nil {
+		t.Fatal("a look had time enough")
+	}
+	put(t, a, 1)
+}
+
+// An answer of an earlier run may come while a look reads what the next run has. Another look compares what that answer put: it is noted once it counts.
+func TestALookThatALateAnswerOvertook(t *testing.T) {
+	t.Parallel()
+	s := newOwn(t, usual(Options{URLs: []string{"redis://127.0.0.1:1"}}))
+	known := record{id: strings.Repeat("a", idLength), terms: s.options.Terms, run: "earlier"}
+	now := known
+	now.run = "later"
+	it := &shard{record: known}
+	v := view{raw: now.text(), asked: it.claimed}
+	answers := []any{[]byte(known.id), []any{[]byte("1"), []byte("0")}, []byte("# Replication\r\nrole:master\r\nmaster_replid:earlier\r\n")}
+	_, err := s.behind(answers, []*shard{it}, []sent{{record: known}}, func(uint64) {
+		if s.mu.TryLock() {
+			t.Fatal("a look may end before the entry is noted")
+		}
+		it.claimed = []evidence{{key: "key"}}
+	})
+	if err != nil {
+		t.Fatal(err)
+	}
+	if s.adopt(it, v) || it.agreed || it.record.run != known.run {
+		t.Errorf("nobody has compared its entry: %+v", it)
+	}
+	v.asked = it.claimed
+	if !s.adopt(it, v) || !it.agreed || it.record.run != now.run {
+		t.Errorf("its entry was compared: %+v", it)
+	}
+}
+
 // A context that ends after its answer ends no later call on that connection.
 func TestAContextThatEndsLater(t *testing.T) {
 	t.Parallel()
@@ -661,17 +941,17 @@ func clusterOf(t *testing.T, replicas int, n int) (all []*broker.Redis, o Option
 func owns(t *testing.T, all []*broker.Redis, it *shard) (owner int) {
 	t.Helper()
 	owner = -1
-	for i, s := range all {
-		if s.Pid() == 0 {
-			continue
+	logtest.Await(t, "a server that has the slot", func() bool { // (on a busy machine the others may seem to be away, and then it has none)
+		for i, s := range all {
+			if s.Pid() == 0 {
+				continue
+			}
+			if _, err := s.Do("EXISTS", it.prefix+"epoch"); err == nil {
+				owner = i
+			}
 		}
-		if _, err := s.Do("EXISTS", it.prefix+"epoch"); err == nil {
-			owner = i
-		}
-	}
-	if owner < 0 {
-		t.Fatal("no server has the slot")
-	}
+		return owner >= 0
+	})
 	return owner
 }
 
@@ -758,6 +1038,19 @@ func TestCluster(t *testing.T) {
 			t.Errorf("%+v", late)
 		}
 	})
+	t.Run("Shards", func(t *testing.T) { // a call puts the last entry of each shard, and all these are lost
+		var last []claims.Claim
+		logtest.Await(t, "claims of all shards", func() bool { last = put16(t, a); return len(last) == shardCount })
+		for i, it := range newShards("svid", true) {
+			if answer, err := all[owns(t, all, it)].Do("DEL", it.prefix+string(last[i].Key[:])); answer != ":1" || err != nil {
+				t.Fatal(answer, err)
+			}
+		}
+		claimstest.State(t, a)
+		for _, c := range last {
+			refused(t, b, c)
+		}
+	})
 }
 
 // of16 is one claim for each shard.
@@ -803,7 +1096,7 @@ func move(t *testing.T, from, to *broker.Redis, slot int) {
 	moved := false
 	for end := time.Now().Add(patience.Long); !moved; {
 		answer, err := from.Do("EVAL", "#!lua flags=allow-cross-slot-keys\nlocal k = redis.call('CLUSTER', 'GETKEYSINSLOT', ARGV[1], 100); if #k == 0 then return 0 end; "+
-			"redis.call('MIGRATE', ARGV[2], ARGV[3], '', '0', '5000', 'KEYS', unpack(k)); return 1", "0", number, "127.0.0.1", port(to))
+			"redis.call('MIGRATE', ARGV[2], ARGV[3], '', '0', ARGV[4], 'KEYS', unpack(k)); return 1", "0", number, "127.0.0.1", port(to), fmt.Sprint(patience.Long.Milliseconds()))
 		if err != nil || time.Now().After(end) {
 			t.Fatal(answer, err)
 		}
@@ -978,16 +1271,38 @@ func TestAPrimaryThatHung(t *testing.T) {
 	}
 	t.Cleanup(sentinel.Kill)
 	o := Options{URLs: []string{sentinel.URL}}
-	a, b := opened(t, o), opened(t, o)
+	a, b, c := opened(t, o), opened(t, o), openedOwn(t, o)
 	before := claimstest.State(t, a)
 	put(t, b, 1)
 	has(t, replica, put(t, a, 1))
+	c.disagree(c.shards)
 	primary.Redis.Pause()
+	notice(t, sentinel)
+	// (a claim that compares with the primary, and can be waited for as long as a test lasts)
+	waiting, late := make(chan []claims.Found, 1), claim(3)
+	go func() { waiting <- claimstest.Try(c, 2*patience.Long, late) }()
+	// (and so can a member that starts)
+	starts, begun := newOwn(t, o), make(chan error, 1)
+	go func() {
+		ctx, cancel := context.WithTimeout(context.Background(), 2*patience.Long)
+		defer cancel()
+		_, err := starts.Open(ctx)
+		begun <- err
+	}()
 	logtest.Await(t, "the replica to take over", func() bool {
 		answer, err := replica.Do("EVAL", "return redis.call('INFO', 'replication'):find('role:master') and 1 or 0", "0")
 		return err == nil && answer == ":1"
 	})
 	logtest.Await(t, "a member to see it", func() bool { return claimstest.State(t, a).Epoch != before.Epoch })
+	logtest.Await(t, "a member whose claim hangs to see it", func() bool { return claimstest.State(t, c).Epoch != before.Epoch })
+	logtest.Await(t, "that claim to be put at the new primary", func() bool { return len(waiting) == 1 })
+	logtest.Await(t, "a member that started while the primary hung to open the store", func() bool { return len(begun) == 1 })
+	if err := <-begun; err != nil {
+		t.Error(err)
+	}
+	if f := (<-waiting)[0]; f.Err != nil || f.Owner != late.Owner {
+		t.Errorf("the claim that hung: %+v", f)
+	}
 	primary.Redis.Resume()
 	if is := claimstest.State(t, b); is.Epoch == before.Epoch {
 		t.Errorf("it still has the primary of before: %+v", is)

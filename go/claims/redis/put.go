@@ -102,8 +102,9 @@ func (s *Store) split(these []claims.Claim) (parts []*part) {
 
 // A sent is what a member knew of a shard when it sent claims.
 type sent struct {
-	record record
-	now    uint64 // the store's time, as far as it is known
+	record  record
+	now     uint64     // the store's time, as far as it is known
+	claimed []evidence // what it had put before
 }
 
 // putPart puts the claims of one server.
@@ -121,12 +122,16 @@ func (s *Store) putPart(ctx context.Context, p *part, these []claims.Claim, foun
 	known := make([]sent, len(p.shards))
 	s.mu.Lock()
 	for i, it := range p.shards {
-		known[i] = sent{it.record, it.clock.store + uint64(time.Since(it.clock.own)/time.Second)}
+		known[i] = sent{it.record, it.clock.store + uint64(time.Since(it.clock.own)/time.Second), it.claimed}
 	}
 	s.mu.Unlock()
+	begun := time.Now()
 	again, err := s.putNew(ctx, c, p, known, these, found)
 	if err == nil && len(again) > 0 {
 		err = s.readOthers(ctx, c, p, again, known, these, found)
+	}
+	if err == nil && time.Since(begun) > s.options.Wait/3 {
+		_, err = c.do(ctx, cmd("TIME")) // (the server may be gone by now, and a member that was away would see that later than its answer)
 	}
 	if err != nil {
 		set(err)
@@ -146,7 +151,7 @@ func (s *Store) putNew(ctx context.Context, c *conn, p *part, known []sent, thes
 	if err := c.begin(ctx); err != nil {
 		return nil, err
 	}
-	count := 0
+	asked := make([]int, 0, len(p.claims))
 	for n, i := range p.claims {
 		one, k := &these[i], &known[p.of[n]]
 		if one.Expires > plus(plus(k.now, k.record.terms.Lasts), aheadOfStore) {
@@ -154,35 +159,30 @@ func (s *Store) putNew(ctx context.Context, c *conn, p *part, known []sent, thes
 			continue
 		}
 		found[i] = claims.Found{}
-		count++
+		asked = append(asked, n)
 		if err := c.Send("SET", p.shards[p.of[n]].key(one), one.Owner[:], "NX", "EXAT", untilText(one, k)); err != nil {
 			return nil, err
 		}
 	}
-	if count == 0 {
+	if len(asked) == 0 {
 		return nil, nil
 	}
 	behind, err := s.sendBehind(ctx, c, p.shards)
 	if err != nil {
 		return nil, err
 	}
-	answers, err := c.answers(count + behind)
+	answers, err := c.answers(len(asked) + behind)
 	if err != nil {
 		return nil, err
 	}
-	at, err := s.behind(answers[count:], p.shards, known)
+	at, err := s.behind(answers[len(asked):], p.shards, known, func(at uint64) { p.note(at, asked, answers, these, known, true) })
 	if err != nil {
 		return nil, err
 	}
-	at0 := 0
 	var fault error
-	for n, i := range p.claims {
-		if found[i].Err != nil {
-			continue
-		}
-		answer := answers[at0]
-		at0++
-		switch answer := answer.(type) {
+	for k, n := range asked {
+		i := p.claims[n]
+		switch answer := answers[k].(type) {
 		case string: // OK
 			s.answered(p.shards[p.of[n]], &these[i], &known[p.of[n]], these[i].Owner, at, &found[i])
 		case nil:
@@ -196,7 +196,6 @@ func (s *Store) putNew(ctx context.Context, c *conn, p *part, known []sent, thes
 			return nil, errProtocol
 		}
 	}
-	s.note(p, known, these, found, at)
 	if fault != nil {
 		s.lost()
 	}
@@ -236,8 +235,8 @@ func (s *Store) sendBehind(ctx context.Context, c *conn, shards []*shard) (int, 
 	return n, nil
 }
 
-// behind reads that. An error says that nothing of the call counts.
-func (s *Store) behind(answers []any, shards []*shard, known []sent) (at uint64, err error) {
+// behind reads that: the store's time. An error says that nothing of the call counts. Else note is called before anybody compares what the server has.
+func (s *Store) behind(answers []any, shards []*shard, known []sent, note func(at uint64)) (at uint64, err error) {
 	if err := firstFailure(answers); err != nil {
 		return 0, err
 	}
@@ -255,13 +254,10 @@ func (s *Store) behind(answers []any, shards []*shard, known []sent) (at uint64,
 	s.mu.Lock()
 	defer s.mu.Unlock()
 	for i, it := range shards {
-		id, is := answers[i].([]byte)
-		switch {
-		case !is:
-			err = errProtocol
-		case string(id) != known[i].record.id || it.record.id != known[i].record.id:
+		switch id := textOf(answers[i]); {
+		case id != known[i].record.id || it.record.id != known[i].record.id:
 			it.agreed, err = false, claims.ErrEpoch
-		case who.run != known[i].record.run || err != nil:
+		case who.run != known[i].record.run || who.run != it.record.run || err != nil: // (what a later run has was compared without this answer)
 			it.agreed, err = false, errMeanwhile
 		case plus(at, known[i].record.terms.Back) < it.latest:
 			it.agreed, err = false, claims.ErrEpoch
@@ -274,26 +270,54 @@ func (s *Store) behind(answers []any, shards []*shard, known []sent) (at uint64,
 		it.tick(at)
 	}
 	if s.replicas > 0 {
-		return at, s.enough(answers[len(shards)+2])
+		err = s.enough(answers[len(shards)+2])
 	}
-	return at, nil
+	if err == nil {
+		note(at)
+	}
+	return at, err
 }
 
-// note remembers the entry of this call that stays for longest, of those that are new.
-func (s *Store) note(p *part, known []sent, these []claims.Claim, found []claims.Found, at uint64) {
-	s.mu.Lock()
-	defer s.mu.Unlock()
-	last := len(p.claims) - 1
-	for n := last; n >= 0; n-- { // (the server has them in this order)
-		i, it := p.claims[n], p.shards[p.of[n]]
-		if f := &found[i]; f.Err != nil || f.Owner != these[i].Owner || f.Time == 0 || it.record.id != known[p.of[n]].record.id {
-			continue
+// note remembers, in each shard, the claims whose answer says that the entry is this member's: each one that was found, since nobody knows which of them
+// was put last, and the last one that the call has put. Then what was put before the call is forgotten. The claims with these indexes in the part have the
+// answers, in the server's order. The caller has the lock.
+func (p *part) note(at uint64, indexes []int, answers []any, these []claims.Claim, known []sent, isNew bool) {
+	var own [shardCount][]evidence
+	for k, n := range indexes {
+		c, m := &these[p.claims[n]], p.of[n]
+		until := svid.StaysUntil(c.Expires, known[m].record.terms.Margin)
+		if isOwn := answers[k] == "OK" || textOf(answers[k]) == string(c.Owner[:]); isOwn && until > at+1 {
+			own[m] = append(own[m], evidence{p.shards[m].key(c), c.Owner, until})
 		}
-		until := svid.StaysUntil(these[i].Expires, known[p.of[n]].record.terms.Margin)
-		if until > at+1 {
-			it.claimed = evidence{it.key(&these[i]), these[i].Owner, until}
-			return
+	}
+	for m, it := range p.shards {
+		if isNew && len(own[m]) > 0 {
+			own[m] = own[m][len(own[m])-1:]
 		}
+		for _, one := range own[m] {
+			if !knows(it.claimed, one) {
+				it.remember(one, known[m].claimed, isNew)
+			}
+		}
+	}
+}
+
+// remember remembers an entry, and forgets those that were known before the call that put it. One that was found takes no room from others: in mode bound
+// a call may find more than there is room for, which were put long ago.
+func (it *shard) remember(one evidence, before []evidence, isNew bool) {
+	var left []evidence // (who compares has the other slice)
+	for _, other := range it.claimed {
+		if !isNew || !knows(before, other) {
+			left = append(left, other)
+		}
+	}
+	if isNew {
+		it.claimed = append(left, one)
+	} else {
+		it.claimed = append([]evidence{one}, left...)
+	}
+	if len(it.claimed) > mostKnown {
+		it.claimed = it.claimed[1:]
 	}
 }
 
@@ -324,11 +348,11 @@ func (s *Store) readOthers(ctx context.Context, c *conn, p *part, again []int, k
 	if err != nil {
 		return err
 	}
-	at, err := s.behind(answers[count:], p.shards, known)
-	if err != nil {
+	if err := firstFailure(answers[len(again):count]); err != nil {
 		return err
 	}
-	if err := firstFailure(answers[len(again):count]); err != nil {
+	at, err := s.behind(answers[count:], p.shards, known, func(at uint64) { p.note(at, again, answers, these, known, false) })
+	if err != nil {
 		return err
 	}
 	for k, n := range again {

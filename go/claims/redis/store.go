@@ -36,7 +36,9 @@ const (
 	seenSlack  = 5               // seconds by which members write too late, or after one another, what time they have seen
 	checkEvery = time.Minute     // the server's settings
 	askOthers  = 5 * time.Second // between two tries to reach a server that is not there
+	turnWait   = time.Second     // for which a claim tries at first to reach a server, and to compare with it
 	shardCount = 16              // of a Cluster
+	mostKnown  = 64              // entries that each look asks for: as many calls of a member are under way together at most
 )
 
 // Options say which store a group has.
@@ -85,15 +87,15 @@ type shard struct {
 	// Store.mu guards these.
 	at      string // the address of its server, in a Cluster
 	record  record
-	raw     string   // the record as it is stored
-	agreed  bool     // the server has what this member knows of, and the record names its run
-	doubts  uint64   // how often another server may have come: a look that began before that says nothing of it
-	latest  uint64   // the greatest time that was seen in the epoch
-	clock   clock    // the store's time, and this machine's
-	count   uint64   // what this member has counted up to
-	life    uint64   // what of that the server has answered in this epoch
-	lifeAt  uint64   // when, by the store's time
-	claimed evidence // the last entry of its own that the server has answered
+	raw     string     // the record as it is stored
+	agreed  bool       // the server has what this member knows of, and the record names its run
+	doubts  uint64     // how often another server may have come: a look that began before that says nothing of it
+	latest  uint64     // the greatest time that was seen in the epoch
+	clock   clock      // the store's time, and this machine's
+	count   uint64     // what this member has counted up to
+	life    uint64     // what of that the server has answered in this epoch
+	lifeAt  uint64     // when, by the store's time
+	claimed []evidence // entries of its own that the server has answered: of each call that may have put the last one
 }
 
 type clock struct {
@@ -106,6 +108,15 @@ type evidence struct {
 	key   string
 	owner claims.Owner
 	until uint64
+}
+
+func knows(all []evidence, one evidence) bool {
+	for _, other := range all {
+		if other == one {
+			return true
+		}
+	}
+	return false
 }
 
 // A checked is what was found of a server's settings.
@@ -244,31 +255,50 @@ func (s *Store) give(c *conn) {
 }
 
 // take is a connection to the server of some shards, whose entries were compared with what this member knows.
+//
+// ctx may last for a minute, and the server may hang. So each try to reach it ends, since another one may have taken over. So does each turn to
+// compare, since a look waits for that.
 func (s *Store) take(ctx context.Context, shards []*shard) (c *conn, err error) {
-	for look := pauses(); ; {
+	for look, most := pauses(), turnWait; ; {
 		s.mu.Lock()
 		fault := s.fault
 		s.mu.Unlock()
 		if fault != nil {
 			return nil, fault
 		}
-		if c, err = s.connection(ctx, shards[0]); err == nil {
+		isLate := false
+		if c, err = s.idleOne(shards[0]); c == nil && err == nil {
+			isLate = within(ctx, most, func(ctx context.Context) { c, err = s.connect(ctx, shards[0]) })
+		}
+		if err == nil {
 			if s.isAgreed(shards) {
 				return c, nil
 			}
-			if err = s.agree(ctx, c, shards); err == nil {
+			if isLate = within(ctx, most, func(ctx context.Context) { err = s.agree(ctx, c, shards) }); err == nil {
 				return c, nil
 			}
 			s.leave(c, err)
 		}
+		if isLate {
+			most = usualWait // (it may be slow; for longer, members that compare would miss what this one knows)
+		}
 		var unfit *claims.Unfit
-		if !errors.Is(err, errCompares) || errors.As(err, &unfit) {
+		if !isLate && !errors.Is(err, errCompares) || errors.As(err, &unfit) {
 			return nil, err
 		}
 		if !look(ctx) {
 			return nil, err
 		}
 	}
+}
+
+// within lets do end after a time, and says whether it took that.
+func within(ctx context.Context, most time.Duration, do func(ctx context.Context)) (isLate bool) {
+	begun := time.Now()
+	ctx, cancel := context.WithTimeout(ctx, most)
+	defer cancel()
+	do(ctx)
+	return time.Since(begun) >= most
 }
 
 // pauses are those between two looks at something that is soon over. They end with ctx.
@@ -285,22 +315,34 @@ func pauses() func(ctx context.Context) bool {
 
 // connection is one to a shard's server, which may be new.
 func (s *Store) connection(ctx context.Context, one *shard) (*conn, error) {
+	if c, err := s.idleOne(one); c != nil || err != nil {
+		return c, err
+	}
+	return s.connect(ctx, one)
+}
+
+// idleOne is a connection to a shard's server that waits for a call; nil where there is none.
+func (s *Store) idleOne(one *shard) (*conn, error) {
 	s.mu.Lock()
+	defer s.mu.Unlock()
 	at := s.at
 	if s.cluster {
 		at = one.at
 	}
 	if s.closed {
-		s.mu.Unlock()
 		return nil, errClosed
 	}
-	if idle := s.idle[at]; at != "" && len(idle) > 0 {
-		c := idle[len(idle)-1]
-		s.idle[at] = idle[:len(idle)-1]
-		s.mu.Unlock()
-		return c, nil
+	idle := s.idle[at]
+	if at == "" || len(idle) == 0 {
+		return nil, nil
 	}
-	s.mu.Unlock()
+	last := len(idle) - 1
+	s.idle[at] = idle[:last]
+	return idle[last], nil
+}
+
+// connect makes a connection to a shard's server.
+func (s *Store) connect(ctx context.Context, one *shard) (*conn, error) {
 	c, err := s.reach(ctx, one)
 	if err != nil {
 		return nil, err
@@ -353,14 +395,18 @@ func newShards(name string, cluster bool) (all []*shard) {
 	return all
 }
 
-// Open is part of claims.Store.
+// Open is part of claims.Store. ctx may have no end: so each try ends, as in take.
 func (s *Store) Open(ctx context.Context) (state claims.State, err error) {
 	var why error
-	for look := pauses(); ; {
-		if state, err = s.tryOpen(ctx); err == nil {
+	for look, most := pauses(), s.options.Wait+turnWait; ; {
+		isLate := within(ctx, most, func(ctx context.Context) { state, err = s.tryOpen(ctx) })
+		if err == nil {
 			return state, nil
 		}
-		if why == nil || ctx.Err() == nil && !errors.Is(err, os.ErrDeadlineExceeded) { // (else it says only that the time is over)
+		if isLate && most < mostWait {
+			most *= 2
+		}
+		if why == nil || ctx.Err() == nil && !isLate && !errors.Is(err, os.ErrDeadlineExceeded) { // (else it says only that the time is over)
 			why = err
 		}
 		var unfit *claims.Unfit

@@ -107,7 +107,7 @@ func (s *Store) append(ctx context.Context, c *conn, it *shard, w claims.Withdra
 			return claims.ErrEpoch
 		}
 		answers[2] = []byte(is.id)
-		if _, err := s.behind(answers[2:], []*shard{it}, []sent{known}); err != nil {
+		if _, err := s.behind(answers[2:], []*shard{it}, []sent{known}, func(uint64) {}); err != nil {
 			return err
 		}
 		if is.list == list {

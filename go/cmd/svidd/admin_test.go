@@ -1,6 +1,7 @@
 package main
 
 import (
+	"fmt"
 	"io"
 	"net"
 	"net/http"
@@ -10,6 +11,8 @@ import (
 	"strings"
 	"syscall"
 	"testing"
+
+	"svid.example/go/v3/svid"
 )
 
 // Where no sidecar answers, withdraw, report and ready say what they asked, why there is no answer, and what to do.
@@ -99,5 +102,28 @@ func TestNobodyAnswers(t *testing.T) {
 		if got := adminOf("PATH").silent(&url.Error{Op: "Get", URL: "http://svidd/", Err: err}); got.Error() != want {
 			t.Errorf("%v: %q\nis due: %q", err, got, want)
 		}
+	}
+}
+
+// What --json prints has these names, which programs read.
+func TestAReportInJSON(t *testing.T) {
+	t.Parallel()
+	one, other := svid.ValidatorID{1}, svid.ValidatorID{2}
+	messages, err := svid.Batches([]svid.Use{
+		{Key: svid.TokenKey{1}, Expires: 2000, At: 1000, ValidatorID: one}, {Key: svid.TokenKey{1}, Expires: 2000, At: 1001, ValidatorID: other},
+		{Key: svid.TokenKey{2}, Expires: 3000, At: 1002, ValidatorID: one, Withdrawn: true},
+	})
+	must(t, err)
+	text, err := svid.Report(messages)
+	must(t, err)
+	got, err := reportInJSON(text)
+	a, b := svid.TokenKey{1}.String(), svid.TokenKey{2}.String()
+	want := fmt.Sprintf(`{"moment":1002,"uses":[{"exp":2000,"key":%q,"validator_id":%q,"at":1000},{"exp":2000,"key":%q,"validator_id":%q,"at":1001},`+
+		`{"exp":3000,"key":%q,"validator_id":%q,"at":1002,"withdrawn":true}],"twice":[{"key":%q,"uses":2}]}`+"\n", a, one, a, other, b, one, a)
+	if err != nil || got != want {
+		t.Errorf("%v\n%s, want\n%s", err, got, want)
+	}
+	if got, err = reportInJSON("moment 0\nuses 0\ntwice 0\n"); err != nil || got != `{"moment":0,"uses":[],"twice":[]}`+"\n" {
+		t.Errorf("of an empty record: %q %v", got, err)
 	}
 }

@@ -48,8 +48,8 @@ func (p *process) sendsFrom(client, token string) (status int, reason string) {
 	return answer.StatusCode, string(body)
 }
 
-// Over each store, at one sidecar and at three: the owners of 300 tokens send each of them ten times, and a thief sends each while they do so. No
-// owner is refused, and no thief is accepted.
+// Over each store, at one sidecar and at three: the owners of 100 tokens send each of them ten times, and a thief sends each while they do so. No
+// owner is refused, and no thief is accepted. (With -long there are ten times as many tokens.)
 func TestBoundRefusesThieves(t *testing.T) {
 	t.Parallel()
 	for name, begin := range stores {
@@ -60,7 +60,7 @@ func TestBoundRefusesThieves(t *testing.T) {
 				_, url := begin(t)
 				all := inBound(t, n, url, "--log", "errors")
 				const atATime = 16
-				owned, times := 300, 10
+				owned, times := 100, 10
 				if *long {
 					owned, times = 1000, 20
 				}

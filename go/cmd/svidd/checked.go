@@ -60,14 +60,18 @@ func (o *options) bundleProblems() (faults, warnings problems) {
 	return faults, warnings
 }
 
-// folderProblems is what is wrong with the folders of the options: that of the record, and those of sockets.
-func (o *options) folderProblems() (faults problems) {
+// localProblems is what is wrong on this machine: with the folders of the record and of sockets, and with the addresses to answer on.
+func (o *options) localProblems() (faults problems) {
 	if o.state != "" {
 		err := stateFault(filepath.Clean(o.state))
 		faults.wrong(err != nil, "--state: %v", err)
 	}
 	for _, it := range [][2]string{{"listen", o.listen}, {"envoy", o.envoy}, {"metrics", o.metrics}, {"admin", "unix:" + o.admin}} {
 		path := strings.TrimPrefix(it[1], "unix:")
+		if path == it[1] {
+			err := portFault(it[1])
+			faults.wrong(err != nil, "--%s: %v", it[0], err)
+		}
 		if path == it[1] || path == "" {
 			continue
 		}
@@ -78,6 +82,26 @@ func (o *options) folderProblems() (faults problems) {
 		faults.wrong(err != nil, "--%s: %v", it[0], err)
 	}
 	return faults
+}
+
+// portFault says why no process of this user can answer at HOST:PORT. That somebody does is none: it may be the svidd that these options are to
+// change. It takes the port of UDP in the place of TCP's for a moment, where nobody connects, and no svidd starts meanwhile in vain.
+func portFault(address string) error {
+	if address == "" {
+		return nil
+	}
+	at, err := net.ResolveTCPAddr("tcp", address)
+	if err != nil {
+		return err
+	}
+	c, err := net.ListenUDP("udp", &net.UDPAddr{IP: at.IP, Port: at.Port, Zone: at.Zone})
+	switch {
+	case err == nil:
+		c.Close()
+	case !errors.Is(err, syscall.EADDRINUSE):
+		return fmt.Errorf("this user can't listen at %s: %w", at, errors.Unwrap(err))
+	}
+	return nil
 }
 
 // stateFault says why no sidecar can start with a state folder. A folder that is not there is made at the start.
@@ -119,19 +143,25 @@ const serverWait = 2 * time.Second
 // serverProblems asks the servers of the group. warnings say which gave no answer, since one may come later. faults say why a store, or a log, that
 // answers is of no use to this sidecar: what a start would find out.
 func (o *options) serverProblems() (faults, warnings problems) {
-	store, err := o.store(nil)
-	if err == nil && store != nil {
-		defer store.Close()
-		if is, can := store.(interface{ Check(context.Context) error }); can {
-			o.ask("--store", o.stores, is.Check, &faults, &warnings)
-		}
-	}
+	o.storeProblems(&faults, &warnings)
 	if log, ok := o.groupLog().(jetstream.Options); ok {
 		o.ask("--group-log", o.servers(), func(ctx context.Context) error {
 			return log.Check(ctx, guard.Keep(o.longest.value, o.ahead.value))
 		}, &faults, &warnings)
 	}
 	return faults, warnings
+}
+
+// storeProblems asks the server of the group's store, over a connection of its own.
+func (o *options) storeProblems(faults, warnings *problems) {
+	store, err := o.store(nil)
+	if err != nil || store == nil {
+		return
+	}
+	defer store.Close()
+	if is, can := store.(interface{ Check(context.Context) error }); can {
+		o.ask("--store", o.stores, is.Check, faults, warnings)
+	}
 }
 
 // ask checks the servers at some addresses.

@@ -16,6 +16,7 @@ import (
 	"reflect"
 	"regexp"
 	"sort"
+	"strconv"
 	"strings"
 	"testing"
 	"time"
@@ -195,6 +196,20 @@ func TestSystemdUnit(t *testing.T) {
 	}
 	if status, out, err := here("", "serve", "--config", options, "--check-config"); status != 0 {
 		t.Errorf("--check-config: %d %q %q", status, out, err)
+	}
+	// However often a start fails, another one comes: systemd starts a unit at most StartLimitBurst times in StartLimitIntervalSec.
+	text, err := os.ReadFile(unit)
+	if err != nil {
+		t.Fatal(err)
+	}
+	limits := map[string]int{"StartLimitIntervalSec": 10, "StartLimitBurst": 5, "RestartSec": 0}
+	for name := range limits {
+		if found := regexp.MustCompile(`(?m)^` + name + `=(\d+)$`).FindSubmatch(text); found != nil {
+			limits[name], _ = strconv.Atoi(string(found[1]))
+		}
+	}
+	if within := limits["StartLimitIntervalSec"]; within > 0 && limits["StartLimitBurst"]*limits["RestartSec"] <= within {
+		t.Errorf("systemd gives up a sidecar whose starts fail: %v", limits)
 	}
 	// As systemd starts it: the socket of NOTIFY_SOCKET hears of its states.
 	notified, err := net.ListenUnixgram("unixgram", &net.UnixAddr{Name: filepath.Join(folder, "notify"), Net: "unixgram"})

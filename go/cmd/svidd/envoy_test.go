@@ -180,9 +180,16 @@ func frame(flag byte, length int, message string) string {
 // What is no call of Check gets its code, and costs the connection nothing.
 func TestCallsThatAreNone(t *testing.T) {
 	t.Parallel()
-	p, address := startEnvoy(t, false, "--replay", "reuse")
+	p, address := startEnvoy(t, false, "--replay", "reuse", "--caller", "peer")
 	c := grpcClient(address)
 	const check, grpc = extauthz.Path, "application/grpc"
+	field := func(before []byte, number protowire.Number, value []byte) []byte {
+		return protowire.AppendBytes(protowire.AppendTag(before, number, protowire.BytesType), value)
+	}
+	noText := field(field(nil, 1, []byte("authorization")), 2, []byte("Bearer \xff"))
+	for _, number := range []protowire.Number{3, 2, 4, 1} { // headers, http, request, attributes
+		noText = field(nil, number, noText)
+	}
 	for _, row := range []struct {
 		path, kind, body string
 		status           int
@@ -195,6 +202,7 @@ func TestCallsThatAreNone(t *testing.T) {
 		{check, grpc, "", 200, "3"}, {check, grpc, "\x00\x00", 200, "3"}, {check, grpc, frame(0, 2, "\x0a"), 200, "3"},
 		{check, grpc, frame(0, 0, "") + frame(0, 0, ""), 200, "3"}, {check, grpc, frame(0, 0, "x"), 200, "3"},
 		{check, grpc, frame(0, 1, "\x0a"), 200, "3"}, {check, grpc, frame(0, 2, "\x08\x01"), 200, "3"}, {check, grpc, frame(0, 2, "\x0a\x05"), 200, "3"},
+		{check, grpc, frame(0, len(noText), string(noText)), 200, "3"},
 		{check, grpc, frame(0, server.MaxEnvoy+1, ""), 200, "8"}, {check, grpc, frame(0, 1<<32-1, ""), 200, "8"},
 	} {
 		if status, code := call(t, c, address, row.path, row.kind, strings.NewReader(row.body)); status != row.status || code != row.code {
@@ -207,12 +215,12 @@ func TestCallsThatAreNone(t *testing.T) {
 }
 
 // A call that does not send its message holds up no other one, and ends. (Other work on the machine may hold up 20 calls for as long as
-// it takes: so one of several tries is to show it. Calls that wait for the slow one do so each time.)
+// it takes: so one of many tries is to show it. Calls that wait for the slow one do so each time.)
 func TestASlowCallHoldsUpNobody(t *testing.T) {
 	_, address := startEnvoy(t, false, "--replay", "reuse")
 	c := grpcClient(address)
-	for try := 1; !answersBesideASlowCall(t, c, address) && !t.Failed(); try++ {
-		if try == 5 {
+	for end := time.Now().Add(patience.Long); !answersBesideASlowCall(t, c, address) && !t.Failed(); {
+		if time.Now().After(end) {
 			t.Fatal("20 calls end behind the slow one")
 		}
 	}
@@ -441,7 +449,7 @@ func TestACallEndsBeforeSvidd(t *testing.T) {
 	if code := <-done; code != "0" {
 		t.Errorf("the call ends with %q", code)
 	}
-	if err := p.run.Wait(); err != nil {
+	if err := p.wait(); err != nil {
 		t.Errorf("svidd: %v\n%s", err, p.log)
 	}
 }

@@ -104,7 +104,7 @@ func TestABundleOfAServerThatIsKnown(t *testing.T) {
 	}
 	p.await("the bundle", func() bool { status, _ := p.get("/readyz"); return status == http.StatusOK })
 	p.want(token(t, "b", lasting), 200, "")
-	if line := p.events("options")[0]; fmt.Sprint(line["changed"]) != "[bundle-ca]" {
+	if line := p.awaitEvents("options", 1)[0]; fmt.Sprint(line["changed"]) != "[bundle-ca]" {
 		t.Errorf("the log: %v", line)
 	}
 }

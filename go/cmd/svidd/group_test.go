@@ -153,7 +153,7 @@ func count(numbers []int32) string {
 // In mode strict each token that three sidecars get at once is accepted by exactly one.
 func TestStrictAcceptsOnceInTheWholeGroup(t *testing.T) {
 	t.Parallel()
-	const n = 1000
+	n := many()
 	servers := natstest.Cluster(t, 3)
 	all := several(t, 3, "strict", strings.Join(broker.URLs(servers), ","), "--replicas", "3")
 	accepted, unjudged := storm(all, tokens(t, "strict", n), 16)
@@ -179,7 +179,7 @@ func TestStrictAcceptsOnceInTheWholeGroup(t *testing.T) {
 // In mode once a token may be accepted by each sidecar, and then every report says so.
 func TestOnceReportsWhatTwoAccepted(t *testing.T) {
 	t.Parallel()
-	const n = 500
+	n := many()
 	server := natstest.Start(t)
 	all := several(t, 3, "once", server.URL)
 	accepted, unjudged := storm(all, tokens(t, "once", n), 16)
@@ -208,9 +208,13 @@ func TestOnceReportsWhatTwoAccepted(t *testing.T) {
 		return said == due
 	})
 	lines := 0
-	for _, p := range all {
-		lines += len(p.events("accepted twice"))
-	}
+	all[0].await("a line of the log for each of them", func() bool { // (no request waits for the log)
+		lines = 0
+		for _, p := range all {
+			lines += len(p.events("accepted twice"))
+		}
+		return lines >= due
+	})
 	if lines != due {
 		t.Errorf("%d lines of the log say so, and %d are due", lines, due)
 	}
@@ -271,8 +275,12 @@ func TestTheBrokerIsAway(t *testing.T) {
 	server := natstest.Start(t)
 	strict := several(t, 1, "strict", server.URL, "--wait", "8s")[0]
 	once := several(t, 1, "once", server.URL)[0]
-	before := token(t, "before", lasting)
-	strict.want(before, 200, "")
+	var before string
+	strict.await("a token that is accepted", func() bool { // (on a busy machine the first ones may wait for too long)
+		before = token(t, fmt.Sprint("before", rand.Int()), lasting)
+		status, _, _ := strict.check(before)
+		return status == 200
+	})
 	server.Kill()
 	status, header, body := strict.check(token(t, "away", lasting))
 	if status != 503 || header.Get("Retry-After") == "" || !strings.Contains(body, "unavailable") {
@@ -351,7 +359,7 @@ func TestAStoreThatIsEmptied(t *testing.T) {
 	if got := later.metric("svidd_store_deaf_until_timestamp_seconds"); got != until || until == "0" {
 		t.Errorf("one accepts nothing until %s, and the other until %s", until, got)
 	}
-	if lines := first.events("epoch"); len(lines) == 0 || fmt.Sprintf("%.0f", lines[0]["until"]) != until {
+	if lines := first.awaitEvents("epoch", 1); fmt.Sprintf("%.0f", lines[0]["until"]) != until {
 		t.Errorf("the log says %v", lines)
 	}
 }
@@ -380,9 +388,8 @@ func TestWhoHasAToken(t *testing.T) {
 	one := token(t, "one", lasting)
 	all[0].want(one, 200, "")
 	all[1].want(one, 401, "Replayed")
-	id := fmt.Sprint(all[0].events("serving")[0]["validator_id"])
-	all[1].await("the line of the refusal", func() bool { return len(all[1].events("refused")) > 0 }) // (no request waits for the log)
-	if lines := all[1].events("refused"); len(lines) != 1 || lines[0]["used_by"] != id {
+	id := fmt.Sprint(all[0].awaitEvents("serving", 1)[0]["validator_id"])
+	if lines := all[1].awaitEvents("refused", 1); len(lines) != 1 || lines[0]["used_by"] != id {
 		t.Errorf("the log says %v, and %s has it", lines, id)
 	}
 	status, out, err := here(one, "withdraw", "--admin", all[1].option("--admin"), "-")

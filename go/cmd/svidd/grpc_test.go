@@ -3,6 +3,8 @@ package main
 import (
 	"context"
 	"errors"
+	"io"
+	"log"
 	"net"
 	"net/http"
 	"os"
@@ -17,15 +19,16 @@ import (
 	"svid.example/go/v3/internal/patience"
 )
 
-// A fewFiles listener has no file descriptors for some connections.
-type fewFiles struct {
+// A shortOf listener has no file descriptors, or no memory, for some connections.
+type shortOf struct {
 	net.Listener
 	none atomic.Int32 // so many times yet
 }
 
-func (s *fewFiles) Accept() (net.Conn, error) {
-	if s.none.Add(-1) >= 0 {
-		return nil, &net.OpError{Op: "accept", Net: "tcp", Err: os.NewSyscallError("accept4", syscall.EMFILE)}
+func (s *shortOf) Accept() (net.Conn, error) {
+	if n := s.none.Add(-1); n >= 0 {
+		faults := [...]error{syscall.EMFILE, syscall.ENFILE, syscall.ENOBUFS, syscall.ENOMEM}
+		return nil, &net.OpError{Op: "accept", Net: "tcp", Err: os.NewSyscallError("accept4", faults[int(n)%len(faults)])}
 	}
 	return s.Listener.Accept()
 }
@@ -38,10 +41,10 @@ func serveGRPC(t *testing.T, none int32) (s *grpcServer, connect func() *http2.C
 	if err != nil {
 		t.Fatal(err)
 	}
-	few := &fewFiles{Listener: l}
+	few := &shortOf{Listener: l}
 	few.none.Store(none)
 	ended = make(chan error, 1)
-	go func() { ended <- s.Serve(few) }()
+	go func() { ended <- s.Serve(bounded{Listener: few}) }()
 	t.Cleanup(func() { s.Close() })
 	return s, func() *http2.ClientConn {
 		t.Helper()
@@ -86,9 +89,25 @@ func TestAConnectionTakesManyCalls(t *testing.T) {
 	}
 }
 
-// Where there are no file descriptors for a while, the server goes on once there are some, and ends when it is to.
+// Where there are no file descriptors for a while, or no memory, a server goes on once there are some, and ends when it is to.
 func TestTooManyOpenFilesEndNoServer(t *testing.T) {
 	t.Parallel()
+	l, err := net.Listen("tcp", "127.0.0.1:0")
+	if err != nil {
+		t.Fatal(err)
+	}
+	few := &shortOf{Listener: l}
+	few.none.Store(4)
+	byHTTP := &http.Server{Handler: http.NotFoundHandler(), ErrorLog: log.New(io.Discard, "", 0)}
+	go func() { _ = byHTTP.Serve(bounded{Listener: few}) }()
+	t.Cleanup(func() { byHTTP.Close() })
+	client := http.Client{Timeout: patience.Long, Transport: &http.Transport{DisableKeepAlives: true}}
+	answer, err := client.Get("http://" + l.Addr().String())
+	if err != nil {
+		t.Fatal(err)
+	}
+	answer.Body.Close()
+
 	s, connect, ended := serveGRPC(t, 4)
 	wantAnswer(t, connect())
 	s.Close()

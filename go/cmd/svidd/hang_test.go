@@ -41,7 +41,7 @@ func TestADiskThatHangs(t *testing.T) {
 	t.Parallel()
 	state, admin := filepath.Join(t.TempDir(), "state"), filepath.Join(t.TempDir(), "admin.sock")
 	p := prepare(t, hanging(t, "fdatasync"), bundleOption(bundleFile(t, example)), "--state", state, "--admin", admin, "--wait", "300ms")
-	p.more = []string{asSvidd + "=1"}
+	p.more = []string{asSvidd + "=1", inHaste + "=1"}
 	p.start()
 	for i := 0; i < 3; i++ {
 		one := token(t, fmt.Sprint(i), lasting)

@@ -35,6 +35,10 @@ const jumpedBy = "SVIDD_TEST_CLOCK"
 // starvedBy, in the environment, names a pipe. Once a test opens it, the system refuses svidd memory.
 const starvedBy = "SVIDD_TEST_MEMORY"
 
+// inHaste, in the environment, lets svidd wait for a moment where it would for seconds: for a disk that hangs at its end, and before it says why a store
+// is not reached.
+const inHaste = "SVIDD_TEST_IN_HASTE"
+
 // starve waits until somebody opens the pipe.
 func starve(pipe string) {
 	if _, err := os.OpenFile(pipe, os.O_RDONLY, 0); err != nil {
@@ -62,6 +66,9 @@ func TestMain(m *testing.M) {
 		}
 		if pipe := os.Getenv(starvedBy); pipe != "" {
 			go starve(pipe)
+		}
+		if os.Getenv(inHaste) != "" {
+			endWait, unreachedPause = time.Second, 100*time.Millisecond
 		}
 		os.Exit(run(os.Args[1:], stdio{os.Stdin, os.Stdout, os.Stderr}))
 	}
@@ -276,10 +283,31 @@ func (p *process) end() {
 	if err := p.signal(syscall.SIGTERM); err != nil {
 		p.t.Fatal(err)
 	}
-	if err := p.run.Wait(); err != nil {
+	if err := p.wait(); err != nil {
 		p.t.Fatalf("svidd: %v\n%s", err, p.log)
 	}
 	p.client.CloseIdleConnections()
+}
+
+// wait waits for its end. A process that does not end is killed.
+func (p *process) wait() error {
+	ended := make(chan error, 1)
+	go func() { ended <- p.run.Wait() }()
+	select {
+	case err := <-ended:
+		return err
+	case <-time.After(patience.Long):
+		killAll(p.run.Process.Pid)
+		<-ended
+		return fmt.Errorf("it does not end within %v", patience.Long)
+	}
+}
+
+// awaitEvents waits until the log has so many lines of an event, and returns them: no request waits for the log.
+func (p *process) awaitEvents(name string, n int) (found []map[string]any) {
+	p.t.Helper()
+	p.await(fmt.Sprintf("%d lines of the event %q", n, name), func() bool { found = p.events(name); return len(found) >= n })
+	return found
 }
 
 // killAll kills a process and all below it. They are stopped first, so that none starts another one meanwhile.
@@ -290,16 +318,12 @@ func killAll(pid int) {
 			all[pid] = true
 			_ = syscall.Kill(pid, syscall.SIGSTOP)
 		}
-		found = found[:0]
-		files, _ := filepath.Glob("/proc/[0-9]*/stat")
-		for _, file := range files {
-			text, _ := os.ReadFile(file)
-			var child, parent int
-			var state string
-			_, _ = fmt.Sscan(string(text), &child)
-			_, _ = fmt.Sscan(string(text[bytes.LastIndexByte(text, ')')+1:]), &state, &parent)
-			if all[parent] && !all[child] {
-				found = append(found, child)
+		found = nil
+		for parent := range all {
+			for _, child := range broker.Children(parent) {
+				if !all[child] {
+					found = append(found, child)
+				}
 			}
 		}
 	}
@@ -430,7 +454,15 @@ func svidd(t testing.TB, stdin string, args ...string) (status int, out, err str
 	c := command(args...)
 	var o, e bytes.Buffer
 	c.Stdin, c.Stdout, c.Stderr = strings.NewReader(stdin), &o, &e
-	if runErr := c.Run(); runErr != nil && c.ProcessState == nil {
+	runErr := c.Start()
+	if runErr == nil {
+		late := time.AfterFunc(patience.Long, func() { _ = c.Process.Kill() })
+		runErr = c.Wait()
+		if !late.Stop() {
+			t.Fatalf("svidd %.40q does not end within %v: %q %q", args, patience.Long, o.String(), e.String())
+		}
+	}
+	if runErr != nil && c.ProcessState == nil {
 		t.Fatal(runErr)
 	}
 	return c.ProcessState.ExitCode(), o.String(), e.String()

@@ -86,6 +86,7 @@ type container struct {
 	EnvFrom []struct {
 		ConfigMapRef struct{ Name string }
 	}
+	Resources struct{ Limits struct{ Memory string } }
 	Lifecycle struct {
 		PreStop struct {
 			Exec  struct{ Command []string }
@@ -341,8 +342,25 @@ func TestKubernetesManifests(t *testing.T) {
 			t.Errorf("%s: --check-config: %d %q %q", overlay, status, out, err)
 		}
 	}
-	all := manifests(t, "nats")
+	all := manifests(t, "redis")
+	// A store answers that it is full before the kernel ends it: Redis also while a child of it has as much, and NATS by its disk.
+	var limit, most int
+	fmt.Sscanf(find(t, all, "StatefulSet", "redis").container(t, "redis").Resources.Limits.Memory, "%dGi", &limit)
+	conf := find(t, all, "ConfigMap", "redis").Data["redis.conf"]
+	fmt.Sscanf(conf[strings.LastIndex(conf, "\nmaxmemory ")+1:], "maxmemory %dgb", &most)
+	if most == 0 || 2*most > limit {
+		t.Errorf("the container of Redis may have %d GiB, and Redis takes %d, and its child as many (0: any)", limit, most)
+	}
+	all = manifests(t, "nats")
 	servers := find(t, all, "StatefulSet", "nats")
+	const ofDisk, ofMemory = 181, 460 // bytes of an entry (docs/SIZING.md)
+	limit, most = 0, 0
+	fmt.Sscanf(servers.container(t, "nats").Resources.Limits.Memory, "%dGi", &limit)
+	conf = find(t, all, "ConfigMap", "nats").Data["nats.conf"]
+	fmt.Sscanf(conf[strings.LastIndex(conf, "max_file_store"):], "max_file_store: %dGB", &most)
+	if most == 0 || most*ofMemory > limit*ofDisk {
+		t.Errorf("the container of NATS may have %d GiB, and entries of %d GiB of disk take more (0: any)", limit, most)
+	}
 	if stop := servers.container(t, "nats").Lifecycle.PreStop.Exec.Command; len(stop) != 3 || !strings.HasPrefix(stop[2], "nats-server --signal ldm=/run/nats/nats.pid && sleep ") {
 		t.Errorf("a NATS server that is to end: %q", stop)
 	}
@@ -409,30 +427,31 @@ func TestPasswordsOfKubernetesOverNATS(t *testing.T) {
 		}
 		ended := make(chan struct{})
 		go func() { _ = server.Wait(); close(ended) }()
-		connect := func(password string) error {
-			c, err := nats.Connect("nats://"+client, nats.UserInfo("svidd", password), nats.Timeout(patience.Long))
-			if err == nil {
-				c.Close()
+		// (A server that is not there yet, and one that has given up the wait for the password of a busy machine, are asked again.)
+		connect := func(password string) (err error) {
+			for look, late := patience.Looks(), time.Now().Add(patience.Long); time.Now().Before(late); look() {
+				var c *nats.Conn
+				if c, err = nats.Connect("nats://"+client, nats.UserInfo("svidd", password), nats.Timeout(patience.Long)); err == nil {
+					c.Close()
+				}
+				if err == nil || errors.Is(err, nats.ErrAuthorization) {
+					return err
+				}
+				select {
+				case <-ended:
+					return err
+				default:
+				}
 			}
 			return err
 		}
-		var err error
-		for look, late := patience.Looks(), time.Now().Add(patience.Long); ; look() {
-			if err = connect(password); err == nil || !errors.Is(err, nats.ErrNoServers) || time.Now().After(late) {
-				break
-			}
-			select {
-			case <-ended:
-				late = time.Now()
-			default:
-			}
-		}
-		if err != nil {
-			t.Errorf("%q: %v: %s", password, err, &said)
-		} else if err := connect(password + "x"); !errors.Is(err, nats.ErrAuthorization) {
-			t.Errorf("another password than %q: %v", password, err)
-		}
+		good, other := connect(password), connect(password+"x")
 		_ = server.Process.Kill()
 		<-ended
+		if good != nil {
+			t.Errorf("%q: %v: %s", password, good, &said)
+		} else if !errors.Is(other, nats.ErrAuthorization) {
+			t.Errorf("another password than %q: %v", password, other)
+		}
 	}
 }

@@ -31,11 +31,20 @@ type bounded struct {
 
 func (l bounded) Accept() (net.Conn, error) {
 	c, err := l.Listener.Accept()
+	if errors.Is(err, syscall.ENOBUFS) || errors.Is(err, syscall.ENOMEM) {
+		return nil, scarceMemory{err}
+	}
 	if err != nil {
 		return nil, err
 	}
 	return &boundedConn{Conn: c, unwatched: l.unwatched, text: l.text, reads: deadline{set: c.SetReadDeadline}, writes: deadline{set: c.SetWriteDeadline}}, nil
 }
+
+// A scarceMemory error says that the system had no memory for a connection. To package net that is no temporary error, and so a server would end.
+type scarceMemory struct{ error }
+
+func (scarceMemory) Temporary() bool { return true }
+func (scarceMemory) Timeout() bool   { return false }
 
 type boundedConn struct {
 	net.Conn

@@ -7,6 +7,7 @@ import (
 	"errors"
 	"fmt"
 	"io"
+	"math"
 	"net"
 	"net/http"
 	"os"
@@ -16,6 +17,7 @@ import (
 	"testing"
 	"time"
 
+	"svid.example/go/v3/guard"
 	"svid.example/go/v3/internal/broker"
 	"svid.example/go/v3/internal/natstest"
 	"svid.example/go/v3/internal/patience"
@@ -465,6 +467,20 @@ func TestDeadlines(t *testing.T) {
 			if errors.Is(err, os.ErrDeadlineExceeded) != row.over || !row.over && err != nil || time.Since(from) > late/2 {
 				t.Fatalf("%s, %v: %v after %v", name, row.sets, err, time.Since(from))
 			}
+			if !row.over { // An earlier one that is set then counts.
+				from = time.Now()
+				if err := set(from.Add(soon)); err != nil {
+					t.Fatal(err)
+				}
+				if name == "read" {
+					_, err = c.Read(make([]byte, 1))
+				} else {
+					_, err = c.Write([]byte("e"))
+				}
+				if !errors.Is(err, os.ErrDeadlineExceeded) || time.Since(from) > late/2 {
+					t.Fatalf("%s, %v, and then a sooner one: %v after %v", name, row.sets, err, time.Since(from))
+				}
+			}
 			c.Close()
 			if err := <-other; err != nil && !row.over {
 				t.Errorf("%s, %v: %v", name, row.sets, err)
@@ -492,6 +508,56 @@ func TestADeadlineEndsARead(t *testing.T) {
 	if err, took := <-ended, time.Since(from); !errors.Is(err, os.ErrDeadlineExceeded) || took > patience.Long/2 {
 		t.Errorf("%v after %v", err, took)
 	}
+}
+
+// However long a request may wait for the store or the disk (--wait), its answer may be written then.
+func TestAnAnswerAtTheEndOfALongWait(t *testing.T) {
+	t.Parallel()
+	for _, wait := range []time.Duration{time.Hour, math.MaxInt64} {
+		l, err := net.Listen("tcp", "127.0.0.1:0")
+		if err != nil {
+			t.Fatal(err)
+		}
+		s := &sidecar{options: options{wait: period(wait)}, log: guard.NewLines(io.Discard, guard.Errors)}
+		of := &writesOf{Listener: l, until: make(chan time.Time, 10)}
+		server := s.server(http.HandlerFunc(func(w http.ResponseWriter, r *http.Request) {}))
+		go func() { _ = server.Serve(of) }()
+		defer server.Close()
+		got, err := http.Get("http://" + l.Addr().String())
+		if err != nil {
+			t.Fatal(err)
+		}
+		got.Body.Close()
+		select {
+		case until := <-of.until:
+			if left := time.Until(until); left < wait && left < math.MaxInt64-time.Hour {
+				t.Errorf("an answer may take %v, and its request may wait for %v", left, wait)
+			}
+		default:
+			t.Errorf("an answer may take any time, where its request may wait for %v", wait)
+		}
+	}
+}
+
+// writesOf tells until when what it accepts may be written to.
+type writesOf struct {
+	net.Listener
+	until chan time.Time
+}
+
+type writesTo struct {
+	net.Conn
+	until chan time.Time
+}
+
+func (l *writesOf) Accept() (net.Conn, error) {
+	c, err := l.Listener.Accept()
+	return &writesTo{c, l.until}, err
+}
+
+func (c *writesTo) SetWriteDeadline(at time.Time) error {
+	c.until <- at
+	return c.Conn.SetWriteDeadline(at)
 }
 
 // boundedConnOf is the connection that a bounded listener makes of this one.

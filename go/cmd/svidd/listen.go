@@ -4,6 +4,7 @@ import (
 	"context"
 	"errors"
 	"fmt"
+	"math"
 	"net"
 	"net/http"
 	"os"
@@ -77,7 +78,9 @@ func (s *sidecar) addresses() []answering {
 	}
 	all := []answering{{"listen", s.options.listen, public, s.server(checks), true}}
 	if s.envoy != "" {
-		all = append(all, answering{"envoy", s.envoy, public, newGRPC(s.guard.Envoy(), s.log.Standard("envoy")), false})
+		byEnvoy := newGRPC(s.guard.Envoy(), s.log.Standard("envoy"))
+		byEnvoy.base.WriteTimeout = s.answerWait()
+		all = append(all, answering{"envoy", s.envoy, public, byEnvoy, false})
 	}
 	if s.metrics != "" {
 		all = append(all, answering{"metrics", s.metrics, public, s.server(s.guard.Watched()), false})
@@ -91,7 +94,7 @@ func (s *sidecar) addresses() []answering {
 // (Nothing reads a query. Without AllowQuerySemicolons package http would log an error for each one that has a semicolon.)
 func (s *sidecar) server(handler http.Handler) *http.Server {
 	return &http.Server{
-		Handler: http.AllowQuerySemicolons(handler), ReadHeaderTimeout: headerWait, ReadTimeout: requestWait, WriteTimeout: requestWait,
+		Handler: http.AllowQuerySemicolons(handler), ReadHeaderTimeout: headerWait, ReadTimeout: requestWait, WriteTimeout: s.answerWait(),
 		IdleTimeout: idleWait, MaxHeaderBytes: svidhttp.MaxHeader, ErrorLog: s.log.Standard("http"), ConnContext: withLeaving,
 	}
 }
@@ -100,6 +103,14 @@ func (s *sidecar) server(handler http.Handler) *http.Server {
 func speaksHTTP1(server answerer) bool {
 	_, is := server.(*http.Server)
 	return is
+}
+
+// answerWait is how long an answer may take: the time begins before the request waits for the store or the disk.
+func (s *sidecar) answerWait() time.Duration {
+	if most := math.MaxInt64 - requestWait; time.Duration(s.wait) > most {
+		return math.MaxInt64
+	}
+	return requestWait + time.Duration(s.wait)
 }
 
 // shutdown ends the servers, and lets requests that are under way end: first those that judge tokens, together.

@@ -41,17 +41,9 @@ func (p *process) exits() {
 // exitsWith wants the process to end by itself, with a status.
 func (p *process) exitsWith(status int) {
 	p.t.Helper()
-	ended := make(chan error, 1)
-	go func() { ended <- p.run.Wait() }()
-	select {
-	case err := <-ended:
-		if got := p.run.ProcessState.ExitCode(); got != status {
-			p.t.Errorf("svidd ends with %d (%v), want %d\n%s", got, err, status, p.log)
-		}
-	case <-time.After(patience.Long):
-		p.t.Errorf("svidd does not end within %v\n%s", patience.Long, p.log)
-		killAll(p.run.Process.Pid)
-		<-ended
+	err := p.wait()
+	if got := p.run.ProcessState.ExitCode(); got != status {
+		p.t.Errorf("svidd ends with %d (%v), want %d\n%s", got, err, status, p.log)
 	}
 	p.client.CloseIdleConnections()
 }

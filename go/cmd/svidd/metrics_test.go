@@ -67,7 +67,7 @@ func TestMetricsHaveAnAddressOfTheirOwn(t *testing.T) {
 	if _, _, body := p.at(metrics, "/metrics", ""); !strings.Contains(body, "svidd_checks_total{result=\"accepted\"} 1\n") {
 		t.Errorf("/metrics: %s", body)
 	}
-	if serving := p.events("serving"); len(serving) != 1 || serving[0]["metrics"] != metrics {
+	if serving := p.awaitEvents("serving", 1); len(serving) != 1 || serving[0]["metrics"] != metrics {
 		t.Errorf("the log: %v", serving)
 	}
 	p.end()

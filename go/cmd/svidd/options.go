@@ -10,6 +10,7 @@ import (
 	"net"
 	"net/url"
 	"os"
+	"path/filepath"
 	"sort"
 	"strconv"
 	"strings"
@@ -339,6 +340,10 @@ func (o *options) problems() problems {
 		wrong(o.envoy == o.listen || o.envoy == o.metrics, "--envoy is the address of --listen or of --metrics: give it one of its own, since it answers gRPC alone")
 	}
 	wrong(len(o.admin) > mostSocket, "--admin: the path of a unix socket has at most %d bytes", mostSocket)
+	for _, it := range [][2]string{{"listen", o.listen}, {"envoy", o.envoy}, {"metrics", o.metrics}} {
+		path := strings.TrimPrefix(it[1], "unix:")
+		wrong(path != it[1] && o.admin != "" && filepath.Clean(path) == filepath.Clean(o.admin), "--admin is the path of --%s: give it one of its own", it[0])
+	}
 	wrong(strings.HasPrefix(o.admin, "@"), "--admin %q is an abstract name, which every local process can reach: write a path", o.admin)
 	o.groupProblems(&all)
 	for i, server := range o.servers() {

@@ -33,6 +33,17 @@ func here(stdin string, args ...string) (status int, out, err string) {
 func TestMistakesHideTokens(t *testing.T) {
 	t.Parallel()
 	token := token(t, "hidden", lasting)
+	short := "eyJhbGciOiJFUzI1NiJ9" + "AAAA." + "eyJzdWIiOiJhIn0.c2lnbmF0dXJl" // (a file may have it as its name)
+	keys := filepath.Join(t.TempDir(), short)
+	if err := os.Mkdir(keys, 0o700); err != nil {
+		t.Fatal(err)
+	}
+	if err := os.WriteFile(filepath.Join(keys, "keys.json"), nil, 0o600); err != nil {
+		t.Fatal(err)
+	}
+	if _, _, said := here("", "dev", "--keys="+keys); !strings.Contains(said, short[:20]+"..") || strings.Contains(said, short[20:]) {
+		t.Errorf("dev with keys that can't be read: %q", said)
+	}
 	for _, args := range [][]string{
 		{token}, {"--" + token}, {"help", token},
 		{"verify", token}, {"verify", "--" + token}, {"verify", "--longest", token}, {"verify", "--config=" + token},
@@ -160,6 +171,13 @@ func TestOptionsThatServeCantRunWith(t *testing.T) {
 		{"nats", "ws://h,wss://h", ""},
 	} {
 		args := append(good[:len(good):len(good)], "--"+row.option, row.value)
+		if row.option == "listen" && row.want == "" && !strings.HasPrefix(row.value, "unix:") {
+			if l, err := net.Listen("tcp", row.value); err == nil {
+				l.Close()
+			} else if !errors.Is(err, syscall.EADDRINUSE) { // such as a machine without IPv6
+				row.want = "this user can't listen at "
+			}
+		}
 		if row.option == "nats" {
 			args = append(args, "--replay", "once", "--state", filepath.Join(folder, "state"))
 		}
@@ -176,6 +194,12 @@ func TestOptionsThatServeCantRunWith(t *testing.T) {
 		}
 		if strings.Contains(said, "secret") {
 			t.Errorf("--%s %q: a password is printed: %q", row.option, row.value, said)
+		}
+	}
+	for _, option := range []string{"listen", "envoy", "metrics"} {
+		both := []string{"--admin", filepath.Join(folder, "a.sock"), "--" + option, "unix:" + folder + "/./a.sock"}
+		if status, _, said := here("", append(good[:len(good):len(good)], both...)...); status != 2 || !strings.Contains(said, "--admin is the path of --"+option) {
+			t.Errorf("%q: %d %q", both, status, said)
 		}
 	}
 }
@@ -448,7 +472,7 @@ func TestDrainingIsSaidOnTheAdminSocket(t *testing.T) {
 	if n, err := slow.Read(answer); err != nil || !strings.HasPrefix(string(answer[:n]), "HTTP/1.1 200 ") {
 		t.Errorf("the request that was under way: %q, %v", answer[:n], err)
 	}
-	if err := p.run.Wait(); err != nil {
+	if err := p.wait(); err != nil {
 		t.Errorf("svidd: %v\n%s", err, p.log)
 	}
 }

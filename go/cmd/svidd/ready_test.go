@@ -58,7 +58,7 @@ var whys = map[string]map[string]string{
 		"The store hangs":                    "the group's store does not answer",
 		"Redis is full":                      "the group's store does not answer, so no token can be claimed: the server answered: OOM",
 		"Redis takes no writes":              "the group's store does not answer, so no token can be claimed: the server answered: NOREPLICAS",
-		"Redis has taken the rights":         "the group's store does not answer, so no token can be claimed: the server answered: NOPERM",
+		"Redis has taken the rights":         "the server answered: NOPERM", // (of one command or another)
 		"PostgreSQL is away":                 "the group's store does not answer",
 		"PostgreSQL takes no writes":         "the group's store does not answer, so no token can be claimed: the server is a standby",
 		"NATS is away":                       "the group's store does not answer",

@@ -252,6 +252,12 @@ func TestCheckConfigLooksAtTheFoldersAndServers(t *testing.T) {
 		{[]string{"--admin", filepath.Join(folder, "none", "admin.sock")}, "--admin: stat " + filepath.Join(folder, "none") + ": no such file", ""},
 		{[]string{"--admin", file}, "--admin: " + file + " is there, and is no socket", ""},
 		{[]string{"--listen", "unix:" + filepath.Join(folder, "none", "s")}, "--listen: stat", ""},
+		{[]string{"--listen", "unix:" + filepath.Join(file, "s")}, "--listen: " + file + " is no folder", ""},
+		{[]string{"--listen", "a..b:9901"}, "--listen: lookup a..b: no such host", ""},
+		{[]string{"--listen", "192.0.2.1:9901"}, "--listen: this user can't listen at 192.0.2.1:9901: bind: cannot assign requested address", ""},
+		{[]string{"--metrics", "192.0.2.1:9902"}, "--metrics: this user can't listen at 192.0.2.1:9902", ""},
+		{[]string{"--envoy", "192.0.2.1:9903"}, "--envoy: this user can't listen at 192.0.2.1:9903", ""},
+		{[]string{"--listen", answers.Addr().String()}, "", ""}, // It is taken: by the svidd that is to be changed.
 		{[]string{"--metrics", "unix:" + filepath.Join(folder, "none", "s")}, "--metrics: stat", ""},
 		{[]string{"--nats", "nats://svidd:secret@" + answers.Addr().String()}, "", "--group-log: no good answer within 2s"}, // It is silent.
 		{[]string{"--nats", "nats://svidd:secret@" + nobody}, "", "nothing answers at " + nobody},

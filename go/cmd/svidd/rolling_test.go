@@ -45,7 +45,7 @@ func rolling(t *testing.T, end func(*testing.T, *broker.Server)) {
 		t.Fatal(err)
 	}
 	servers := natstest.Cluster(t, 3, "-c", config)
-	all := several(t, 3, "strict", strings.Join(broker.URLs(servers), ","), "--replicas", "3")
+	all := several(t, 3, "strict", strings.Join(broker.URLs(servers), ","), "--replicas", "3", "--log", "decisions")
 	js := stream(t, strings.Join(broker.URLs(servers), ","))
 	stop := make(chan struct{})
 	var mu sync.Mutex
@@ -105,6 +105,9 @@ func rolling(t *testing.T, end func(*testing.T, *broker.Server)) {
 		text := p.log.String()
 		if epochs := p.metric("svidd_store_epochs_total"); epochs != "0" {
 			t.Errorf("%s epochs, and it said: %s", epochs, text)
+		}
+		if len(p.events("broker lost")) == 0 || len(p.events("broker found")) == 0 {
+			t.Errorf("the log does not say that the server was away, and then there: %s", text)
 		}
 	}
 }

@@ -20,14 +20,12 @@ const (
 	drainWait = 10 * time.Second
 	// headerWait is how long a client may take to send the headers of a request.
 	headerWait = 5 * time.Second
-	// requestWait is how long reading a request, or writing its answer, may take.
+	// requestWait is how long reading a request, or writing its answer once it is there, may take.
 	requestWait = time.Minute
 	// idleWait is how long a connection may stay idle.
 	idleWait = 2 * time.Minute
 	// startWait is how long a step of the start may still take once a signal says to end.
 	startWait = time.Second
-	// endWait is how long the record's last snapshot, and what waits for the group, may take once no request is under way.
-	endWait = 20 * time.Second
 	// logWait is how long the end of the process waits for standard error to take the last lines.
 	logWait = time.Second
 	// spareHeap is how many bytes of garbage gather, beside as many as are in use, before they are collected. Only a few
@@ -42,6 +40,9 @@ const (
 
 // clock is this machine's where it is nil. Tests set it.
 var clock func() uint64
+
+// endWait is how long the record's last snapshot, and what waits for the group, may take once no request is under way. Tests set it.
+var endWait = 20 * time.Second
 
 // errClock ends the sidecar: the next one begins with the clock as it is.
 var errClock = errors.New(strings.Replace(guard.ErrClock.Error(), "open a new guard", "start svidd again", 1))
@@ -63,7 +64,7 @@ func serve(args []string, std stdio) int {
 	}
 	if o.check {
 		faults, warnings := o.bundleProblems()
-		faults = append(o.folderProblems(), faults...)
+		faults = append(o.localProblems(), faults...)
 		ofServers, away := o.serverProblems()
 		faults, warnings = append(faults, ofServers...), append(warnings, away...)
 		for _, sentence := range warnings {
@@ -206,6 +207,11 @@ func (s *sidecar) open(ctx context.Context) error {
 	store, err := s.store(s.log.Event)
 	if err != nil {
 		return err
+	}
+	if store != nil {
+		is := &reaching{store, make(chan struct{})}
+		store = is
+		go s.sayWhyUnreached(ctx, is.reached)
 	}
 	o := guard.Options{
 		Audiences: s.audiences, Bundles: specs, Allow: s.allow, Mode: guard.Mode(s.replay), Caller: s.caller, State: s.state, Store: store, Log: s.groupLog(), Longest: s.longest.value,

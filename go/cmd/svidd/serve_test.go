@@ -89,7 +89,7 @@ func TestServeOnce(t *testing.T) {
 		}
 	}
 
-	// What was used before a restart is used after it, after SIGTERM and after a crash.
+	// What was used before a restart is used after it, after SIGTERM and after a crash. SIGINT ends it as well.
 	writeBundle(t, bundle, example)
 	p.end()
 	p.start()
@@ -100,7 +100,10 @@ func TestServeOnce(t *testing.T) {
 	p.start()
 	p.want(fourth, 401, "Replayed")
 	p.want(second, 401, "Withdrawn")
-	p.end()
+	if err := p.signal(syscall.SIGINT); err != nil {
+		t.Fatal(err)
+	}
+	p.exits()
 	for _, secret := range []string{first, second, third, fourth, signed} {
 		if strings.Contains(p.log.String(), secret[strings.LastIndexByte(secret, '.'):]) {
 			t.Error("the log has a token's signature in it")

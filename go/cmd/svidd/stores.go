@@ -1,9 +1,12 @@
 package main
 
 import (
+	"context"
+	"errors"
 	"flag"
 	"fmt"
 	"strings"
+	"time"
 
 	"svid.example/go/v3/carriers"
 	"svid.example/go/v3/carriers/jetstream"
@@ -12,6 +15,7 @@ import (
 	"svid.example/go/v3/claims/postgres"
 	"svid.example/go/v3/claims/redis"
 	"svid.example/go/v3/guard"
+	"svid.example/go/v3/internal/brief"
 	"svid.example/go/v3/internal/server"
 )
 
@@ -117,6 +121,39 @@ func (o *options) store(said func(event string, fields ...any)) (claims.Store, e
 		return kind.store(o, said)
 	}
 	return nil, nil
+}
+
+// unreachedPause is between two looks why the group's store was not reached. Tests set it.
+var unreachedPause = 3 * time.Second
+
+// A reaching store says when it was reached: its Open tries again and again, and says nothing before that.
+type reaching struct {
+	claims.Store
+	reached chan struct{}
+}
+
+// Open is part of claims.Store, and is called once.
+func (r *reaching) Open(ctx context.Context) (claims.State, error) {
+	defer close(r.reached)
+	return r.Store.Open(ctx)
+}
+
+// sayWhyUnreached logs why the group's store was not reached, where that is so for seconds, and whenever it is something else.
+func (s *sidecar) sayWhyUnreached(ctx context.Context, reached <-chan struct{}) {
+	for said := new(brief.Causes); ; {
+		select {
+		case <-ctx.Done():
+			return
+		case <-reached:
+			return
+		case <-time.After(unreachedPause):
+		}
+		var faults, warnings problems
+		s.storeProblems(&faults, &warnings)
+		if all := append(faults, warnings...); len(all) > 0 && said.IsNew(time.Now(), all) {
+			s.log.Error("store not reached", errors.New(hideTokens(all.Error())))
+		}
+	}
 }
 
 // groupLog is the log of a group of mode once, and nil where there is none.

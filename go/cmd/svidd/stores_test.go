@@ -3,6 +3,8 @@ package main
 import (
 	"flag"
 	"fmt"
+	"io"
+	"net"
 	"os"
 	"os/exec"
 	"path/filepath"
@@ -143,7 +145,7 @@ func TestCopiesOfAStateFolder(t *testing.T) {
 	t.Parallel()
 	_, url := stores["Redis"](t)
 	state := filepath.Join(t.TempDir(), "state")
-	first := members(t, 1, url, "--state", state)[0]
+	first := members(t, 1, url, "--state", state, "--log", "decisions")[0]
 	first.want(token(t, "before", lasting), 200, "")
 	first.end()
 	copied := filepath.Join(t.TempDir(), "copy")
@@ -151,8 +153,8 @@ func TestCopiesOfAStateFolder(t *testing.T) {
 		t.Fatalf("%s %v", out, err)
 	}
 	first.start()
-	all := append(members(t, 1, url, "--state", copied), first)
-	if one, other := all[0].events("serving"), all[1].events("serving"); len(one) > 0 && one[0]["validator_id"] != other[0]["validator_id"] {
+	all := append(members(t, 1, url, "--state", copied, "--log", "decisions"), first)
+	if one, other := all[0].awaitEvents("serving", 1), all[1].awaitEvents("serving", 2); one[0]["validator_id"] != other[0]["validator_id"] {
 		t.Errorf("they have two validator IDs: %v, %v", one, other)
 	}
 	const n = 200
@@ -219,6 +221,7 @@ func TestOptionsOfTheStore(t *testing.T) {
 		{[]string{"--replay", "reuse", "--store", "redis://h"}, ""},
 		{[]string{"--replay", "once", "--state", t.TempDir(), "--group-log", "redis://h"}, "--replay strict --store"},
 		{[]string{"--replay", "once", "--state", t.TempDir(), "--group-log", "nats://h"}, ""},
+		{[]string{"--replay", "once", "--state", t.TempDir(), "--group-log", "nats://h1", "--group-log", "http://u:secret@h2"}, "--group-log: address 2 must begin"},
 		{[]string{"--replay", "once", "--state", t.TempDir(), "--group-log", "nats://h", "--store", "redis://h"}, ""},
 		{[]string{"--replay", "once", "--state", t.TempDir(), "--group-log", "nats://h", "--nats", "nats://h"}, "give one of them"},
 		{[]string{"--replay", "strict", "--store", "redis://h", "--nats-creds", bundleFile(t, example)}, "are for NATS"},
@@ -266,7 +269,51 @@ func TestSchema(t *testing.T) {
 	p.want(one, 401, "Replayed")
 	other := prepare(t, nil, bundleOption(bundleFile(t, example)), "--replay", "strict", "--store", as("other"), "--group", "ledger")
 	other.launch()
-	if err := other.run.Wait(); err == nil || !strings.Contains(other.log.String(), "svidd schema") {
+	if err := other.wait(); err == nil || !strings.Contains(other.log.String(), "svidd schema") {
 		t.Errorf("%v: %s", err, other.log)
+	}
+}
+
+// A sidecar whose store is not reached says why, without the password of its address.
+func TestWhyAStoreIsNotReached(t *testing.T) {
+	t.Parallel()
+	var all []*stage
+	for _, scheme := range []string{"redis", "postgres", "nats"} {
+		s := newStage(t, "strict", bundleOption(bundleFile(t, example)), "--store", scheme+"://member:secret@"+freeAddress(t))
+		s.more = append(s.more, inHaste+"=1")
+		s.launch()
+		all = append(all, s)
+	}
+	for _, s := range all {
+		s.await("the line that says why", func() bool { return len(s.events("store not reached")) > 0 })
+		if why := fmt.Sprint(s.events("store not reached")[0]["error"]); !strings.Contains(why, "connection refused") || strings.Contains(s.log.String(), "secret") {
+			t.Errorf("it says %s", why)
+		}
+	}
+}
+
+// A store that takes connections and answers nothing is one line, however often svidd looks at it: from another port each time.
+func TestAStoreThatHangsIsSaidOnce(t *testing.T) {
+	t.Parallel()
+	l, err := net.Listen("tcp", "127.0.0.1:0")
+	must(t, err)
+	defer l.Close()
+	var looks atomic.Int32 // Each begins with a connection that says nothing.
+	go func() {
+		for c, err := l.Accept(); err == nil; c, err = l.Accept() {
+			go func(c net.Conn) {
+				defer c.Close()
+				if n, _ := io.Copy(io.Discard, c); n == 0 {
+					looks.Add(1)
+				}
+			}(c)
+		}
+	}()
+	s := newStage(t, "strict", bundleOption(bundleFile(t, example)), "--store", "redis://"+l.Addr().String())
+	s.more = append(s.more, inHaste+"=1")
+	s.launch()
+	s.await("two looks at the store", func() bool { return looks.Load() > 2 })
+	if lines := s.awaitEvents("store not reached", 1); len(lines) != 1 {
+		t.Errorf("%d lines: %v", len(lines), lines)
 	}
 }

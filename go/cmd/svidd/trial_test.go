@@ -89,7 +89,12 @@ func TestCheckConfigAsksTheServers(t *testing.T) {
 		"the log has another password":       {once(withUser(bare, "svidd:secret")), "Authorization Violation"},
 		"the log loses what it has":          {once(nats.URL), "--group-log: "},
 	} {
-		status, out, said := here("", append(good[:len(good):len(good)], row.args...)...)
+		var status int
+		var out, said string
+		natstest.Await(t, what+" to be asked in time", func() bool { // (a busy server may take longer than the two seconds that --check-config waits)
+			status, out, said = here("", append(good[:len(good):len(good)], row.args...)...)
+			return !strings.Contains(said, "no good answer within 2s")
+		})
 		if row.want == "" && (status != 0 || out != "svidd: the options are good\n" || said != "") {
 			t.Errorf("%s: %d %q %q", what, status, out, said)
 		}

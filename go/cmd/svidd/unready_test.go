@@ -234,7 +234,7 @@ func wantAlerts(t *testing.T, all []unready) {
 	}
 	rulesPath, err := filepath.Abs("../../deploy/prometheus/rules.yaml")
 	must(t, err)
-	text := fmt.Sprintf("rule_files: [%q]\nevaluation_interval: 15s\ntests:\n  - interval: 15s\n    input_series:\n%s    alert_rule_test:\n      - eval_time: 5m\n        alertname: SviddNotReady\n        exp_alerts:\n%s",
+	text := fmt.Sprintf("rule_files: [%q]\nevaluation_interval: 1m\ntests:\n  - interval: 15s\n    input_series:\n%s    alert_rule_test:\n      - eval_time: 5m\n        alertname: SviddNotReady\n        exp_alerts:\n%s",
 		rulesPath, &series, &due)
 	name := filepath.Join(t.TempDir(), "unready.yaml")
 	must(t, os.WriteFile(name, []byte(text), 0o600))

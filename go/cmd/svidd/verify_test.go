@@ -177,8 +177,8 @@ func TestAnRSAKeyHasABound(t *testing.T) {
 	}
 	p := start(t, bundleOption(file), "--bundle=example.com="+bundleFile(t, other), "--replay", "reuse")
 	p.want(one, 401, "BadSignature")
-	over := p.events("key passed over")
-	if len(over) != 2 || !strings.Contains(fmt.Sprint(over), why) || len(p.events("bundle has no key")) != 1 {
+	over := p.awaitEvents("key passed over", 2)
+	if len(over) != 2 || !strings.Contains(fmt.Sprint(over), why) || len(p.awaitEvents("bundle has no key", 1)) != 1 {
 		t.Errorf("the log has %v: %s", over, p.log)
 	}
 	p.end()
@@ -223,10 +223,9 @@ func longestToken(t *testing.T) string {
 	payload := string(claims)
 	for more := 48000; more < 50000; more++ {
 		for _, blanks := range []string{"", " ", "  "} {
-			header := strings.Replace(room, `""`, `"`+strings.Repeat("m", more)+`"`, 1)
-			length := base64.RawURLEncoding.EncodedLen(len(header)) + base64.RawURLEncoding.EncodedLen(len(payload+blanks)) + 2 + 86
+			length := base64.RawURLEncoding.EncodedLen(len(room)+more) + base64.RawURLEncoding.EncodedLen(len(payload+blanks)) + 2 + 86
 			if length == svid.MaxToken {
-				return example.Sign("ES256", header, payload+blanks)
+				return example.Sign("ES256", strings.Replace(room, `""`, `"`+strings.Repeat("m", more)+`"`, 1), payload+blanks)
 			}
 		}
 	}

@@ -163,7 +163,7 @@ func TestABundleThatTheValidatorRefuses(t *testing.T) {
 	}
 	p.await("the good one", func() bool { return len(p.events("bundles")) == 5 })
 	p.want(other.Token("ES256", claims), 200, "")
-	if n := len(p.events("bundle source is well again")); n != 1 {
+	if n := len(p.awaitEvents("bundle source is well again", 1)); n != 1 {
 		t.Errorf("it is well again %d times", n)
 	}
 	p.end()

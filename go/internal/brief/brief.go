@@ -1,8 +1,11 @@
-// Package brief cuts what others say, as a server in its answer, before it stands in an error or in a line of a log.
+// Package brief cuts what others say, as a server in its answer, before it stands in an error or in a line of a log, and says whether it is
+// something new.
 package brief
 
 import (
 	"fmt"
+	"regexp"
+	"time"
 	"unicode/utf8"
 )
 
@@ -47,6 +50,47 @@ func Fields(fields []any) []any {
 	}
 	return all
 }
+
+// drawn is what differs each time in errors that have the same reason: the port that this machine drew for a connection, and of a subject of NATS
+// the name of an inbox, the key of a value, and which question of a feed it answers.
+var drawn = regexp.MustCompile(`[^\s"]+:[0-9]+->|("(?:_INBOX|\$KV\.[^".]+\.[^".]+|\$JS\.FC\.[^".]+))\.[^"]*`)
+
+// Cause is the text of an error, but for what differs each time.
+func Cause(err error) string { return drawn.ReplaceAllString(err.Error(), "$1") }
+
+const (
+	// causeTime is after how long without a cause the next line about it is due.
+	causeTime = time.Minute
+	// mostCauses have lines in that time.
+	mostCauses = 16
+)
+
+// Causes are those of errors that happen again and again, while nobody looks. One goroutine uses them at a time.
+type Causes struct {
+	last map[string]time.Time
+}
+
+// IsNew says whether to log an error that happens now: its cause was not there for a minute.
+func (c *Causes) IsNew(now time.Time, err error) bool {
+	for cause, at := range c.last {
+		if now.Sub(at) >= causeTime {
+			delete(c.last, cause)
+		}
+	}
+	cause := Cause(err)
+	_, is := c.last[cause]
+	if !is && len(c.last) == mostCauses {
+		return false
+	}
+	if c.last == nil {
+		c.last = make(map[string]time.Time)
+	}
+	c.last[cause] = now
+	return !is
+}
+
+// Forget lets each cause be new.
+func (c *Causes) Forget() { c.last = nil }
 
 type cut struct {
 	text string

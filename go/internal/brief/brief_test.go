@@ -6,6 +6,7 @@ import (
 	"io"
 	"strings"
 	"testing"
+	"time"
 	"unicode/utf8"
 )
 
@@ -49,5 +50,49 @@ func TestError(t *testing.T) {
 	given := []any{"why", long, "n", 1, "text", "b"}
 	if all := Fields(given); all[1].(error).Error() != Error(long).Error() || all[3] != 1 || all[5] != "b" || len(all) != 6 || given[1] != long {
 		t.Errorf("%v of %v", all, given)
+	}
+}
+
+func TestCause(t *testing.T) {
+	for text, want := range map[string]string{
+		"read tcp 127.0.0.1:40001->127.0.0.1:6379: i/o timeout": "read tcp 127.0.0.1:6379: i/o timeout",
+		"Get \"https://a:1/\": write tcp [::1]:40001->[::1]:1: broken pipe, lookup a on 10.0.0.1:53: read udp 10.0.0.2:4->10.0.0.1:53: i/o timeout": "Get \"https://a:1/\": write tcp [::1]:1: broken pipe, lookup a on 10.0.0.1:53: read udp 10.0.0.1:53: i/o timeout",
+		`nats: Permissions Violation for Publish to "$KV.svid-claims.c.AbC_-1"`:                                                                     `nats: Permissions Violation for Publish to "$KV.svid-claims.c"`,
+		`nats: Permissions Violation for Subscription to "_INBOX.Xy1.2" using queue "q.r"`:                                                          `nats: Permissions Violation for Subscription to "_INBOX" using queue "q.r"`,
+		`nats: Permissions Violation for Publish to "$JS.FC.KV_svid.a1.b2"`:                                                                         `nats: Permissions Violation for Publish to "$JS.FC.KV_svid"`,
+		`nats: Permissions Violation for Publish to "$JS.API.STREAM.INFO.KV_svid"`:                                                                  `nats: Permissions Violation for Publish to "$JS.API.STREAM.INFO.KV_svid"`,
+		"dial tcp 127.0.0.1:6379: connect: connection refused":                                                                                      "dial tcp 127.0.0.1:6379: connect: connection refused",
+	} {
+		if got := Cause(errors.New(text)); got != want {
+			t.Errorf("%s: %q", text, got)
+		}
+	}
+}
+
+// A cause is new where it was not there for a minute, or was forgotten. Those without end are few.
+func TestCauses(t *testing.T) {
+	var c Causes
+	begin := time.Now()
+	want := func(at time.Duration, text string, is bool) {
+		t.Helper()
+		if c.IsNew(begin.Add(at), errors.New(text)) != is {
+			t.Errorf("%s at %v: it is new: %v", text, at, !is)
+		}
+	}
+	for round := time.Duration(0); round < 4*causeTime; round += causeTime / 2 {
+		want(round, "read tcp a:1->b:2: c", round == 0)
+		want(round, fmt.Sprintf("read tcp a:%d->b:2: c", round), false)
+	}
+	want(4*causeTime, "d", true)
+	want(5*causeTime-1, "d", false)
+	want(6*causeTime-1, "d", true)
+	c.Forget()
+	want(6*causeTime-1, "d", true)
+	c.Forget()
+	for i := 0; i < 1000; i++ {
+		want(0, fmt.Sprint(i), i < mostCauses)
+	}
+	if len(c.last) != mostCauses {
+		t.Errorf("%d causes are kept", len(c.last))
 	}
 }

@@ -72,7 +72,7 @@ func (s *Server) Start() error {
 func (s *Server) Kill() {
 	if s.run != nil {
 		s.run.Process.Kill()
-		s.run.Wait()
+		await(s.run)
 		s.run = nil
 	}
 }
@@ -81,7 +81,7 @@ func (s *Server) Kill() {
 func (s *Server) Stop() {
 	if s.run != nil {
 		s.run.Process.Signal(syscall.SIGTERM)
-		s.run.Wait()
+		await(s.run)
 		s.run = nil
 	}
 }
@@ -89,7 +89,7 @@ func (s *Server) Stop() {
 // Await waits until the server has ended by itself.
 func (s *Server) Await() {
 	if s.run != nil {
-		s.run.Wait()
+		await(s.run)
 		s.run = nil
 	}
 }

@@ -1,6 +1,7 @@
 package broker
 
 import (
+	"bytes"
 	"database/sql"
 	"fmt"
 	"io/fs"
@@ -9,6 +10,7 @@ import (
 	"os/user"
 	"path/filepath"
 	"strconv"
+	"strings"
 	"sync"
 	"syscall"
 	"time"
@@ -42,8 +44,9 @@ func NewPostgres(dir string, more ...string) (*Postgres, error) {
 	if s.as, err = owner(); err != nil {
 		return nil, err
 	}
+	// (memory that processes share is a file of the folder, which a killed server would leave in /dev/shm else)
 	s.args = append([]string{"-D", s.Dir, "-p", fmt.Sprint(ports[0]), "-c", "listen_addresses=127.0.0.1", "-c", "unix_socket_directories=",
-		"-c", "shared_buffers=16MB", "-c", "logging_collector=off"}, more...)
+		"-c", "shared_buffers=16MB", "-c", "logging_collector=off", "-c", "dynamic_shared_memory_type=mmap"}, more...)
 	if _, err := os.Stat(filepath.Join(s.Dir, "PG_VERSION")); err == nil {
 		return s, nil
 	}
@@ -51,7 +54,7 @@ func NewPostgres(dir string, more ...string) (*Postgres, error) {
 	if made.err != nil {
 		return nil, made.err
 	}
-	return s, writeData(s.Dir, made.files)
+	return s, writeData(s.Dir, made.files, s.as)
 }
 
 // made are the data of a server that never ran, which the first server of a process makes: to make them takes longer than most that
@@ -84,6 +87,9 @@ func makeData() (files []file, err error) {
 	if err != nil {
 		return nil, fmt.Errorf("broker: initdb: %w: %s: install Debian's postgresql", err, out)
 	}
+	if err := s.dropTemplates(); err != nil {
+		return nil, err
+	}
 	err = filepath.WalkDir(s.Dir, func(name string, entry fs.DirEntry, err error) error {
 		if err != nil {
 			return err
@@ -108,8 +114,19 @@ func makeData() (files []file, err error) {
 	return files, err
 }
 
-// writeData writes the data of a server to a folder, which is made.
-func writeData(dir string, files []file) error {
+// dropTemplates drops the databases from which others are made, for nobody makes one: two thirds of the files, and each server has its own files.
+func (s *Postgres) dropTemplates() error {
+	run := s.Command("postgres", "--single", "-D", s.Dir, "-c", "fsync=off", "postgres")
+	run.Stdin = strings.NewReader("UPDATE pg_database SET datistemplate = false;\nDROP DATABASE template0;\nDROP DATABASE template1;\n")
+	out, err := run.CombinedOutput()
+	if err != nil || bytes.Contains(out, []byte("ERROR")) {
+		return fmt.Errorf("broker: the templates are not dropped: %v: %s", err, out)
+	}
+	return nil
+}
+
+// writeData writes the data of a server to a folder, which is made, and belongs to as.
+func writeData(dir string, files []file, as *syscall.Credential) error {
 	for _, f := range files {
 		name, err := filepath.Join(dir, f.path), error(nil)
 		if f.mode.IsDir() {
@@ -118,7 +135,7 @@ func writeData(dir string, files []file) error {
 			err = os.WriteFile(name, f.content, f.mode.Perm())
 		}
 		if err == nil {
-			err = Own(name)
+			err = give(name, as)
 		}
 		if err != nil {
 			return err
@@ -144,22 +161,41 @@ func owner() (*syscall.Credential, error) {
 	return &syscall.Credential{Uid: uint32(uid), Gid: uint32(gid)}, err
 }
 
-// Folder makes a new folder for a server of PostgreSQL. Its user may not go through the folders of a test.
+// Folder makes a new folder for a server of PostgreSQL, in memory where that has room: a server makes and removes a thousand files at each start, which takes
+// the system longer on a disk than all else that tests do with it. Its user may not go through the folders of a test.
 func Folder() (string, error) {
-	dir, err := os.MkdirTemp("", "svid-postgres-")
+	dir, err := os.MkdirTemp(memory(), "svid-postgres-")
 	if err != nil {
 		return "", err
 	}
 	return dir, Own(dir)
 }
 
+// memory is the folder of files that are in memory, if it has some GB free; else it is empty, which stands for that of temporary files.
+func memory() string {
+	const shm = "/dev/shm"
+	var has syscall.Statfs_t
+	if err := syscall.Statfs(shm, &has); err != nil || has.Bavail*uint64(has.Bsize) < 2<<30 {
+		return ""
+	}
+	return shm
+}
+
 // Own gives a folder to who a server of PostgreSQL runs as.
 func Own(dir string) error {
 	as, err := owner()
-	if err != nil || as == nil {
+	if err != nil {
 		return err
 	}
-	return os.Chown(dir, int(as.Uid), int(as.Gid))
+	return give(dir, as)
+}
+
+// give gives a file or a folder to a user; nil is who this process is.
+func give(name string, as *syscall.Credential) error {
+	if as == nil {
+		return nil
+	}
+	return os.Chown(name, int(as.Uid), int(as.Gid))
 }
 
 // Command is a command of PostgreSQL, as the server's user.
@@ -215,6 +251,11 @@ func (s *Postgres) end(signal syscall.Signal) {
 	pid := s.run.Process.Pid
 	s.Resume()
 	syscall.Kill(pid, signal)
+	late := time.AfterFunc(patience.Long, func() {
+		fmt.Fprintf(os.Stderr, "broker: waited %v for the end of the server in %s, which is killed\n", patience.Long, s.Dir)
+		syscall.Kill(pid, syscall.SIGKILL)
+	})
+	defer late.Stop()
 	for syscall.Kill(pid, 0) == nil {
 		time.Sleep(5 * time.Millisecond)
 	}

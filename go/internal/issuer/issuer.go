@@ -30,8 +30,8 @@ type Issuer struct {
 
 // New returns an issuer with new keys.
 func New(domain string) (*Issuer, error) {
-	// (Four primes are found sooner than two, which are longer. Who verifies sees only their product.)
-	key, err := rsa.GenerateMultiPrimeKey(rand.Reader, 4, 2048)
+	// (Eight primes are found sooner than two, which are longer. Who verifies sees only their product.)
+	key, err := rsa.GenerateMultiPrimeKey(rand.Reader, 8, 2048)
 	if err != nil {
 		return nil, err
 	}

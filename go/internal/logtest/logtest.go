@@ -173,20 +173,28 @@ func (s *suite) join(t testing.TB, o Options) *member {
 
 func (s *suite) begin(t testing.TB, o Options) *member {
 	t.Helper()
+	m := new(member)
+	if err := s.tryBegin(t, o, m); err != nil {
+		t.Fatal(err)
+	}
+	return m
+}
+
+// tryBegin lets a member join. It may be called by any goroutine.
+func (s *suite) tryBegin(t testing.TB, o Options, m *member) error {
 	if o.Keep == 0 {
 		o.Keep = time.Hour
 	}
-	m := new(member)
 	o.Log = m.log
 	ctx, cancel := context.WithTimeout(context.Background(), patience.Long)
 	defer cancel()
 	g, err := s.server.Join(ctx, o, m)
 	if err != nil {
-		t.Fatal(err)
+		return err
 	}
 	m.Group = g
 	t.Cleanup(func() { g.Close() })
-	return m
+	return nil
 }
 
 // put puts a value, and ends the test where that fails.
@@ -553,8 +561,8 @@ func (s *suite) putBack(t *testing.T) {
 	m.put(t, "good 3")
 	same(t, atLeast(3), m)
 	restore()
-	Await(t, "the loss to be seen", func() bool { return len(m.starts()) == 2 })
-	if got := m.starts()[1]; !got.Missed || got.Passed != 0 || got.Ready != 2 || !m.said("anew") {
+	Await(t, "the log to name the loss", func() bool { return len(m.starts()) == 2 && m.said("anew") })
+	if got := m.starts()[1]; !got.Missed || got.Passed != 0 || got.Ready != 2 {
 		t.Errorf("began %+v", got)
 	}
 	m.put(t, "good 4")
@@ -721,10 +729,12 @@ func (s *suite) serverComesLater(t *testing.T) {
 	if err := m.tryPut(50*time.Millisecond, "good 1"); !errors.Is(err, context.DeadlineExceeded) {
 		t.Errorf("put without a server: %v", err)
 	}
-	joined := make(chan *member)
-	go func() { joined <- s.begin(t, o) }()
+	late, joined := &member{}, make(chan error, 1)
+	go func() { joined <- s.tryBegin(t, o, late) }()
 	s.server.Start(t)
-	late := <-joined
+	if err := <-joined; err != nil {
+		t.Fatal(err)
+	}
 	m.put(t, "good 2")
 	same(t, holds([]string{"good 2"}), m, late)
 }

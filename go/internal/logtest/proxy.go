@@ -6,9 +6,10 @@ import (
 	"net"
 	"sync"
 	"testing"
+	"time"
 )
 
-// A Proxy stands between a member and its server. It can lose an answer, or let nobody through.
+// A Proxy stands between a member and its server. It can lose or hold an answer, cut what is sent, make all come late, or let nobody through.
 type Proxy struct {
 	Address string // where it listens
 	to      string
@@ -16,6 +17,9 @@ type Proxy struct {
 	shut    bool
 	marker  []byte // once it was sent to the server, what that sends next on this connection is lost
 	lost    bool
+	held    chan struct{} // it is not lost, but comes once this ends
+	isCut   bool          // and what is sent from the marker on waits too
+	delay   time.Duration // of each answer
 	conns   map[net.Conn]bool
 }
 
@@ -52,11 +56,39 @@ func (p *Proxy) Shut(shut bool) {
 	}
 }
 
+// Delay lets each answer come so much later.
+func (p *Proxy) Delay(delay time.Duration) {
+	p.mu.Lock()
+	defer p.mu.Unlock()
+	p.delay = delay
+}
+
 // Lose lets the answer to the next message be lost that has this text.
 func (p *Proxy) Lose(marker []byte) {
 	p.mu.Lock()
 	defer p.mu.Unlock()
-	p.marker, p.lost = marker, false
+	p.marker, p.lost, p.held, p.isCut = marker, false, nil, false
+}
+
+// Hold lets the answer to the next message wait that has this text, and all that comes after it on this connection, until release.
+func (p *Proxy) Hold(t testing.TB, marker []byte) (release func()) {
+	p.mu.Lock()
+	defer p.mu.Unlock()
+	held := make(chan struct{})
+	var once sync.Once
+	release = func() { once.Do(func() { close(held) }) }
+	t.Cleanup(release)
+	p.marker, p.lost, p.held, p.isCut = marker, false, held, false
+	return release
+}
+
+// Cut lets the next message that has this text reach the server up to there, and the rest wait until release.
+func (p *Proxy) Cut(t testing.TB, marker []byte) (release func()) {
+	release = p.Hold(t, marker)
+	p.mu.Lock()
+	defer p.mu.Unlock()
+	p.isCut = true
+	return release
 }
 
 // HasLost says whether that was.
@@ -82,6 +114,7 @@ func (p *Proxy) serve(c net.Conn) {
 	p.mu.Unlock()
 	defer func() { p.mu.Lock(); delete(p.conns, c); delete(p.conns, s); p.mu.Unlock() }()
 	armed := make(chan struct{})
+	var held chan struct{} // once it is armed
 	go func() {
 		defer s.Close()
 		var last []byte
@@ -89,16 +122,27 @@ func (p *Proxy) serve(c net.Conn) {
 		for isArmed := false; ; {
 			n, err := c.Read(buffer)
 			last = append(last, buffer[:n]...)
+			sent := 0
 			p.mu.Lock()
 			if !isArmed && !p.lost && p.marker != nil && bytes.Contains(last, p.marker) {
+				held = p.held
+				if p.isCut {
+					sent = n - (len(last) - bytes.Index(last, p.marker))
+				}
 				close(armed)
 				isArmed, p.lost = true, true
 			}
 			p.mu.Unlock()
+			if sent > 0 {
+				if _, err := s.Write(buffer[:sent]); err != nil {
+					return
+				}
+				<-held
+			}
 			if len(last) > 1<<20 {
 				last = append([]byte(nil), last[len(last)-1<<10:]...)
 			}
-			if _, err := s.Write(buffer[:n]); err != nil {
+			if _, err := s.Write(buffer[sent:n]); err != nil {
 				return
 			}
 			if err != nil {
@@ -109,9 +153,16 @@ func (p *Proxy) serve(c net.Conn) {
 	buffer := make([]byte, 64<<10)
 	for {
 		n, err := s.Read(buffer)
+		p.mu.Lock()
+		delay := p.delay
+		p.mu.Unlock()
+		time.Sleep(delay)
 		select {
 		case <-armed:
-			return // The answer is lost.
+			if held == nil {
+				return // The answer is lost.
+			}
+			<-held
 		default:
 		}
 		if _, err := c.Write(buffer[:n]); err != nil {

@@ -187,6 +187,22 @@ func isURI(text string) bool {
 // mostShown is how many bytes of a value that is no address stand in the log. No token is so short.
 const mostShown = 64
 
+// A noAddress is an ErrNoCaller: what has the address of a client has another text, such as a list of addresses.
+type noAddress struct{ where, text string }
+
+func (n *noAddress) Error() string {
+	if len(n.text) > mostShown {
+		return n.withoutText()
+	}
+	return fmt.Sprintf("%v: %s has %q, which is not one IP address: let the proxy set it to that of the client", ErrNoCaller, n.where, n.text)
+}
+
+func (n *noAddress) withoutText() string {
+	return fmt.Sprintf("%v: %s has %d bytes that are not one IP address: let the proxy set it to that of the client", ErrNoCaller, n.where, len(n.text))
+}
+
+func (n *noAddress) Unwrap() error { return ErrNoCaller }
+
 // where says what has the address of a client.
 func (c *CallerRule) where() string {
 	if c.kind == "peer" {
@@ -229,11 +245,8 @@ func (c *CallerRule) within(text string) Caller {
 // networkOf reads an address.
 func (c *CallerRule) networkOf(text string) Caller {
 	address, err := netip.ParseAddr(text)
-	if err != nil && len(text) > mostShown {
-		return noCaller("%s has %d bytes that are not one IP address: let the proxy set it to that of the client", c.where(), len(text))
-	}
 	if err != nil {
-		return noCaller("%s has %q, which is not one IP address: let the proxy set it to that of the client", c.where(), text)
+		return Caller{fault: &noAddress{c.where(), text}}
 	}
 	if address.Zone() != "" { // Hosts of two links may have one such address, and only this machine knows which link a zone is.
 		return noCaller("%s has an address with a zone, which two clients may share: let the proxy set it to one without", c.where())

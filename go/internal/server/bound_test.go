@@ -8,6 +8,7 @@ import (
 	"fmt"
 	"net/http"
 	"net/http/httptest"
+	"runtime"
 	"strings"
 	"sync"
 	"sync/atomic"
@@ -252,8 +253,101 @@ func TestAnOwnerIsAskedAboutWhileTheStoreIsAway(t *testing.T) {
 	await(t, "the owner to be accepted", func() bool { return by(e, "owner", one) == nil })
 	store.hold()
 	await(t, "the owner to be refused", func() bool { return by(e, "owner", one) != nil })
-	if err := by(e, "thief", one); err != svid.Replayed {
+	var err error
+	await(t, "an answer to a thief", func() bool { err = by(e, "thief", one); return !errors.Is(err, context.DeadlineExceeded) }) // (a busy machine may be late)
+	if err != svid.Replayed {
 		t.Errorf("a thief: %v", err)
+	}
+}
+
+// While a computer is suspended, the clock that only goes ahead stands still. The first request after that finds a withdrawal of that time. A
+// store that is away then is not looked at for each request.
+func TestAWithdrawalWhileTheComputerWasSuspended(t *testing.T) {
+	for _, mode := range []Mode{Bound, Reuse, Once} {
+		store := &watchedShop{shop: newShop()}
+		var suspended atomic.Uint64
+		o := inBound(t, "header:X-Caller", Options{Now: func() uint64 { return moment + suspended.Load() }})
+		o.Mode = mode
+		e := ready(t, engine(t, o))
+		state, err := store.shop.Open(context.Background())
+		if err != nil {
+			t.Fatal(err)
+		}
+		e.UseStore(store, state)
+		one, other := token("a"), token("b")
+		if err := by(e, "owner", one); err != nil {
+			t.Fatal(err)
+		}
+		for _, gone := range []string{one, other} {
+			found, err := e.Find(gone)
+			if err != nil {
+				t.Fatal(err)
+			}
+			if _, err := store.Withdraw(context.Background(), claims.Withdrawal{Key: found.Key, Expires: found.Expires}); err != nil {
+				t.Fatal(err)
+			}
+			suspended.Add(100)
+			if err := by(e, "owner", gone); err != svid.Withdrawn {
+				t.Errorf("%s, after %d seconds: %v", mode, suspended.Load(), err)
+			}
+		}
+		suspended.Add(50)
+		store.Fault = func() error { return errors.New("connection refused") }
+		before := store.looks.Load()
+		for i := 0; i < 20; i++ {
+			_ = by(e, "owner", one)
+		}
+		if looks := store.looks.Load() - before; looks == 0 || looks > 5 { // (a busy machine may be stopped too)
+			t.Errorf("%s: %d looks for 20 requests", mode, looks)
+		}
+	}
+}
+
+// waitIn is how many goroutines wait for a lock in a call of this name.
+func waitIn(call string) (n int) {
+	stacks := make([]byte, 1<<20)
+	stacks = stacks[:runtime.Stack(stacks, true)]
+	for _, stack := range strings.Split(string(stacks), "\n\n") {
+		if _, frames, _ := strings.Cut(stack, "\n"); strings.HasPrefix(frames, "sync.runtime_Semacquire") && strings.Contains(frames, call) {
+			n++
+		}
+	}
+	return n
+}
+
+// Requests that come while the first one after a suspension looks at the store wait for that look.
+func TestRequestsBesideTheFirstLookWaitForIt(t *testing.T) {
+	store := &watchedShop{shop: newShop()}
+	var suspended atomic.Uint64
+	e := ready(t, engine(t, inBound(t, "header:X-Caller", Options{Now: func() uint64 { return moment + suspended.Load() }})))
+	state, err := store.shop.Open(context.Background())
+	if err != nil {
+		t.Fatal(err)
+	}
+	e.UseStore(store, state)
+	one := token("a")
+	if err := by(e, "owner", one); err != nil {
+		t.Fatal(err)
+	}
+	found, err := e.Find(one)
+	if err != nil {
+		t.Fatal(err)
+	}
+	if _, err := store.Withdraw(context.Background(), claims.Withdrawal{Key: found.Key, Expires: found.Expires}); err != nil {
+		t.Fatal(err)
+	}
+	store.goOn = make(chan struct{})
+	suspended.Store(250)
+	before, answers := store.looks.Load(), make(chan error, 2)
+	go func() { answers <- by(e, "owner", one) }()
+	await(t, "the first one to look", func() bool { return store.looks.Load() > before })
+	go func() { answers <- by(e, "owner", one) }()
+	await(t, "the other one to wait, or an answer", func() bool { return len(answers) > 0 || waitIn("(*Engine).lookFirst(") > 0 })
+	close(store.goOn)
+	for i := 0; i < 2; i++ {
+		if err := <-answers; err != svid.Withdrawn {
+			t.Errorf("answer %d: %v", i, err)
+		}
 	}
 }
 
@@ -465,8 +559,16 @@ func TestARequestWithoutACaller(t *testing.T) {
 		if line["level"] != "error" || line["event"] != "unavailable" || !strings.Contains(said, row.says) || len(said) > 300 || line["caller"] != nil {
 			t.Errorf("%+v: the line is %s", row, &out)
 		}
+		for _, how := range []Addresses{Network, None} {
+			out.Reset()
+			e.Log.SetAddresses(how)
+			from(e, one, row.header)
+			if line := strings.ReplaceAll(out.String(), "192.0.2.0/24", ""); !strings.Contains(line, `"unavailable"`) || strings.Contains(line, "192.0.2") {
+				t.Errorf("%+v: with addresses %d the line is %s", row, how, line)
+			}
+		}
 		if page := request(e.Handler(), "GET", "/metrics").Body.String(); store.puts() != 0 ||
-			!strings.Contains(page, `svidd_checks_total{result="no_caller"} 1`+"\n") || !strings.Contains(page, `svidd_checks_total{result="unavailable"} 0`+"\n") {
+			!strings.Contains(page, `svidd_checks_total{result="no_caller"} 3`+"\n") || !strings.Contains(page, `svidd_checks_total{result="unavailable"} 0`+"\n") {
 			t.Errorf("%+v: %d claims, and the metrics: %s", row, store.puts(), page)
 		}
 		// (A token that nobody was accepted with is nobody's.)
@@ -663,11 +765,10 @@ func TestABoundTokenIsKnown(t *testing.T) {
 // A store that does not answer is a 503 that says so. The claim is the caller's all the same.
 func TestABoundClaimOfUnknownOutcome(t *testing.T) {
 	s := newShop()
-	o := inBound(t, "header:X-Caller", Options{Wait: 300 * time.Millisecond})
-	e := s.use(t, ready(t, engine(t, o)))
 	one := token("a")
 	s.fail(errors.New("connection lost"))
-	if err := by(e, "owner", one); !errors.Is(err, context.DeadlineExceeded) || e.ReasonOf(err) != "NotClaimed" {
+	e, err := givenUp(t, s, inBound(t, "header:X-Caller", Options{}), func(e *Engine) error { return by(e, "owner", one) })
+	if !errors.Is(err, context.DeadlineExceeded) || e.ReasonOf(err) != "NotClaimed" {
 		t.Errorf("%v, %s", err, e.ReasonOf(err))
 	}
 	s.fail(nil)

@@ -8,6 +8,7 @@ import (
 	"fmt"
 	"io"
 	"net/http"
+	"net/http/httptest"
 	"runtime"
 	"strings"
 	"testing"
@@ -132,7 +133,7 @@ func TestNobodyWaitsForASnapshot(t *testing.T) {
 	if err != nil {
 		t.Fatal(err)
 	}
-	e := ready(t, engine(t, Options{Mode: Once, Journal: kept, Wait: 10 * time.Second}))
+	e := ready(t, engine(t, Options{Mode: Once, Journal: kept}))
 	if err := kept.Load(e.Feed); err != nil {
 		t.Fatal(err)
 	}
@@ -282,10 +283,10 @@ func TestAClientHearsAWordOfWhatFailed(t *testing.T) {
 	var now uint64 = moment
 	for _, row := range []struct {
 		want string
-		make func(t *testing.T, log *Log) *Engine
+		make func(t *testing.T, log *Log, wait time.Duration) *Engine
 	}{
-		{"NotReady", func(t *testing.T, log *Log) *Engine { return engine(t, Options{Mode: Once, Log: log}) }},
-		{"NoBundle", func(t *testing.T, log *Log) *Engine {
+		{"NotReady", func(t *testing.T, log *Log, _ time.Duration) *Engine { return engine(t, Options{Mode: Once, Log: log}) }},
+		{"NoBundle", func(t *testing.T, log *Log, _ time.Duration) *Engine {
 			e := engine(t, Options{Mode: Once, Domains: []string{"example.org"}, Log: log})
 			if err := e.SetBundles(map[string]json.RawMessage{"example.com": example.JWKSet()}); err != nil {
 				t.Fatal(err)
@@ -295,24 +296,31 @@ func TestAClientHearsAWordOfWhatFailed(t *testing.T) {
 			}
 			return e
 		}},
-		{"ClockJump", func(t *testing.T, log *Log) *Engine {
+		{"ClockJump", func(t *testing.T, log *Log, _ time.Duration) *Engine {
 			e := ready(t, engine(t, Options{Mode: Once, Step: 600, Now: func() uint64 { return now }, Log: log}))
 			now += 100_000
 			return e
 		}},
-		{"NotKept", func(t *testing.T, log *Log) *Engine {
+		{"NotKept", func(t *testing.T, log *Log, _ time.Duration) *Engine {
 			return ready(t, engine(t, Options{Mode: Once, Journal: &disk{fault: errors.New(secret)}, Log: log}))
 		}},
-		{"NotClaimed", func(t *testing.T, log *Log) *Engine {
+		{"NotClaimed", func(t *testing.T, log *Log, wait time.Duration) *Engine {
 			store := newShop()
-			e := store.use(t, ready(t, engine(t, inStrict(Options{Wait: 30 * time.Millisecond, Log: log}))))
+			e := store.use(t, ready(t, engine(t, inStrict(Options{Wait: wait, Log: log}))))
 			store.fail(errors.New(secret))
 			return e
 		}},
 	} {
 		var out bytes.Buffer
-		e := row.make(t, NewLog(&out, Errors))
-		w := request(e.Handler(), "GET", "/check", "Bearer "+token("a"))
+		var w *httptest.ResponseRecorder
+		for wait := 30 * time.Millisecond; wait <= 2*patience.Long; wait *= 2 {
+			out.Reset()
+			e := row.make(t, NewLog(&out, Errors), wait)
+			w = request(e.Handler(), "GET", "/check", "Bearer "+token("a"))
+			if row.want != "NotClaimed" || strings.Contains(out.String(), secret) { // (on a busy machine a claim may be put too late)
+				break
+			}
+		}
 		if want := `{"reason":"` + row.want + `","result":"unavailable"}` + "\n"; w.Code != 503 || w.Body.String() != want {
 			t.Errorf("%s: %d %s", row.want, w.Code, w.Body)
 		}

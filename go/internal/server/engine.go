@@ -564,6 +564,7 @@ func (e *Engine) judge(ctx context.Context, from Caller, v *verdict) *Rules {
 		return nil
 	}
 	e.look()
+	e.lookFirst()
 	r := e.judgeOnce(ctx, from, v.token)
 	for tries := 1; tries < mostTries && r.isOfOldBundles(); tries++ {
 		e.verified.forget(r.recalled)

@@ -5,6 +5,7 @@ import (
 	"crypto/rand"
 	"errors"
 	"fmt"
+	"sync/atomic"
 	"time"
 
 	"svid.example/go/v3/claims"
@@ -38,7 +39,18 @@ func (e *Engine) noteClaims(from time.Time, found []claims.Found) {
 		}
 	}
 	if len(found) > 0 {
-		e.outlook.claims.CompareAndSwap(nil, &absence{from, found[0].Err})
+		goesOn(&e.outlook.claims, from, found[0].Err)
+	}
+}
+
+// goesOn notes an absence for which there is this reason now. It began at that time, unless it has begun before.
+func goesOn(of *atomic.Pointer[absence], from time.Time, why error) {
+	for is := false; !is; {
+		before := of.Load()
+		if before != nil {
+			from = before.since
+		}
+		is = of.CompareAndSwap(before, &absence{from, why})
 	}
 }
 
@@ -91,7 +103,35 @@ func (e *Engine) lookAtStore() {
 	}
 	e.outlook.looking.Lock()
 	defer e.outlook.looking.Unlock()
-	from := time.Now()
+	e.lookNow(store)
+}
+
+// mostUnlooked is after how long without a look at the store a request looks first. Only a process that was stopped comes that far, or a computer that
+// was suspended, since even a store that is away is looked at again: tokens may have been withdrawn meanwhile.
+const mostUnlooked = 2*(lookWithin+hearWithin) + 2*tickEvery
+
+// lookFirst looks at the store before a token is judged, where nobody has for long.
+func (e *Engine) lookFirst() {
+	if e.Mode == Strict || !e.isUnlooked() {
+		return
+	}
+	e.outlook.looking.Lock()
+	defer e.outlook.looking.Unlock()
+	if e.isUnlooked() { // (else another request has, or Run)
+		e.lookNow(e.store.Load())
+	}
+}
+
+// isUnlooked says whether the last look at the store began too long ago, by either clock.
+func (e *Engine) isUnlooked() bool {
+	last := e.outlook.looked.Load()
+	return last != nil && !e.time().isWithin(mostUnlooked, *last)
+}
+
+// lookNow looks at the store. The caller holds looking.
+func (e *Engine) lookNow(store claims.Store) {
+	from, at := time.Now(), e.time()
+	defer e.outlook.looked.Store(&at)
 	ctx, cancel := e.within(lookWithin)
 	defer cancel()
 	state, err := store.State(ctx)
@@ -142,7 +182,7 @@ func (e *Engine) hearFromStore(store claims.Store) error {
 	}
 }
 
-// storeAnswered takes note of whether the store answered a look that began at a time, and logs a change.
+// storeAnswered takes note of whether the store answered a look that began at a time, and logs a change: also one of the reason.
 func (e *Engine) storeAnswered(from time.Time, err error) {
 	o := &e.outlook
 	if err == nil {
@@ -151,14 +191,17 @@ func (e *Engine) storeAnswered(from time.Time, err error) {
 			err = claims.why
 		}
 	} else {
-		o.away.CompareAndSwap(nil, &absence{from, err})
+		goesOn(&o.away, from, err)
 	}
 	switch isAway := e.isAway(); {
-	case isAway && !o.said:
+	case isAway:
 		o.said = true
-		e.Log.Error("unready", e.whyAway())
+		if why := e.whyAway(); o.causes.IsNew(time.Now(), why) {
+			e.Log.Error("unready", why)
+		}
 	case err == nil && o.said:
 		o.said = false
+		o.causes.Forget()
 		e.Log.Event("ready")
 	}
 }

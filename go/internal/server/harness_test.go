@@ -135,7 +135,7 @@ type tie struct {
 	*broker
 	engine *Engine
 	ready  chan struct{}
-	fault  error         // what Put answers, after storing the value; guarded by broker.mu
+	fault  error         // what Put answers, after storing the value; guarded by broker.mu, as the next one
 	answer chan struct{} // Put waits for it, after storing the value
 	forged []byte        // stands in the place of the value that Put stores, if it is set
 	aside  int
@@ -156,11 +156,12 @@ func (t *tie) Put(ctx context.Context, kind carriers.Kind, number uint64, messag
 	if t.forged != nil {
 		message = t.forged
 	}
+	answer := t.answer
 	t.mu.Unlock()
 	t.put(stored{t, kind, number, message})
-	if t.answer != nil {
+	if answer != nil {
 		select {
-		case <-t.answer:
+		case <-answer:
 		case <-ctx.Done():
 			return ctx.Err()
 		}
@@ -416,6 +417,21 @@ func claimed(t *testing.T, s *shop, e *Engine, token string) (answer chan error)
 	go func() { answer <- check(e, token) }()
 	await(t, "the claim", func() bool { return s.puts() > before })
 	return answer
+}
+
+// givenUp sends a token to an engine of mode strict or bound that gives the request up once the claim is put: the store is to be held, or to fail. On
+// a busy machine the request's time may be over before that, so the next engine has twice as long.
+func givenUp(t *testing.T, s *shop, o Options, check func(e *Engine) error) (e *Engine, err error) {
+	t.Helper()
+	for o.Wait = 50 * time.Millisecond; o.Wait <= 2*patience.Long; o.Wait *= 2 {
+		before := s.puts()
+		e = s.use(t, ready(t, engine(t, o)))
+		if err = check(e); s.puts() > before {
+			return e, err
+		}
+	}
+	t.Fatalf("no claim is put, and the answer is %v", err)
+	return nil, nil
 }
 
 // wantClaims wants so many claims to have ended in each way.

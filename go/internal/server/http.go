@@ -201,7 +201,7 @@ func (e *Engine) writeDecision(at time.Time, took time.Duration, level Level, wh
 	case err == ErrNotAllowed:
 		d.Event, d.Reason, d.Says, d.Claimed = "refused", "NotAllowed", err.Error(), said.short()
 	default:
-		d.Event, d.Reason, d.Claimed = "unavailable", err.Error(), said.short()
+		d.Event, d.Reason, d.Claimed = "unavailable", e.Log.reason(err), said.short()
 	}
 	e.Log.decide(&d)
 }

@@ -85,10 +85,35 @@ func TestRunFollowsTheClockAndTakesSnapshots(t *testing.T) {
 	if n := uses(); n != 0 {
 		t.Errorf("%d uses that have expired", n)
 	}
-	if b.step(End{}); b.count(Snapshot{}) != 3 || b.count(Ended{}) != 0 {
-		t.Errorf("at the end %d snapshots", b.count(Snapshot{}))
+	for i := 0; i < 600; i++ { // The disk stays full. (Each try begins another journal, and takes the room that is left for a moment.)
+		before := b.count(Snapshot{})
+		b.step(Kept{&Write{Size: 2*length + int64(i)}})
+		if b.pass(time.Second); b.count(Snapshot{}) > before {
+			b.step(Snapshotted{Length: length, Size: 2*length + int64(i), Err: errors.New("the disk is full")})
+		}
+	}
+	if n := b.count(Snapshot{}); n < 2+9 || n > 2+10 {
+		t.Errorf("in ten minutes of a full disk %d snapshots", n-2)
+	}
+	before := b.count(Snapshot{})
+	if b.step(End{}); b.count(Snapshot{}) != before+1 || b.count(Ended{}) != 0 {
+		t.Errorf("at the end %d snapshots", b.count(Snapshot{})-before)
 	}
 	if b.step(Snapshotted{}); b.count(Ended{}) != 1 {
 		t.Error("it does not end")
+	}
+}
+
+// What fails each second, as where the system refuses memory, is a line a minute.
+func TestARecordThatCantFollowTheClockDoesNotFillTheLog(t *testing.T) {
+	var log bytes.Buffer
+	b := benchOf(t, Options{Mode: Reuse, Log: NewLog(&log, Errors)})
+	b.step(&Load{}, Run{})
+	b.machine.validator.Close() // So it answers nothing.
+	for i := 0; i < 30; i++ {
+		b.pass(time.Second)
+	}
+	if ticks, sizes := strings.Count(log.String(), `"event":"tick"`), strings.Count(log.String(), `"event":"measure"`); ticks+sizes != 1 {
+		t.Errorf("in half a minute %d and %d lines: %.2000s", ticks, sizes, &log)
 	}
 }

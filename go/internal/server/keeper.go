@@ -74,9 +74,10 @@ type keeper struct {
 	again  *Write // on its way once more
 	of     *Write // what that was before
 
-	size   int64 // bytes that the state folder has beside the snapshot
-	saved  int64 // the length of the last snapshot
-	saving bool  // a snapshot is being taken
+	size   int64         // bytes that the state folder has beside the snapshot
+	saved  int64         // the length of the last snapshot
+	saving bool          // a snapshot is being taken
+	rest   time.Duration // after one that failed, no other begins before this, by Time.Up
 }
 
 // keep brings uses to the disk.

@@ -181,6 +181,26 @@ func (l *Log) address(text string) string {
 	return network.String()
 }
 
+// member is address as the value of a member of a line, which leaves it out where it is nil.
+func (l *Log) member(text string) any {
+	if l == nil {
+		return nil
+	}
+	if shown := l.address(text); shown != "" {
+		return shown
+	}
+	return nil
+}
+
+// reason is why a token could not be judged, as lines have it. A text that is no address may be several.
+func (l *Log) reason(err error) string {
+	var no *noAddress
+	if Addresses(l.addresses.Load()) != Whole && errors.As(err, &no) {
+		return no.withoutText()
+	}
+	return brief.Text(err.Error(), mostValue)
+}
+
 // decide writes the line of a decision, in the order of its fields. Those that are empty are left out, but for the first three,
 // Request, ValidatorID and Micros.
 func (l *Log) decide(d *decision) {

@@ -105,6 +105,9 @@ func TestALongTextIsCutInTheLog(t *testing.T) {
 	log.Event("two", "why", errors.New(long))
 	log.Standard("http").Print(long)
 	log.Event("last")
+	if said := log.reason(errors.New(long)); len(said) > 2*mostValue || !strings.Contains(said, " bytes)") {
+		t.Errorf("a reason of %d bytes", len(said))
+	}
 	outlet.Close(time.Minute)
 	out.mu.Lock()
 	defer out.mu.Unlock()
@@ -163,4 +166,18 @@ func TestAddressesInLines(t *testing.T) {
 		}
 	}
 	(*Log)(nil).SetAddresses(None)
+}
+
+// The key in a line is spelled as the report has it, and as `svidd withdraw` takes it.
+func TestTheKeyInALine(t *testing.T) {
+	var log bytes.Buffer
+	e := ready(t, engine(t, Options{Mode: Reuse, Log: NewLog(&log, Decisions)}))
+	one := token("a")
+	use, err := e.Find(one)
+	if err == nil {
+		err = check(e, one)
+	}
+	if due := `"key":"` + use.Key.String() + `"`; err != nil || !strings.Contains(log.String(), due) {
+		t.Errorf("%v, and a line with %s is due: %s", err, due, &log)
+	}
 }

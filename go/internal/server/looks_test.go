@@ -185,12 +185,20 @@ func TestAnOwnClaimHoldsUpNobody(t *testing.T) {
 
 // An answer that comes in time, and then waits for the machine until the request is late, makes no 200.
 func TestAnAnswerThatWaitsForTheMachineIsLate(t *testing.T) {
-	all, store := strictWithin(t, 1, 50*time.Millisecond)
-	e := all[0]
-	answer := make(chan error, 1)
-	release := store.hold()
-	go func() { answer <- check(e, token("a")) }()
-	await(t, "the claim", func() bool { return store.puts() == 1 })
+	var e *Engine
+	var store *shop
+	var answer chan error
+	var release func()
+	for wait := 50 * time.Millisecond; store == nil || store.puts() == 0; wait *= 2 { // (on a busy machine the request may be late before its claim is put)
+		if wait > 2*patience.Long {
+			t.Fatal("no claim is put")
+		}
+		var all []*Engine
+		all, store = strictWithin(t, 1, wait)
+		e, answer, release = all[0], make(chan error, 1), store.hold()
+		go func(e *Engine, answer chan error) { answer <- check(e, token("a")) }(e, answer)
+		await(t, "the claim, or an answer", func() bool { return store.puts() == 1 || len(answer) > 0 })
+	}
 	e.mu.Lock()
 	due := e.machine.due
 	release()

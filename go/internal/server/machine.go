@@ -36,7 +36,7 @@ type Machine struct {
 	again       []uint64             // numbers of requests whose tokens are to be judged again
 	claims      claimQueue           // in modes strict and bound
 	own         ownUses              // in mode once, in a group
-	heard       time.Duration        // when the store's withdrawals were read last, by Time.Up
+	heard       Time                 // when the store's withdrawals were read last
 	state       claims.State         // of the store, as it was when it was looked at last
 	withdrawn   withdrawnTokens      // that this process withdrew, where there is a store
 
@@ -58,6 +58,12 @@ type Machine struct {
 type Time struct {
 	Wall uint64        // seconds since 1970, by a clock that may be wrong, jump, and go back
 	Up   time.Duration // since some moment, by a clock that only goes ahead
+}
+
+// isWithin says whether no more time has passed since then, by both clocks: while the computer is suspended, Up stands still.
+func (t Time) isWithin(most time.Duration, then Time) bool {
+	const rounding = time.Second // of Wall
+	return t.Up-then.Up <= most && (t.Wall <= then.Wall || t.Wall-then.Wall <= uint64((most+rounding)/time.Second))
 }
 
 // An Event is something that happened.

@@ -130,6 +130,21 @@ func (b *bench) want(won, lost, failed uint64) {
 	}
 }
 
+// A token that can't be read is refused, and the member keeps no request of it: else strangers could use up all that it has room for.
+func TestATokenThatCantBeReadLeavesNoRequest(t *testing.T) {
+	b := newBench(t)
+	r := NewRequest("a.b.c")
+	b.step(r)
+	r.Key, r.Fault = b.keyring.VerifyToken(&r.read)
+	if b.step(Verified{r}); !r.answered || r.Err != svid.HeaderSpelling {
+		t.Errorf("answered %v: %v", r.answered, r.Err)
+	}
+	if at, any, err := b.machine.validator.Due(); any || err != nil {
+		t.Errorf("a request is open until %v: %v", at, err)
+	}
+	b.want(0, 0, 0)
+}
+
 // A claim goes out at once where no call is under way. Else it waits for the answer, for some time.
 func TestAClaimWaitsForTheCallUnderWay(t *testing.T) {
 	for how, pass := range map[string]func(b *bench){

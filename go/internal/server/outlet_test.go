@@ -224,9 +224,32 @@ func TestAnOutletThatFailsAsItCounts(t *testing.T) {
 	}
 }
 
+// A lazy is a writer that takes its time for each write.
+type lazy struct {
+	mu    sync.Mutex
+	lines string
+}
+
+func (l *lazy) Write(lines []byte) (int, error) {
+	time.Sleep(20 * time.Millisecond)
+	l.mu.Lock()
+	defer l.mu.Unlock()
+	l.lines += string(lines)
+	return len(lines), nil
+}
+
 // Close waits for what came, but not for a writer that hangs, and behind it every line is dropped.
 func TestTheEndOfAnOutlet(t *testing.T) {
 	defer soon(t)()
+	slow := new(lazy)
+	l := NewLog(NewOutlet(slow), Errors)
+	l.Error("the last", errors.New("any"))
+	l.Close(time.Minute)
+	slow.mu.Lock()
+	if !strings.Contains(slow.lines, `"event":"the last"`) {
+		t.Errorf("the log ends with %q", slow.lines)
+	}
+	slow.mu.Unlock()
 	out := newSink()
 	o := NewOutlet(out)
 	give(o, 0, 1000, 20)

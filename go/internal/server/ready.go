@@ -8,6 +8,7 @@ import (
 	"sync/atomic"
 	"time"
 
+	"svid.example/go/v3/internal/brief"
 	"svid.example/go/v3/svid"
 )
 
@@ -19,9 +20,12 @@ type outlook struct {
 	claims atomic.Pointer[absence] // since when it takes no claim, though it may answer; nil while it does, as far as is known
 	memory atomic.Int64            // when memory was last refused for a token, in nanoseconds after the start; 0 if it was not since a token was accepted
 
-	looking sync.Mutex // held over a look at the store; guards the fields below
-	said    bool       // that the store has been away for too long
-	heard   string     // the position of the last withdrawal that was read
+	looked atomic.Pointer[Time] // when the last look at the store began that has ended; nil before it
+
+	looking sync.Mutex   // held over a look at the store; guards the fields below
+	said    bool         // that the store has been away for too long
+	causes  brief.Causes // of that
+	heard   string       // the position of the last withdrawal that was read
 }
 
 // An absence is since when a store does not do what it is there for, and why.

@@ -94,6 +94,23 @@ func TestTheAbsenceOfAStoreBeginsOnce(t *testing.T) {
 	}
 }
 
+// While a store is away, the log and /readyz say why: with the reason of now.
+func TestAStoreThatIsAwayForAnotherReason(t *testing.T) {
+	var log bytes.Buffer
+	o := inStrict(Options{Wait: time.Nanosecond, Log: NewLog(&log, Decisions)})
+	e := newShop().use(t, ready(t, engine(t, o)))
+	refused := func(port int) error { return fmt.Errorf("read tcp 127.0.0.1:%d->127.0.0.1:6379: refused", port) }
+	for i, why := range []error{refused(1), refused(2), errors.New("the password is wrong"), errors.New("the password is wrong"), refused(3)} {
+		e.storeAnswered(time.Now().Add(-time.Minute), why)
+		if err := e.Ready(); err == nil || !strings.Contains(err.Error(), why.Error()) {
+			t.Errorf("look %d: %v, and the store said %v", i, err, why)
+		}
+	}
+	if lines := strings.Count(log.String(), `"event":"unready"`); lines != 2 {
+		t.Errorf("two reasons have %d lines: %s", lines, &log)
+	}
+}
+
 // That a store is away, and that it is there again, is a line of the log each, however often it is looked at.
 func TestAStoreThatIsAwayIsSaidOnce(t *testing.T) {
 	var log bytes.Buffer

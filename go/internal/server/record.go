@@ -26,6 +26,9 @@ const (
 	mostLate = 64 << 20
 	// ofLate is how many of these each counts beside its own: its place in the list, and what its memory is rounded up by.
 	ofLate = 32
+	// restAfterFailed is how long after a snapshot that failed the next one begins. Each one begins a journal, and on a full disk it takes what room is
+	// left from acceptances.
+	restAfterFailed = time.Minute
 	// jumpPatience is how long a clock may be too far ahead before it seems to be right.
 	jumpPatience = time.Minute
 )
@@ -193,7 +196,8 @@ func (m *Machine) lookAfterAll() {
 	m.tick()
 	m.keepAgain()
 	m.measure()
-	if m.Journal != nil && m.known.Loaded && !m.keeper.saving && m.keeper.size > m.keeper.saved && m.keeper.size > smallJournal {
+	k := &m.keeper
+	if m.Journal != nil && m.known.Loaded && !k.saving && k.size > k.saved && k.size > smallJournal && m.now.Up >= k.rest {
 		m.save()
 	}
 }
@@ -218,7 +222,7 @@ func (m *Machine) tick() {
 		m.Log.Event("clock", "now", now)
 	}
 	if err != nil && !jumped {
-		m.Log.Error("tick", err)
+		m.seldom("tick", err)
 	}
 	if !jumped {
 		m.takeLate()
@@ -229,7 +233,7 @@ func (m *Machine) tick() {
 func (m *Machine) measure() {
 	size, err := m.validator.Size()
 	if err != nil {
-		m.Log.Error("measure", err)
+		m.seldom("measure", err)
 		return
 	}
 	m.metrics.Uses.Store(size.Uses)
@@ -250,11 +254,13 @@ type Snapshotted struct {
 }
 
 func (s Snapshotted) happen(m *Machine) {
-	m.keeper.saving, m.keeper.saved, m.keeper.size = false, s.Length, s.Size
+	m.keeper.saving, m.keeper.size = false, s.Size
 	if s.Err != nil {
+		m.keeper.rest = m.now.Up + restAfterFailed
 		m.metrics.JournalFailures.Add(1)
 		m.Log.Error("snapshot", s.Err)
 		return
 	}
+	m.keeper.saved = s.Length
 	m.metrics.Snapshots.Add(1)
 }

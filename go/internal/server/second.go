@@ -92,7 +92,7 @@ func (e *Engine) noteCaller(from Caller, use svid.Use, token string) {
 		e.Metrics.SecondCaller.Add(1)
 		if news {
 			said := readUnverified(token)
-			e.Log.Error("second caller", errSecond, "first", other, "second", from.name, "key", use.Key.String(), "kid", cut(said.KeyID), "sub", said.Subject)
+			e.Log.Error("second caller", errSecond, "first", e.Log.member(other), "second", e.Log.member(from.name), "key", use.Key.String(), "kid", cut(said.KeyID), "sub", said.Subject)
 		}
 	}
 }

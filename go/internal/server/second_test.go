@@ -81,6 +81,17 @@ func TestReuseReportsASecondCaller(t *testing.T) {
 	if !strings.Contains(out.String(), `"caller":"192.0.2.1"`) {
 		t.Error("a decision does not say its caller")
 	}
+	for how, due := range map[Addresses]string{Network: `"first":"192.0.2.0/24"`, None: `"key":`} {
+		e.Log.SetAddresses(how)
+		said, one := out.Len(), token(due)
+		if send(e, "192.0.2.1", one) != http.StatusOK || send(e, "192.0.2.2", one) != http.StatusOK {
+			t.Error("a token is refused")
+		}
+		if line := out.String()[said:]; !strings.Contains(line, `"event":"second caller"`) || !strings.Contains(line, due) || strings.Contains(line, "192.0.2.1") ||
+			strings.Contains(line, "192.0.2.2") || how == None && strings.Contains(line, "192.0.2") {
+			t.Errorf("%d: the lines have addresses: %s", how, line)
+		}
+	}
 }
 
 // A service names the caller itself, and Envoy by gRPC.

@@ -37,13 +37,13 @@ type Heard struct {
 
 func (h *Heard) happen(m *Machine) {
 	if h.Err = m.hear(h.These); h.Err == nil && h.Whole {
-		m.known.Heard, m.heard = true, m.now.Up
+		m.known.Heard, m.heard = true, m.now
 		m.know()
 	}
 }
 
 // hears says whether the withdrawals of the store were read a short while ago.
-func (m *Machine) hears() bool { return m.now.Up-m.heard <= tickEvery+m.Wait }
+func (m *Machine) hears() bool { return m.now.isWithin(tickEvery+m.Wait, m.heard) }
 
 // hear adds withdrawals of others to the record, and brings them to the disk.
 func (m *Machine) hear(these []claims.Withdrawal) error {

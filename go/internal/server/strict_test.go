@@ -252,9 +252,8 @@ func TestStrictKeepsWhatItWon(t *testing.T) {
 // unknown.
 func TestAnotherLifeAcceptsNothingOfAnEarlierOne(t *testing.T) {
 	store := newShop()
-	earlier := store.use(t, ready(t, engine(t, inStrict(Options{Wait: 30 * time.Millisecond}))))
 	defer store.hold()()
-	if err := <-claimed(t, store, earlier, token("a")); !errors.Is(err, context.DeadlineExceeded) {
+	if _, err := givenUp(t, store, inStrict(Options{}), func(e *Engine) error { return check(e, token("a")) }); !errors.Is(err, context.DeadlineExceeded) {
 		t.Fatal(err)
 	}
 	store.mu.Lock()

@@ -74,9 +74,14 @@ func TestAStoreThatTakesNoClaims(t *testing.T) {
 		t.Errorf("%d claims of no token, and all is well", puts)
 	}
 	store.fail(errors.New("insufficient resources"))
-	if err := check(e, token("a")); err == nil {
-		t.Fatal("it is accepted")
-	}
+	next := 0
+	await(t, "a claim to be put", func() bool { // (on a busy machine the first requests may be late)
+		next++
+		if err := check(e, token(fmt.Sprint("a", next))); err == nil {
+			t.Fatal("it is accepted")
+		}
+		return store.puts() > 0
+	})
 	e.lookAhead()
 	await(t, "that time to be over", e.isAway)
 	if err := e.Ready(); err == nil || err.Error() != "the group's store takes no claims: insufficient resources" {
@@ -88,16 +93,12 @@ func TestAStoreThatTakesNoClaims(t *testing.T) {
 		t.Errorf("%d claims are tried by one look", after-before)
 	}
 	store.fail(nil)
-	e.lookAhead()
-	if err := e.Ready(); err != nil {
-		t.Errorf("ready is %v", err)
-	}
+	await(t, "a look in time after which it is ready", func() bool { e.lookAhead(); return e.Ready() == nil })
 	before = store.puts()
 	e.lookAhead()
 	if after := store.puts(); after != before {
 		t.Errorf("%d claims are tried, and all is well", after-before)
 	}
-	next := 0
 	await(t, "a token to be accepted", func() bool { next++; return check(e, token(fmt.Sprint("b", next))) == nil }) // (a busy machine may be late)
 }
 

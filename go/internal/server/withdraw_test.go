@@ -154,19 +154,27 @@ func TestAWithdrawalThatTheGroupDoesNotHearOf(t *testing.T) {
 		t.Errorf("%d values, and a record of %d bytes", len(m.log), len(saved(t, e)))
 	}
 	close(m.ready)
-	m.fault = errors.New("no room")
-	if err := withdraw(); !errors.Is(err, m.fault) || !strings.Contains(err.Error(), "not told") {
-		t.Errorf("the group was not told: %v", err)
+	full := errors.New("no room")
+	m.fault = full
+	var told error
+	await(t, "the group's fault", func() bool { told = withdraw(); return errors.Is(told, full) }) // (a busy machine may be late)
+	if !strings.Contains(told.Error(), "not told") {
+		t.Errorf("the group was not told: %v", told)
 	}
-	m.fault, m.answer = nil, make(chan struct{})
+	answer := make(chan struct{})
+	m.mu.Lock() // (what came too late may be under way)
+	m.fault, m.answer = nil, answer
+	m.mu.Unlock()
 	if err := withdraw(); !errors.Is(err, context.DeadlineExceeded) {
 		t.Errorf("the group does not answer: %v", err)
 	}
 	if n := e.Metrics.Withdrawals.Load(); n != 0 {
 		t.Errorf("%d are counted", n)
 	}
-	close(m.answer)
-	if err := withdraw(); err != nil || e.Metrics.Withdrawals.Load() != 1 {
+	close(answer)
+	var err error
+	await(t, "an answer", func() bool { err = withdraw(); return !errors.Is(err, context.DeadlineExceeded) }) // (a busy machine may be late)
+	if err != nil || e.Metrics.Withdrawals.Load() != 1 {
 		t.Errorf("%v, and %d are counted", err, e.Metrics.Withdrawals.Load())
 	}
 }

@@ -45,7 +45,7 @@ export async function until(end, promise, undo = () => {}) {
 /** Lets so many go on at once. */
 export class Gate {
   #free;
-  #waiting = [];
+  #waiting = new Set();
 
   constructor(free) {
     this.#free = free;
@@ -55,8 +55,8 @@ export class Gate {
     if (this.#free > 0) this.#free--;
     else {
       let go;
-      const turn = new Promise((resolve) => this.#waiting.push((go = resolve)));
-      await until(end, turn, () => this.#leave(go));
+      const turn = new Promise((resolve) => this.#waiting.add((go = resolve)));
+      await until(end, turn, () => this.#waiting.delete(go)); // (whose turn has come goes on before any timer)
     }
     try {
       return await act();
@@ -65,14 +65,9 @@ export class Gate {
     }
   }
 
-  #leave(go) {
-    const at = this.#waiting.indexOf(go);
-    if (at < 0) this.#next(); // (its turn came just now)
-    else this.#waiting.splice(at, 1);
-  }
-
   #next() {
-    const go = this.#waiting.shift();
+    const [go] = this.#waiting;
+    this.#waiting.delete(go);
     if (go) go();
     else this.#free++;
   }
@@ -82,7 +77,7 @@ export class Gate {
 export function foundOf({ time, deaf, cells }, claim, n) {
   if (!cells.length) return { owner: claim.owner, time, deaf }; // (each is there by this call)
   const cell = cells.subarray(n * CELL, (n + 1) * CELL);
-  return cell[0] === 1 ? { owner: new Uint8Array(cell.subarray(1)), time, deaf } : new StoreFault(said.OF_CELL[cell[0]] ?? "answer");
+  return cell[0] === 1 || cell[0] === said.STORED ? { owner: new Uint8Array(cell.subarray(1)), time, deaf } : new StoreFault(said.OF_CELL[cell[0]] ?? "answer");
 }
 
 /** Reads withdrawals, as a store tells them. */

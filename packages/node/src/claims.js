@@ -1,7 +1,7 @@
 // Claims on their way to the store of a group, many in a call. The library says when a call goes out.
 
 import { NONE } from "./library.js";
-import { foundOf } from "./given.js";
+import { atMost, foundOf } from "./given.js";
 
 const MOST = 256; // how many claims share a call
 
@@ -38,10 +38,7 @@ export class Claims {
   /** Begins to put claims, and waits until the store answers, but at most so many seconds. */
   async begin(wait) {
     this.#go();
-    let timer;
-    const late = new Promise((resolve) => (timer = setTimeout(resolve, Math.min(wait * 1000, 2 ** 31 - 1))));
-    await Promise.race([this.#announced, late]);
-    clearTimeout(timer);
+    await atMost(wait, this.#announced);
   }
 
   /** Puts a claim, and again until the store answers or the claim is not to go out. */

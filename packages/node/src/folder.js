@@ -177,9 +177,9 @@ function orNull(why, ...codes) {
 // Takes the lock of a file, if nobody has it. It belongs to the open file, and not to the command that takes it: so it stays until the file is closed.
 // (Node has no call for it.)
 async function isLocked(file) {
-  const ran = spawn("flock", ["-x", "-n", "3"], { stdio: ["ignore", "ignore", "pipe", file.fd] }), said = [];
-  ran.stderr.on("data", (it) => said.push(it));
-  const [status] = await once(ran, "close").catch((why) => {
+  const ran = spawn("flock", ["-x", "-n", "3"], { stdio: ["ignore", "ignore", "pipe", file.fd] }), said = [], ends = once(ran, "close");
+  ran.stderr?.on("data", (it) => said.push(it)); // (there is none where this process may open nothing more)
+  const [status] = await ends.catch((why) => {
     throw new Error(`a state folder is locked by the command flock, which can't be run (${why.message}): install it (Debian: util-linux)`, { cause: why });
   });
   if (status === 0 || status === IS_HELD) return status === 0;

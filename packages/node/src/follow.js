@@ -9,7 +9,7 @@ import { open, readdir } from "node:fs/promises";
 import { get } from "node:https";
 import { join } from "node:path";
 
-import { tell } from "./given.js";
+import { atMost, tell } from "./given.js";
 import { Library, utf8 } from "./library.js";
 
 const MOST_BYTES = 1_048_576;
@@ -69,10 +69,7 @@ export class Sources {
    */
   async begin(take, wait) {
     this.#take = take;
-    let timer;
-    const late = new Promise((resolve) => (timer = setTimeout(resolve, Math.min(wait * 1000, 2 ** 31 - 1))));
-    await Promise.race([this.#begin(), late]);
-    clearTimeout(timer);
+    await atMost(wait, this.#begin());
   }
 
   /** Looks no more: no timer, file or connection stays. */
@@ -255,9 +252,11 @@ function checkAddress(at, url) {
   try {
     parsed = new URL(url);
   } catch {
-    throw new RangeError(`${at}: ${JSON.stringify(url)} is no address as https://HOST/PATH`);
+    parsed = null;
   }
-  if (parsed.username || parsed.password) throw new RangeError(`${at}: an address has no name of a user, and no password`);
+  // (an error with such an address would have the password)
+  if (parsed ? parsed.username || parsed.password : url.includes("@")) throw new RangeError(`${at}: an address has no name of a user, and no password`);
+  if (!parsed) throw new RangeError(`${at}: ${JSON.stringify(url)} is no address as https://HOST/PATH`);
 }
 
 // Lets the library judge the names of a source. Throws BadBundles and RangeError.

@@ -37,6 +37,12 @@ export function tell(hook, ...given) {
   }
 }
 
+/** Lets `using` and `await using` close what is of a class, where the platform has them. (`close` is looked up then: that of a subclass.) */
+export function disposable({ prototype }) {
+  const calls = { dispose() { this.close(); }, async asyncDispose() { await this.close(); } };
+  for (const [name, value] of Object.entries(calls)) if (Symbol[name]) Object.defineProperty(prototype, Symbol[name], { value, configurable: true, writable: true });
+}
+
 /** A number of seconds without a limit, or the limit that stands for none. */
 export function limit(name, given) {
   return given === undefined || given === null ? ANY : wholeOf(name, given);
@@ -63,7 +69,7 @@ function bounded(name, whole) {
 
 /** The audiences of a service. */
 export function audiences(given) {
-  const names = typeof given === "string" ? [given] : [...(given ?? [])];
+  const names = typeof given === "string" ? [given] : Array.from(given ?? []);
   if (!names.length || names.some((it) => typeof it !== "string" || !it)) {
     throw new TypeError("audiences is a name of this service, or an array of such, and none is empty");
   }
@@ -112,6 +118,14 @@ export function waitOf(given = 2) {
   throw new RangeError(`wait is a number of seconds, and at least ${LEAST_WAIT}`);
 }
 
+/** Waits for a promise, but at most so many seconds. */
+export async function atMost(wait, promise) {
+  let timer;
+  const late = new Promise((resolve) => (timer = setTimeout(resolve, Math.min(wait * 1000, 2 ** 31 - 1))));
+  await Promise.race([promise, late]);
+  clearTimeout(timer);
+}
+
 /** The patterns of who may call, in a list that is a copy. Undefined for all callers, which an empty list is not. */
 export function patternsOf(name, given) {
   if (given === undefined) return undefined;
@@ -126,9 +140,11 @@ export function readPatterns(patterns, allows) {
   return patterns;
 }
 
+const isPlain = (given) => [Object.prototype, null].includes(Object.getPrototypeOf(given));
+
 /** What a check is given beside its token: its time, or an object that may also have its caller. */
 export function aboutCheck(given) {
-  if (![Object.prototype, null].includes(given && Object.getPrototypeOf(given))) return { now: given };
+  if (!isPlain(given ?? 0)) return { now: given };
   const unknown = Object.keys(given).find((it) => it !== "now" && it !== "caller");
   if (unknown !== undefined) throw new TypeError(`a check takes now and caller, and no ${unknown}`);
   return given;
@@ -186,10 +202,10 @@ export function bytesOf(name, given) {
 export function bundlesOf(given) {
   if (typeof given === "string") return utf8(given);
   if (given instanceof Uint8Array) return new Uint8Array(given);
-  if (typeof given !== "object" || given === null || Array.isArray(given)) {
-    throw new TypeError("bundles is an object from trust domains to bundles, or the JSON text of one");
-  }
-  return Object.entries(given).map(([name, it]) => [name, bundleText(name, it)]);
+  const entries = typeof given === "object" && !Array.isArray(given) ? Object.entries(given ?? 0) : [];
+  // (such as a promise, which has none yet)
+  if (!entries.length && !isPlain(given ?? 0)) throw new TypeError("bundles is an object from trust domains to bundles, or the JSON text of one");
+  return entries.map(([name, it]) => [name, bundleText(name, it)]);
 }
 
 // The text of one bundle, which the library judges.

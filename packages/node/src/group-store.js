@@ -1,6 +1,6 @@
 // What the stores of a group have alike, whatever server keeps them.
 
-import { limit } from "./given.js";
+import { disposable, hookOf, limit, tell } from "./given.js";
 import { Library } from "./library.js";
 import { StoreFault } from "./answers.js";
 import * as said from "./statements.js";
@@ -27,12 +27,12 @@ export class GroupStore {
     const lasts = library.claimUntil(limit("longest", longest), 2n * limit("ahead", ahead));
     const margin = (limit("ahead", ahead) > least ? limit("ahead", ahead) : least) + back;
     if (!Number.isInteger(replicas) || replicas < 1) throw new RangeError("replicas is how many servers must have a claim: at least 1");
-    const all = typeof servers === "string" ? [servers] : [...(servers ?? [])];
+    const all = typeof servers === "string" ? [servers] : Array.from(servers ?? []);
     if (!all.length) throw new TypeError("servers is the address of each server: give one");
     this.#member = make({ servers: all, group, replicas }, { lasts, margin, back });
     this.#margin = margin;
     this.#wait = wait * 1000;
-    this.#warn = onWarning ?? ((text) => process.emitWarning(text, "SvidWarning"));
+    this.#warn = hookOf("onWarning", onWarning) ?? ((text) => process.emitWarning(text, "SvidWarning"));
     this.#watch();
     return this;
   }
@@ -91,26 +91,18 @@ export class GroupStore {
   async #look(end) {
     const before = this.#member.epoch, is = await this.#member.look(end);
     if (before !== undefined && before !== is.epoch) {
-      this.#tell(`the epoch of the group's store has ended: tokens that expire by ${is.deaf} may have been claimed before`);
+      tell(this.#warn, `the epoch of the group's store has ended: tokens that expire by ${is.deaf} may have been claimed before`);
     }
     return is;
-  }
-
-  #tell(text) {
-    try {
-      this.#warn(text);
-    } catch {
-      // (who is warned must not end a call)
-    }
   }
 
   /** Reads the withdrawals that have come. */
   async #hear(end) {
     for (;;) {
-      const { these, last } = await this.#member.withdrawals(this.#position, end);
+      const after = this.#position, { these, last } = await this.#member.withdrawals(after, end);
       for (const { key, expires } of these) this.#know(key, expires);
-      if (last === this.#position) break;
       this.#position = last;
+      if (last === after) break;
     }
     this.#heard = true;
   }
@@ -123,9 +115,11 @@ export class GroupStore {
     const unheard = await this.#hear(performance.now() + said.HEAR_WAIT).catch((why) => why), why = unseen ?? unheard;
     if (!unseen) for (const [key, expires] of this.#withdrawn) if (expires + this.#margin < time) this.#withdrawn.delete(key);
     if (why?.reason !== "run") { // (then members compare)
-      if (why && !this.#why && !this.#ended) this.#tell(`the group's store can't be looked at: ${why.message}`);
+      if (why && !this.#why && !this.#ended) tell(this.#warn, `the group's store can't be looked at: ${why.message}`);
       this.#why = why ? why.message || "unknown" : "";
     }
     if (!this.#ended) this.#timer = setTimeout(() => this.#watch(), Math.max(0, begun + said.STATE_EVERY - performance.now())).unref();
   }
 }
+
+disposable(GroupStore);

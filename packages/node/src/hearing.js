@@ -1,8 +1,17 @@
 // The withdrawals that others tell the store of a group, which are read again and again.
 
-import { withdrawalsOf } from "./given.js";
+import { atMost, withdrawalsOf } from "./given.js";
+import { MOST_UNLOOKED } from "./statements.js";
 
 const PAUSE = 1000; // milliseconds
+const ROUNDING = 1; // second of the clock of a validator, which gives whole ones
+
+// A moment by two clocks: in milliseconds by the one that only goes ahead, which stands still while the machine is suspended, and in seconds by the one
+// that may be wrong, and go back.
+const momentOf = (time) => ({ up: performance.now(), wall: Number(time) });
+
+// Whether it was too long ago, by either clock.
+const isOld = (moment, now) => now.up - moment.up > MOST_UNLOOKED || now.wall - moment.wall > MOST_UNLOOKED / 1000 + ROUNDING;
 
 /** What a validator hears of the withdrawals of a store. */
 export class Hearing {
@@ -10,7 +19,11 @@ export class Hearing {
   #member;
   #after = ""; // up to where they were read
   #silent; // since when the store does not answer
-  #timer;
+  #timer; // while nothing is read
+  #begun = 0; // how many calls of the store have begun
+  #began; // when the last one did
+  #looked; // when the last one did that has read all, or failed
+  #waiting = new Set(); // requests, and the call that each waits for
   #ending = new AbortController();
   #announce;
   #announced = new Promise((resolve) => (this.#announce = resolve));
@@ -19,7 +32,7 @@ export class Hearing {
   /** What the store threw, as long as it does not answer. */
   why;
 
-  /** @param member has `heard` and `reached` */
+  /** @param member has `heard`, `reached` and `now` */
   constructor(store, member) {
     this.#store = store;
     this.#member = member;
@@ -28,10 +41,7 @@ export class Hearing {
   /** Begins to read, and waits until all were read once, but at most so many seconds. */
   async begin(wait) {
     this.#read();
-    let timer;
-    const late = new Promise((resolve) => (timer = setTimeout(resolve, Math.min(wait * 1000, 2 ** 31 - 1))));
-    await Promise.race([this.#announced, late]);
-    clearTimeout(timer);
+    await atMost(wait, this.#announced);
   }
 
   /** Whether the store has not answered for longer than so many seconds. */
@@ -39,15 +49,39 @@ export class Hearing {
     return this.#silent !== undefined && performance.now() - this.#silent > wait * 1000;
   }
 
+  /**
+   * Whether a token that comes at this time is to wait until withdrawals are read. They are read once a second, so that the last time is long ago only
+   * where the process was stopped, or the machine suspended: tokens may have been withdrawn meanwhile.
+   */
+  isDue(time) {
+    return this.#looked !== undefined && !this.#ending.signal.aborted && isOld(this.#looked, momentOf(time));
+  }
+
+  /** Waits until they are read, for at most so many seconds. What the store was asked before the process was stopped does not count. */
+  async look(time, most) {
+    const now = momentOf(time), one = this.#begun + (isOld(this.#began, now) ? 1 : 0);
+    const request = { one }, read = new Promise((resolve) => (request.resolve = resolve));
+    this.#waiting.add(request);
+    if (this.#timer !== undefined) {
+      clearTimeout(this.#timer);
+      this.#read();
+    }
+    await atMost(most, read);
+    this.#waiting.delete(request); // (a store may hang for ever)
+    if (this.isDue(time)) this.#looked = now; // (who comes next does not wait for a store that hangs)
+  }
+
   /** Reads nothing more. */
   close() {
     this.#ending.abort();
     clearTimeout(this.#timer);
     this.#announce();
+    for (const { resolve } of this.#waiting) resolve();
   }
 
   // Reads what is new, page by page. What a call throws, the next one may not: it begins where this one did.
   async #read() {
+    this.#timer = undefined;
     this.#silent ??= performance.now();
     try {
       while (await this.#readPage());
@@ -59,11 +93,19 @@ export class Hearing {
     } catch (why) {
       this.why = why;
     }
+    this.#looked = this.#began;
+    for (const request of this.#waiting) {
+      if (request.one > this.#begun) continue;
+      this.#waiting.delete(request);
+      request.resolve();
+    }
     this.#wait();
   }
 
   // Reads a page, and says whether there may be another one.
   async #readPage() {
+    this.#begun += 1;
+    this.#began = momentOf(this.#member.now());
     const { these, last } = withdrawalsOf(await this.#store.withdrawals(this.#after, { signal: this.#ending.signal }));
     if (this.#ending.signal.aborted) return false;
     this.#member.heard(these);
@@ -77,7 +119,7 @@ export class Hearing {
   #wait() {
     if (this.#ending.signal.aborted) return;
     const self = new WeakRef(this);
-    this.#timer = setTimeout(() => self.deref()?.#read(), PAUSE);
+    this.#timer = setTimeout(() => self.deref()?.#read(), this.#waiting.size ? 0 : PAUSE);
     this.#timer.unref?.();
   }
 }

@@ -27,8 +27,11 @@ export function protect(validator, handler, options) {
   };
 }
 
+// (`console.error` would write all of a request that it is given, with its token, which is often still good)
+const logged = (why) => console.error(why);
+
 // On what terms requests are let in.
-function termsOf(validator, { onError = console.error, onRefusal, allow, caller, openPaths } = {}) {
+function termsOf(validator, { onError = logged, onRefusal, allow, caller, openPaths } = {}) {
   if (typeof validator?.check !== "function" || typeof validator?.bearer !== "function") throw new TypeError("a Validator is wanted");
   for (const [name, it] of Object.entries({ onError, onRefusal, caller })) hookOf(name, it);
   const patterns = readPatterns(patternsOf("allow", allow), (...it) => validator.allows(...it));
@@ -47,7 +50,7 @@ async function admitted({ validator, onError, onRefusal, caller, patterns, isOpe
       throw new NotAllowed();
     }
     req.svid = await validator.check(token, caller && { caller: caller(req) });
-    return true;
+    return !res.writableEnded; // (a time limit may have answered it)
   } catch (why) {
     const isNotAllowed = why instanceof NotAllowed;
     if (!isNotAllowed && !(why instanceof Refusal)) {

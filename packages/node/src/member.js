@@ -13,6 +13,7 @@ import { Twice } from "./twice.js";
 const NO_SIGNATURE = "BadSignature", NO_DOMAIN = "UnknownDomain";
 const NOBODY = new Uint8Array(32);
 const LONGEST_TIMER = 2 ** 31 - 1;
+const LOOKS = 0.75; // for which part of its time a request waits until withdrawals are read
 const MAY_LACK_IT = "the token is withdrawn here, but the state folder or the group's store may not have that: withdraw it again";
 
 // Those in which somebody waits: a timer alone does not keep them.
@@ -117,6 +118,7 @@ export class Member {
   async judge(text, clock) {
     const request = requestOf(this.#library.read(clock(), text), clock);
     try {
+      await this.#look();
       while (request.edition !== this.#editions) await this.#find(request);
       const accepted = this.#library.judge(clock(), request.token, this.#own, request.shown);
       if (this.#callers && !this.#callers.some((it) => this.#library.allows(it, accepted.spiffeId))) throw new NotAllowed();
@@ -185,6 +187,11 @@ export class Member {
     }
   }
 
+  /** The time, in seconds since 1970. */
+  now() {
+    return this.#clock();
+  }
+
   // -- For the claims
 
   /** The claim of a request, if it is to go out now, or else null. */
@@ -227,7 +234,16 @@ export class Member {
     request.number = deed.number;
     this.#open.set(deed.number, request);
     this.#watch();
-    this.#hand(deed);
+    // (where nothing is to be waited for, it goes on at once)
+    const looks = this.#look();
+    if (looks) looks.then(() => this.#again(deed.number));
+    else this.#hand(deed);
+  }
+
+  // Reads the store's withdrawals where nobody has for long, and gives undefined where somebody has.
+  #look() {
+    const time = this.#hearing && this.#clock();
+    return this.#hearing?.isDue(time) ? this.#hearing.look(time, this.#wait * LOOKS) : undefined;
   }
 
   // What is to be done for a request that comes. Throws Unavailable, also with why the store does not answer.

@@ -42,7 +42,7 @@ class Server {
     const of = (name, variable) => url.searchParams.get(name) ?? process.env[variable];
     const given = { mode: of("sslmode", "PGSSLMODE") ?? "require", ca: of("sslrootcert", "PGSSLROOTCERT"), cert: of("sslcert", "PGSSLCERT"), key: of("sslkey", "PGSSLKEY") };
     for (const name of ["sslmode", "sslrootcert", "sslcert", "sslkey", "target_session_attrs"]) url.searchParams.delete(name);
-    return { connectionString: url.href, ssl: tlsOf(given, url.hostname), types };
+    return { connectionString: url.href, ssl: tlsOf(given, url.hostname.replace(/^\[|\]$/g, "")), types };
   }
 }
 
@@ -76,6 +76,7 @@ class Connection {
   async connect(end) {
     try {
       await until(end, this.#client.connect());
+      this.#client.unref(); // (a call that waits keeps the process by its timer)
     } catch (why) {
       this.close();
       throw why;
@@ -85,11 +86,6 @@ class Connection {
 
   close() {
     this.#client.connection.stream.destroy();
-  }
-
-  /** Lets the process end while the connection is idle, or not. */
-  rest(isIdle) {
-    this.#client[isIdle ? "unref" : "ref"]();
   }
 
   /** The rows that a statement answers, which the connection prepares once. */
@@ -200,11 +196,8 @@ class Servers {
     const begun = now(), end = begun + said.LOOK_WAIT;
     let role, fault = "", when = begun;
     try {
-      if (connection) {
-        connection.rest(false);
-        role = await roleOf(connection, this.#role, end);
-      } else [connection, role] = await reach(at, this.#role, end);
-      connection.rest(true);
+      if (connection) role = await roleOf(connection, this.#role, end);
+      else [connection, role] = await reach(at, this.#role, end);
     } catch (why) {
       fault = brief(String(why.message));
       connection?.close();
@@ -309,7 +302,7 @@ export class Member {
       return (await Promise.all([this.put(claims.slice(0, half), end), this.put(claims.slice(half), end)])).flat();
     }
     const found = claims.map((claim, n) => foundOf(answer, claim, n));
-    this.#keep(claims.filter((it, n) => !(found[n] instanceof StoreFault) && bytesOf(it.owner).equals(found[n].owner)), answer.epoch);
+    this.#keep(claims, found, answer);
     return found;
   }
 
@@ -319,7 +312,7 @@ export class Member {
     const one = { key, owner: Buffer.alloc(OWNER), expires };
     const found = foundOf(answer, one, 0);
     if (found instanceof StoreFault) throw found;
-    if (one.owner.equals(found.owner)) this.#keep([one], answer.epoch);
+    this.#keep([one], [found], answer);
     return found.owner;
   }
 
@@ -329,10 +322,16 @@ export class Member {
     return { these: withdrawalsOf(bytes), last };
   }
 
-  /** Keeps the claim in mind that lives longest: each look asks whether it is there. */
-  #keep(mine, epoch) {
-    if (!mine.length || this.epoch !== epoch) return;
-    this.#marks = marked(this.#marks, mine.reduce((one, other) => (other.expires > one.expires ? other : one)));
+  /** Keeps the claim in mind that lives longest of those that a call stored, and each that was there: each look asks whether they are there. */
+  #keep(claims, found, answer) {
+    if (this.epoch !== answer.epoch) return;
+    let stored;
+    for (const [n, it] of claims.entries()) {
+      if (found[n] instanceof StoreFault || !bytesOf(it.owner).equals(found[n].owner)) continue;
+      if (!isStored(answer, n)) this.#marks = markedLate(this.#marks, it);
+      else if (!stored || it.expires > stored.expires) stored = it;
+    }
+    if (stored) this.#marks = marked(this.#marks, stored);
   }
 
   /** Calls a function that answers as put does for so many claims. Where the answer does not count, looks at the store, so that the next one may. */
@@ -355,7 +354,7 @@ export class Member {
 
   /** Makes a call on a connection to the primary, whose answer counts. `confirm`: other servers must have what it commits. */
   async #call(name, values, end, confirm = false) {
-    const one = await this.#taken(end);
+    const one = await this.#taken(end), begun = now();
     let rows;
     try {
       rows = await one.call(this.#statements[name], values, end);
@@ -363,6 +362,7 @@ export class Member {
         const [[kept]] = await one.call(this.#statements.kept, [this.#replicas], end);
         if (kept !== 1n) throw new StoreFault("alone");
       }
+      if (confirm && now() - begun > said.SOON) await one.call(this.#statements.role, [], end); // (it may be gone, and who was away would see that later than its answer)
     } catch (why) {
       throw await this.#failed(one, why, name, end);
     }
@@ -398,7 +398,6 @@ export class Member {
     for (let one; (one = this.#idle.pop()); ) {
       try {
         this.#servers.counts(one.at);
-        one.rest(false);
         return one;
       } catch {
         this.#forget(one);
@@ -429,7 +428,6 @@ export class Member {
 
   #give(one, keep) {
     if (keep && !this.#ended && this.#idle.length <= said.MOST_CALLS) {
-      one.rest(true);
       this.#idle.push(one);
       return;
     }
@@ -446,9 +444,22 @@ function answerOf(rows, count) {
   return { status: bytes[0], time: bytes.readBigUInt64BE(1), deaf: bytes.readBigUInt64BE(9), epoch, cells: bytes.subarray(HEAD) };
 }
 
+/** Whether the call stored the claim with a number, where it is there. */
+const isStored = ({ cells }, n) => !cells.length || cells[n * CELL] === said.STORED;
+
+/** Marks with one more, which an earlier call had stored, whose answer may not have come. Its order at the server is not known. */
+function markedLate(marks, one) {
+  if (marks.some((it) => bytesOf(it.key).equals(bytesOf(one.key)))) return marks;
+  const older = marks.slice(0, -said.RECENT_MARKS), last = marks.slice(-said.RECENT_MARKS);
+  if (older.length === said.MOST_MARKS - said.RECENT_MARKS) older.pop();
+  const at = older.findIndex((it) => it.expires < one.expires);
+  older.splice(at < 0 ? older.length : at, 0, one);
+  return [...older, ...last];
+}
+
 /**
- * Marks with one more: the last ones, and before them those that outlive all that came later. What a store loses at its end is the last claim, or some
- * of the last. So one of the marks is lost too, while it has not expired.
+ * Marks with one more: the last ones that a call stored, and before them those that outlive all that came later. What a store loses at its end is the last
+ * claim, or some of the last. So one of the marks is lost too, while it has not expired.
  */
 function marked(marks, one) {
   const all = [...marks, one], older = all.slice(0, -said.RECENT_MARKS), last = all.slice(-said.RECENT_MARKS);

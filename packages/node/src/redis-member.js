@@ -5,7 +5,7 @@ import { readFileSync } from "node:fs";
 import { createRequire } from "node:module";
 import { CELL, Gate, StoreFault, brief, bytesOf, foundOf, now, until, withdrawalsOf } from "./answers.js";
 import * as said from "./scripts.js";
-import { DIAL_WAIT, MOST_CALLS, STATE_WAIT } from "./statements.js";
+import { DIAL_WAIT, MOST_CALLS, MOST_MARKS, STATE_WAIT } from "./statements.js";
 
 const redis = createRequire(import.meta.url)("redis");
 const NAME = /^[A-Za-z0-9_-]{1,64}$/;
@@ -19,7 +19,11 @@ const SCRIPTS = new Map(
 );
 const SHARDS = 16; // of a Cluster
 const LOST = ["replica", "cluster"]; // (then the next call looks where the server is)
-const KNOWN = Object.freeze({ record: "", epoch: "", deaf: 0n, latest: 0n, life: [0, 0n], mark: "" }); // what a member knows of a shard: scripts write it, and read it
+// What a member knows of a shard: scripts write it, and read it. (`marks` are of each call that may have put this member's last entry.)
+const KNOWN = Object.freeze({ record: "", epoch: "", deaf: 0n, latest: 0n, life: [0, 0n], marks: [] });
+
+/** The run of the server whose entries were compared. */
+const runOf = ({ record }) => String(record).split(" ")[7];
 
 /** The slot of a Cluster that has keys with a hash tag: CRC-16 of the tag, by the polynomial 0x1021. */
 function slotOf(tag) {
@@ -129,6 +133,7 @@ class Connection {
   #client;
   #isMade = false;
   #why; // it is broken
+  #secret = "";
 
   constructor(at) {
     this.at = at;
@@ -136,7 +141,9 @@ class Connection {
 
   async connect(end) {
     try {
-      this.#client = redis.createClient(this.at.options());
+      const options = this.at.options();
+      this.#secret = options.password;
+      this.#client = redis.createClient(options);
       this.#client.on("error", (why) => {
         this.#why ??= why;
         this.close();
@@ -146,6 +153,7 @@ class Connection {
         if (this.isBroken) queueMicrotask(() => this.close()); // (node-redis logs in first, and says nothing of a command that it can't send)
       });
       await until(end, this.#client.connect(), () => this.close());
+      this.#client.unref(); // (a call that waits keeps the process by its timer)
     } catch (why) {
       this.close();
       throw this.fault(why);
@@ -157,11 +165,6 @@ class Connection {
     this.isBroken = true;
     // (node-redis does not close what is still being connected)
     if (this.#isMade) this.#client.disconnect().catch(() => {}); // (it may be closed)
-  }
-
-  /** Lets the process end while the connection is idle, or not. */
-  rest(isIdle) {
-    this.#client[isIdle ? "unref" : "ref"]();
   }
 
   /** Sends commands in one go, and returns an answer for each, which may be an error. */
@@ -199,8 +202,9 @@ class Connection {
 
   fault(why) {
     if (why instanceof StoreFault) return why;
-    const cause = why instanceof redis.ErrorReply ? why : (this.#why ?? why), text = String(cause.message), name = said.OF_CODES[text.split(" ")[0]];
-    const more = `${this.at.name}: ${brief(text)}`;
+    const cause = why instanceof redis.ErrorReply ? why : (this.#why ?? why), name = said.OF_CODES[String(cause.message).split(" ")[0]];
+    if (this.#secret) cause.message = String(cause.message).replaceAll(this.#secret, "***"); // (a server that does not know AUTH says what it was given)
+    const more = `${this.at.name}: ${brief(String(cause.message))}`;
     return new StoreFault(name ?? "server", name ? `: ${more}` : more, { cause });
   }
 }
@@ -330,9 +334,7 @@ class Servers {
         if (this.#ended) throw new StoreFault("closed");
         this.#kept.set(at, one);
       }
-      one.rest(false);
       const [answer] = await one.checked([at.service ? ["SENTINEL", "GET-MASTER-ADDR-BY-NAME", at.service] : ["ROLE"]], end);
-      one.rest(true);
       if (!at.service) {
         if (String(answer[0]) !== "master") throw new StoreFault("replica", `: ${at.name}`);
         return at;
@@ -482,13 +484,13 @@ export class Member {
   async #see(one, shards, end) {
     const { lasts, margin, back } = this.#terms, settings = await one.settings(end);
     const calls = new Map(shards.map((it) => {
-      const { known } = it, count = ++it.count, asked = [count, randomBytes(16).toString("hex"), lasts, margin, back, this.#compare, ...known.life, known.mark, it.checked];
+      const { known } = it, count = ++it.count, asked = [count, randomBytes(16).toString("hex"), lasts, margin, back, this.#compare, ...known.life, Buffer.concat(known.marks), it.checked];
       return [it, { known, count, values: [...asked, ...settings] }];
     }));
     const answers = await this.#run(one, "state", calls, end), left = [];
     let pause = 0, fault;
     for (const [n, it] of shards.entries()) {
-      const [what, more, checked, ...rest] = answers[n], { count } = calls.get(it);
+      const [what, more, checked, ...rest] = answers[n], { count, known } = calls.get(it);
       if (count < it.seen) { // (a later look was answered first)
         left.push(it);
         continue;
@@ -496,8 +498,12 @@ export class Member {
       [it.seen, it.checked] = [count, checked];
       if (String(what) === "ok") {
         const [record, epoch, deaf, time, latest] = [rest[0], String(rest[1]), ...rest.slice(2).map(BigInt)];
-        const same = epoch === it.known.epoch, seen = it.known.latest;
-        it.known = { record, epoch, deaf, latest: same && seen > latest ? seen : latest, life: [count, time], mark: same ? it.known.mark : "" };
+        const is = it.known, same = epoch === is.epoch, isSameRun = runOf({ record }) === runOf(is);
+        if (same && !isSameRun && !is.marks.every((mark) => known.marks.includes(mark))) { // (an answer of the earlier run came meanwhile: nobody has compared what that put)
+          left.push(it);
+          continue;
+        }
+        it.known = { record, epoch, deaf, latest: same && is.latest > latest ? is.latest : latest, life: [count, time], marks: same ? is.marks : [] };
         it.agreed = one.at.name;
         continue;
       }
@@ -521,13 +527,21 @@ export class Member {
 
   /** What is answered to so many claims of a shard, if it counts. */
   #decided(it, count, { known, answer }) {
-    const [, time, deaf, , least, mark, cells] = answer, is = it.known;
+    const [, time, deaf, , least, own, cells, isNew] = answer, is = it.known;
     if (cells.length && cells.length !== count * CELL) throw new StoreFault("answer");
     if (is.epoch !== known.epoch || BigInt(least) < is.latest) {
       it.agreed = "";
       throw new StoreFault("epoch");
     }
-    it.known = { ...is, latest: BigInt(time) > is.latest ? BigInt(time) : is.latest, mark: mark.length ? mark : is.mark };
+    if (runOf(is) !== runOf(known)) throw new StoreFault("run"); // (what a later run has was compared without this answer)
+    let { marks } = is;
+    for (let n = 0; n < own.length; n += said.MARK) {
+      const mark = own.subarray(n, n + said.MARK);
+      if (marks.some((one) => one.equals(mark))) continue;
+      const left = isNew ? marks.filter((one) => !known.marks.includes(one)) : marks;
+      marks = (isNew ? [...left, mark] : [mark, ...left]).slice(-MOST_MARKS); // (one that was found takes no room from others)
+    }
+    it.known = { ...is, marks, latest: BigInt(time) > is.latest ? BigInt(time) : is.latest };
     return { time: BigInt(time), deaf: BigInt(deaf), cells };
   }
 
@@ -541,7 +555,8 @@ export class Member {
           await this.#agree(one, others, end);
           continue;
         }
-        const calls = new Map([...values].map(([it, its]) => [it, { known: it.known, values: its }])), answers = await this.#run(one, name, calls, end);
+        const calls = new Map([...values].map(([it, its]) => [it, { known: it.known, values: its }])), begun = now(), answers = await this.#run(one, name, calls, end);
+        if (now() - begun > this.#compare / 3) await one.checked([["TIME"]], end); // (the server may be gone, and who was away would see that later than its answer)
         const what = answers.map((it) => String(it[0]));
         [...values.keys()].forEach((it, n) => what[n] !== "ok" && (it.agreed = ""));
         const fault = what.find((it) => it !== "ok" && it !== "look");
@@ -599,10 +614,7 @@ export class Member {
     const at = await this.#serverOf(shards, end), { idle } = this.#pool(at);
     if (!this.#isCluster) for (const [name, it] of this.#pools) if (name !== at.name) this.#empty(it.idle); // (those to another primary are of no use)
     for (let one; (one = idle.pop()); ) {
-      if (!one.isBroken) {
-        one.rest(false);
-        return one;
-      }
+      if (!one.isBroken) return one;
       this.#forget(one);
     }
     const one = await new Connection(at).connect(Math.min(end, now() + DIAL_WAIT)).catch((why) => {
@@ -630,7 +642,6 @@ export class Member {
   #give(one, keep) {
     const { idle } = this.#pool(one.at);
     if (keep && !this.#ended && idle.length <= MOST_CALLS) {
-      one.rest(true);
       idle.push(one);
       return;
     }

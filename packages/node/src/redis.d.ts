@@ -40,4 +40,8 @@ export class RedisStore implements Store {
   state(): Promise<StoreState>;
   /** Ends all connections, and the calls that are under way. */
   close(): void;
+  /** Does what `close` does, for `using`, where the platform has that. */
+  [Symbol.dispose](): void;
+  /** The same, for `await using`. */
+  [Symbol.asyncDispose](): Promise<void>;
 }

@@ -35,25 +35,27 @@ export const SCRIPTS = {
     "if not r or r.run ~= s.run then return nil, 'look' end\n" +
     "return r, s\n" +
     "end\n" +
+    "local MARK = 80\n" +
     "local function put(r, s, first)\n" +
-    "local cells, all, reads, mark = {}, true, false, ''\n" +
+    "local cells, all, reads, new, own = {}, true, false, nil, ''\n" +
     "for n = first, #ARGV, 3 do\n" +
     "local key, owner, expires = PREFIX .. ARGV[n], ARGV[n + 1], tonumber(ARGV[n + 2])\n" +
-    "local stays = string.format('%.0f', expires + r.margin)\n" +
-    "local cell = '\\1' .. owner\n" +
+    "local stays = expires + r.margin\n" +
+    "local cell, mark = '\\1' .. owner, ARGV[n] .. owner .. string.format('%016.0f', stays)\n" +
     "if expires > s.time + r.lasts then\n" +
     "cell = '\\2' .. string.rep('\\0', 32)\n" +
-    "elseif redis.call('SET', key, owner, 'NX', 'EXAT', stays) then\n" +
-    "if expires + r.margin > s.time + 1 then mark = ARGV[n] .. owner .. stays end\n" +
+    "elseif redis.call('SET', key, owner, 'NX', 'EXAT', string.format('%.0f', stays)) then\n" +
+    "if stays > s.time + 1 then new = mark end\n" +
     "else\n" +
     "local is = redis.call('GETRANGE', key, 0, 31)\n" +
     "cell, reads = (is == '' and '\\0' or '\\1') .. is .. string.rep('\\0', 32 - #is), true\n" +
+    "if is == owner then own = own .. mark end\n" +
     "end\n" +
     "all = all and cell == '\\1' .. owner\n" +
     "cells[#cells + 1] = cell\n" +
     "end\n" +
     "if reads and ARGV[4] ~= '0' then redis.call('SET', PREFIX .. 'life:' .. ARGV[3] .. ':wait', '1', 'EX', LIFE) end\n" +
-    "return {'ok', s.time, r.deaf, r.id, s.time + r.back, mark, all and '' or table.concat(cells)}\n" +
+    "return {'ok', s.time, r.deaf, r.id, s.time + r.back, new or own, all and '' or table.concat(cells), new and 1 or 0}\n" +
     "end\n" +
     "local sums\n" +
     "local function sum(text)\n" +
@@ -78,7 +80,7 @@ export const SCRIPTS = {
   "state":
     "local count, id, lasts, margin, back, wait = ARGV[5], ARGV[6], tonumber(ARGV[7]), tonumber(ARGV[8]), tonumber(ARGV[9]), " +
     "tonumber(ARGV[10])\n" +
-    "local life, life_at, mark, checked, replicas = tonumber(ARGV[11]), tonumber(ARGV[12]), ARGV[13], ARGV[14], tonumber(ARGV[4])\n" +
+    "local life, life_at, marks, checked, replicas = tonumber(ARGV[11]), tonumber(ARGV[12]), ARGV[13], ARGV[14], tonumber(ARGV[4])\n" +
     "local known, latest, s, life_key = read(ARGV[1]), tonumber(ARGV[2]), server(), PREFIX .. 'life:' .. ARGV[3]\n" +
     "local raw = stored()\n" +
     "local r = read(raw)\n" +
@@ -134,8 +136,10 @@ export const SCRIPTS = {
     "local function lacks()\n" +
     "if life > 0 and s.time + 60 < life_at + LIFE and (tonumber(redis.call('GETRANGE', life_key, 0, 31)) or 0) < life then return " +
     "true end\n" +
-    "return mark ~= '' and s.time + 1 < tonumber(mark:sub(65)) and redis.call('GETRANGE', PREFIX .. mark:sub(1, 32), 0, 31) ~= " +
-    "mark:sub(33, 64)\n" +
+    "for n = 1, #marks, MARK do\n" +
+    "local key, owner, stays = marks:sub(n, n + 31), marks:sub(n + 32, n + 63), tonumber(marks:sub(n + 64, n + MARK - 1))\n" +
+    "if s.time + 1 < stays and redis.call('GETRANGE', PREFIX .. key, 0, 31) ~= owner then return true end\n" +
+    "end\n" +
     "end\n" +
     "local function greatest()\n" +
     "local at, of, text = r.began, redis.call('GETRANGE', PREFIX .. 'seen', 0, 63):match('^(%S+) (%d+)$')\n" +
@@ -225,7 +229,7 @@ export const SCRIPTS = {
     "local r, s = agreed()\n" +
     "if not r then return {s} end\n" +
     "tell(r, s, ARGV[5], tonumber(ARGV[7]))\n" +
-    "return {'ok', s.time, r.deaf, r.id, s.time + r.back, '', ''}",
+    "return {'ok', s.time, r.deaf, r.id, s.time + r.back, '', '', 0}",
   "withdrawals":
     "local s, r, MOST, ONE, found = server(), read(stored()), 1000, 48, {}\n" +
     "if not s.primary then return {'replica'} end\n" +
@@ -268,4 +272,5 @@ export const COMPARE_WAIT = 3000;
 export const ASK_WAIT = 1000;
 export const WAIT_MOST = 1000;
 export const PAUSE = 50;
+export const MARK = 80;
 // lists:end

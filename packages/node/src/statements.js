@@ -49,8 +49,8 @@ export const STATEMENTS = {
     "SELECT {S}.withdraw($1::bytea, $2::bigint)",
   "withdrawals":
     "SELECT w.this::text || '/' || w.last, coalesce(w.these, ''::bytea) FROM (SELECT $1::text AS t) AS p CROSS JOIN LATERAL " +
-    "(SELECT CASE WHEN p.t ~ '^[0-9a-f]{8}(-[0-9a-f]{4}){3}-[0-9a-f]{12}/[0-9]{1,18}$' THEN p.t END AS t) AS q CROSS JOIN LATERAL " +
-    "{S}.withdrawals(split_part(q.t, '/', 1)::uuid, coalesce(split_part(q.t, '/', 2)::bigint, 0)) AS w",
+    "(SELECT CASE WHEN p.t ~ '^[0-9a-f]{8}(-[0-9a-f]{4}){3}-[0-9a-f]{12}/([0-9]{1,18}|[1-8][0-9]{18})$' THEN p.t END AS t) AS q " +
+    "CROSS JOIN LATERAL {S}.withdrawals(split_part(q.t, '/', 1)::uuid, coalesce(split_part(q.t, '/', 2)::bigint, 0)) AS w",
   "lacking":
     "SELECT string_agg(format('GRANT %s TO %I', l.it, current_user), '; ' ORDER BY l.it) FROM (SELECT n.oid, n.nspname FROM " +
     "pg_namespace AS n WHERE n.nspname = $1) AS s CROSS JOIN LATERAL (SELECT format('USAGE ON SCHEMA %I', s.nspname) AS it WHERE " +
@@ -78,19 +78,22 @@ export const FAULTS = {
 export const OF_CODES = { "42P01": "missing", "3F000": "missing", "42883": "missing", "25006": "standby", "55000": "standby", "42501": "rights", "55P03": "held" };
 export const OF_STATUS = { "1": "run", "4": "run", "2": "back", "3": "unlooked" };
 export const OF_CELL = { "0": "gone", "2": "late" };
+export const STORED = 3;
 export const QUARANTINE = 4;
 export const MOST_CALLS = 8;
 export const MOST_LEFT = 100;
 export const PIECES = 10000;
 export const MOST_EXPIRY = 4611686018427387904n;
-export const RECENT_MARKS = 4;
-export const MOST_MARKS = 16;
+export const RECENT_MARKS = 8;
+export const MOST_MARKS = 64;
 export const DIAL_WAIT = 2000;
 export const STATE_EVERY = 1000;
 export const STATE_WAIT = 1500;
 export const HEAR_WAIT = 1000;
+export const MOST_UNLOOKED = 7000;
 export const LOOK_EVERY = 500;
 export const LOOK_WAIT = 2000;
+export const SOON = 1000;
 export const MOST_AGE = 2900;
 export const STEP_BACK = 60000;
 export const LEAST_MARGIN = 60000;

@@ -2,7 +2,7 @@
 
 import { Refusal } from "./errors.js";
 import {
-  aboutCheck, audiences, bundlesOf, bytesOf, callerOf, clockOf, expiryOf, hookOf, keyOf, limit, longestOf, modeOf, nameOf, patternsOf, random, readPatterns, seconds, tokenOf,
+  aboutCheck, audiences, bundlesOf, bytesOf, callerOf, clockOf, disposable, expiryOf, hookOf, keyOf, limit, longestOf, modeOf, nameOf, patternsOf, random, readPatterns, seconds, tokenOf,
   validatorId, waitOf,
 } from "./given.js";
 import { BATCH, LEAST_RSA_BITS, Library, MOST_RSA_BITS, USUAL_RSA_BITS, joined } from "./library.js";
@@ -56,17 +56,6 @@ async function keptIn(state, { mode, store, ...terms }) {
 
 const letGo = (kept) => Promise.all(kept.map((it) => it.close()));
 
-/** Calls `open` with a library, and closes that where it throws. */
-async function opened(open) {
-  const library = await Library.start();
-  try {
-    return open(library);
-  } catch (why) {
-    library.close();
-    throw why;
-  }
-}
-
 /** Checks JWT-SVIDs, and remembers which were used. Documentation of all of it stands in index.d.ts. */
 export class Validator {
   #library;
@@ -86,12 +75,12 @@ export class Validator {
     const longest = longestOf(options.longest), ahead = limit("ahead", options.ahead ?? 30), step = limit("step", options.step);
     const callers = patternsOf("callers", options.callers), verifier = verifierOf(options);
     const onTwice = hookOf("onTwice", options.onTwice) ?? warnOfTwice;
-    const following = options.follow && sourcesOf(options.follow);
-    // (all options are read by here: whoever gave them may change them while this waits)
-    const terms = { longest, ahead, step, validatorId: await validatorId(options.validatorId) }, life = await random(), sources = await following;
+    // (all options are read before this waits: whoever gave them may change them then)
+    const [id, life, sources] = await Promise.all([validatorId(options.validatorId), random(), options.follow && sourcesOf(options.follow)]);
+    const terms = { longest, ahead, step, validatorId: id };
     const { store, journal, kept } = await keptIn(state, { ...given, mode, longest, ahead, clock });
     if (journal) terms.validatorId = journal.id;
-    const ready = await opened((library) => {
+    const ready = await Library.start().then((library) => {
       readPatterns(callers, (...it) => library.allows(...it));
       if (callers && own.some((it) => it.includes("\n"))) throw new RangeError("with callers, no audience has a line feed");
       library.openValidator(terms, own, bundles);
@@ -243,10 +232,9 @@ export class Bundles {
   static async open(options) {
     const own = audiences(options.audiences), longest = longestOf(options.longest), bundles = bundlesOf(options.bundles);
     const verifier = verifierOf(options);
-    return opened((library) => {
-      library.openBundles(bundles);
-      return new Bundles({ library, verifier: verifier(library), terms: { own, longest } });
-    });
+    const library = await Library.start();
+    library.openBundles(bundles);
+    return new Bundles({ library, verifier: verifier(library), terms: { own, longest } });
   }
 
   /** Takes what `open` has made: call that instead. */
@@ -287,13 +275,7 @@ export class Bundles {
   }
 }
 
-if (Symbol.dispose) {
-  // (`close` is looked up then: that of a subclass)
-  const value = function dispose() {
-    this.close();
-  };
-  for (const it of [Validator, Bundles]) Object.defineProperty(it.prototype, Symbol.dispose, { value, configurable: true, writable: true });
-}
+for (const it of [Validator, Bundles]) disposable(it);
 
 // The bytes of a header's value: Node makes a character of each.
 function bytesOfHeader(value) {

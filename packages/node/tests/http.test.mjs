@@ -4,7 +4,8 @@ import assert from "node:assert/strict";
 import { createServer, request } from "node:http";
 import { createRequire } from "node:module";
 import { test } from "node:test";
-import { imported, issuer, now, token } from "./making.mjs";
+import { format } from "node:util";
+import { imported, issuer, now, token, until, within } from "./making.mjs";
 
 const { MemoryStore, Validator, guard, protect } = await imported();
 // (Debian's packages stand where only `require` looks)
@@ -34,7 +35,7 @@ async function answers(listener, requests, { path = "/", method = "GET", seen = 
   const said = [];
   try {
     for (const values of requests) {
-      said.push(await new Promise((resolve, reject) => {
+      said.push(await within(`an answer to ${path}`, new Promise((resolve, reject) => {
         const headers = values.length ? { authorization: values.length === 1 ? values[0] : values } : {};
         const sent = request({ port: server.address().port, host: "127.0.0.1", agent: false, headers, path, method }, (res) => {
           let text = "";
@@ -44,9 +45,10 @@ async function answers(listener, requests, { path = "/", method = "GET", seen = 
         });
         sent.on("error", reject);
         sent.end();
-      }));
+      })));
     }
   } finally {
+    server.closeAllConnections();
     await new Promise((resolve) => server.close(resolve));
   }
   return said;
@@ -96,6 +98,8 @@ for (const [name, listener] of Object.entries(SERVERS)) {
     const text = token(one);
     assert.deepEqual(await said("/healthz", [`Bearer ${text}`]), [200, "nobody"]);
     assert.deepEqual(await said("/", [`Bearer ${text}`]), [200, "spiffe://example.org/billing/api"]);
+    const alone = protect(validator, who, { openPaths: "/healthz" });
+    for (const [path, status] of [["/healthz", 200], ["/", 401]]) assert.deepEqual(await answers(alone, [[]], { path, seen: ({ statusCode }) => statusCode }), [status]);
     for (const it of ["healthz", "/a/../b", "/a//b", "/*/b", "/a*", "/%41", "/a?b", "", 7]) assert.throws(() => listener(validator, { openPaths: [it] }), RangeError, it);
     validator.close();
   });
@@ -155,16 +159,37 @@ for (const [name, listener] of Object.entries(SERVERS)) {
     validator.close();
     assert.deepEqual(await answers(listener(validator, { onError }), [[`Bearer ${token(one)}`]]), [UNAVAILABLE]);
     assert.deepEqual(told, [["Unverifiable", "string"], ["Closed", "string"]]);
+    const logged = [], good = token(one), { error } = console;
+    console.error = (...it) => logged.push(format(...it));
+    try {
+      assert.deepEqual(await answers(listener(validator), [[`Bearer ${good}`]]), [UNAVAILABLE]);
+    } finally {
+      console.error = error;
+    }
+    assert.match(logged.join(), /^Closed: /);
+    assert.ok(!logged.join().includes(good), "the log has no token: while nothing is answered about it, it may still be good");
+    let time = now();
+    const jumping = await Validator.open({ ...terms, step: 100, now: () => time });
+    jumping.tick();
+    time += 1000;
+    const seen = ({ statusCode }, body) => [statusCode, JSON.parse(body).reason];
+    assert.deepEqual(await answers(listener(jumping, { onError: () => {} }), [[`Bearer ${token(one)}`]], { seen }), [[503, "ClockJump"]]);
+    jumping.close();
   });
 
   test(`${name}: who is none of the validator's callers gets 403, and where the store is away the status is 503`, async () => {
-    const told = [], onError = (why) => told.push([why.name, why.cause?.message]);
+    let told;
+    const onError = (why) => (told = [why.name, why.cause?.message]);
     const closed = await Validator.open({ ...terms, callers: "spiffe://example.org/other" }), good = token(one);
     assert.deepEqual(await answers(listener(closed, { onError }), [[`Bearer ${good}`]]), [[403, 'Bearer error="insufficient_scope", error_description="NotAllowed"']]);
     const store = new MemoryStore(), validator = await Validator.open({ ...terms, mode: "strict", store, wait: 2 });
     store.put = () => Promise.reject(new Error("the store is away"));
-    assert.deepEqual(await answers(listener(validator, { onError }), [[`Bearer ${good}`]]), [unavailable("NotClaimed")]);
-    assert.deepEqual(told, [["Unavailable", "the store is away"]]);
+    // (on a busy machine a check may be late before the store was asked: it has no cause)
+    await until(async () => {
+      assert.deepEqual(await answers(listener(validator, { onError }), [[`Bearer ${good}`]]), [unavailable("NotClaimed")]);
+      return told[1];
+    });
+    assert.deepEqual(told, ["Unavailable", "the store is away"]);
     for (const it of [closed, validator]) it.close();
   });
 
@@ -216,6 +241,25 @@ test("a request that was answered while its check waited, and who is told in vai
   }
 });
 
+test("a request that was answered while its check waited does not go on, though its token is good", async () => {
+  let verified;
+  const validator = await Validator.open({ ...terms, verify: () => new Promise((resolve) => (verified = resolve)) }), went = [], handler = (req) => went.push(req.url);
+  for (const lets of [(req, res) => guard(validator)(req, res, () => handler(req)), protect(validator, handler)]) {
+    let later;
+    const answered = (req, res) => {
+      later = lets(req, res);
+      const wait = () => (verified ? res.writeHead(504).end("late") : setImmediate(wait));
+      wait();
+    };
+    assert.deepEqual(await answers(answered, [[`Bearer ${token(one)}`]]), [[504, "late"]]);
+    verified(true);
+    await later;
+    verified = undefined;
+    assert.deepEqual(went, []);
+  }
+  validator.close();
+});
+
 test("the name of the field may be spelt in any letters, and two fields are refused", async () => {
   const validator = await Validator.open(terms), text = `Bearer ${token(one)}`, names = ["Authorization", "authorization", "AUTHORIZATION"];
   const status = async (...fields) => {
@@ -225,6 +269,12 @@ test("the name of the field may be spelt in any letters, and two fields are refu
   };
   for (const name of names) for (const other of names) assert.equal(await status(name, other), 401, `${name} ${other}`);
   assert.deepEqual([await status(names[2]), await status(names[0])], [200, 401]);
+  validator.close();
+});
+
+test("a character that no byte is stands for no other one", async () => {
+  const validator = await Validator.open(terms), text = token(one), other = String.fromCharCode(text.charCodeAt(0) + 256) + text.slice(1);
+  assert.deepEqual(validator.bearer([`Bearer ${other}`]), { several: false, spelling: true });
   validator.close();
 });
 

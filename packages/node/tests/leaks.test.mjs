@@ -87,7 +87,8 @@ async function claims(room) {
 
 test("lives of validators leave no descriptor, no timer and no memory", async () => {
   const isThere = await access(SHM, constants.W_OK).then(() => true, () => false), told = { count: 0 };
-  const room = await mkdtemp(join(isThere ? SHM : tmpdir(), "svid-leaks-"));
+  const room = await mkdtemp(join(isThere ? SHM : tmpdir(), "svid-leaks-")), warned = [], note = ({ message }) => warned.push(message);
+  process.on("warning", note); // (a file that nobody closes is closed with its garbage, and Node says so)
   const live = async (lives) => {
     for (let n = 0; n < lives; n++) {
       await once(room, told);
@@ -105,7 +106,9 @@ test("lives of validators leave no descriptor, no timer and no memory", async ()
     });
     await live(LIVES);
     await held((is) => is.descriptors <= descriptors && is.timers <= timers && is.bytes - bytes < MOST * LIVES);
+    assert.deepEqual(warned.filter((it) => it.includes("garbage collection")), []);
   } finally {
+    process.off("warning", note);
     await rm(room, { recursive: true });
   }
 });

@@ -1,10 +1,8 @@
 // Requests, and their answers: the modes, the store of a group, deadlines and readiness.
 
 import assert from "node:assert/strict";
-import { execFile } from "node:child_process";
 import { test } from "node:test";
-import { promisify } from "node:util";
-import { PACKAGE, PATIENCE, counted, gate, imported, issuer, listed, now, said, seen, token, until } from "./making.mjs";
+import { PACKAGE, PATIENCE, counted, gate, imported, issuer, listed, now, run, said, seen, token, until, within } from "./making.mjs";
 
 const { MemoryStore, SvidError, Unavailable, Validator } = await imported();
 const { sentences } = await listed();
@@ -60,9 +58,14 @@ test("in mode reuse a token may come again, until it is withdrawn", async () => 
   const validator = await Validator.open({ ...terms, mode: "reuse" }), text = token(one);
   for (let n = 0; n < 3; n++) assert.equal((await validator.check(text)).path, "/billing/api");
   assert.equal(validator.size().uses, 0);
-  await validator.withdraw(text);
-  assert.equal(await said(validator.check(text)), "Withdrawn");
-  validator.close();
+  // (another validator takes the message)
+  const other = await Validator.open({ ...terms, mode: "reuse" }), { message } = await validator.withdraw(text);
+  assert.equal(await said(other.check(text)), "accepted");
+  other.take(message);
+  for (const it of [validator, other]) {
+    assert.equal(await said(it.check(text)), "Withdrawn");
+    it.close();
+  }
 });
 
 test("a store is given in the modes that claim tokens, and in no other one", async () => {
@@ -105,15 +108,20 @@ test("over a store that fails now and then, and is slow, no token is accepted tw
     if (drawn === 2) await new Promise((resolve) => setTimeout(resolve, 30));
   };
   const answers = [];
-  await Promise.all(times(8, async (n) => {
-    for (let at = 0; at < tokens.length; at++) {
-      const text = tokens[(at * 7 + n * 5) % tokens.length];
-      answers.push([text, await said(both[n % 2].check(text))]);
-    }
-  }));
+  for (const it of both) await until(() => it.ready);
+  // (on a busy machine all of them may be late)
+  await until(async () => {
+    await Promise.all(times(8, async (n) => {
+      for (let at = 0; at < tokens.length; at++) {
+        const text = tokens[(at * 7 + n * 5) % tokens.length];
+        answers.push([text, await said(both[n % 2].check(text))]);
+      }
+    }));
+    return answers.some(([, it]) => it === "accepted");
+  });
   const names = Object.keys(counted(answers.map(([, it]) => it))), won = answers.filter(([, it]) => it === "accepted").map(([it]) => it);
   assert.deepEqual(names.filter((it) => !["accepted", "Replayed", "Unavailable"].includes(it)), []);
-  assert.ok(won.length > 0 && new Set(won).size === won.length);
+  assert.equal(new Set(won).size, won.length);
   for (const it of both) it.close();
 });
 
@@ -616,8 +624,14 @@ async function programSays(body) {
     }
     ${body}`;
   const words = ["--input-type=module", "--eval", program];
-  return (await promisify(execFile)(process.execPath, words, { timeout: 2 * PATIENCE * 1000 })).stdout;
+  return (await run(process.execPath, words, { timeout: 2 * PATIENCE * 1000 })).stdout;
 }
+
+test("a process that has no memory for the library says so", async () => {
+  const stdout = await programSays(`WebAssembly.instantiate = async () => { throw new RangeError("no memory"); };
+    await Validator.open(terms).catch((why) => console.log(why.name, why.message, why.cause.name));`);
+  assert.equal(stdout, "OutOfMemory The library could not be started. RangeError\n");
+});
 
 test("a validator that is dropped is freed, also while its store is away", async () => {
   const stdout = await programSays(`let started = 0, freed = 0;
@@ -639,6 +653,17 @@ test("a validator that is dropped is freed, also while its store is away", async
   assert.equal(stdout, "4 of 4\n");
 });
 
+test("a check keeps the process, though the timer of one before it is set yet", async () => {
+  const stdout = await programSays(`let isAway = false, answer;
+    const memory = new MemoryStore(), store = { put: (claims) => (isAway ? new Promise(() => {}) : memory.put(claims)), withdraw: async () => {} };
+    const validator = await Validator.open({ ...terms, mode: "strict", wait: 3, store });
+    await validator.check(token).catch(() => {}); // (it is late on a busy machine)
+    isAway = true;
+    process.on("exit", () => console.log(answer));
+    answer = await validator.check(${JSON.stringify(token(one))}).catch((why) => why.name);`);
+  assert.equal(stdout, "Unavailable\n");
+});
+
 test("a check has its answer though its validator was dropped", async () => {
   const stdout = await programSays(`let puts = 0;
     const store = { put: (claims) => (claims.length ? (puts++, new Promise(() => {})) : []), withdraw: async () => {} };
@@ -655,11 +680,12 @@ test("a check has its answer though its validator was dropped", async () => {
 // -- Readiness
 
 test("opening asks a store until it answers", async () => {
-  const store = new Fickle();
+  const store = new Fickle(), before = timers();
   let asked = 0;
   store.before = () => (++asked < 3 ? away() : undefined);
   const validator = await strict(store, { wait: LONG });
   assert.deepEqual([asked, validator.ready], [3, true]);
+  assert.equal(timers(), before);
   validator.close();
 });
 
@@ -815,6 +841,135 @@ test("withdrawals that are read keep neither the process, nor a validator that w
     console.log(asked >= 3, started - freed);
     globalThis.kept = await Validator.open({ ...terms, mode: "once", store });`);
   assert.equal(stdout, "true 0\n");
+});
+
+// A store whose withdrawals are read once at the start of a validator, and then where that is due. `pass` lets time pass by the clock that a validator
+// has, and by the one that only goes ahead: while the machine is suspended, that stands still. `waits` are those of requests for a look, in
+// milliseconds, and `readNext` reads as the timer would.
+function suspended(t) {
+  const memory = new MemoryStore(), it = { asked: 0, waits: [], before: () => {}, after: () => {}, isOver: () => false };
+  const later = setTimeout, up = performance.now();
+  let time = now(), ahead = 0;
+  t.mock.method(performance, "now", () => up + ahead * 1000);
+  t.mock.method(globalThis, "setTimeout", (body, pause, ...rest) => {
+    if (pause === 0.75 * LONG * 1000) it.waits.push(pause);
+    if (pause === 1000) it.readNext = body;
+    const isAtOnce = it.waits.length > 0 && it.isOver();
+    return later(body, pause === 1000 ? 2 ** 30 : isAtOnce ? 0 : pause, ...rest);
+  });
+  it.pass = (wall, upward) => {
+    time += wall;
+    ahead += upward;
+  };
+  const withdrawals = async (after) => {
+    it.asked += 1;
+    await it.before();
+    const page = await memory.withdrawals(after);
+    await it.after(); // (what was read may be old by now)
+    return page;
+  };
+  const store = { put: (claims) => memory.put(claims), withdraw: (...given) => memory.withdraw(...given), withdrawals };
+  it.open = (mode, options) => Validator.open({ ...terms, mode, store, now: () => time, ...options });
+  // Another member withdraws a token meanwhile.
+  it.withdraw = async (validator, text, wall = 100, upward = 0) => {
+    const { key, expires } = validator.says(text);
+    await store.withdraw(key, expires);
+    it.pass(wall, upward);
+  };
+  return it;
+}
+
+test("a token that was withdrawn while the process was stopped, or the machine suspended, is refused at once", async (t) => {
+  for (const mode of ["once", "reuse", "bound"]) {
+    const store = suspended(t), validator = await store.open(mode), about = mode === "bound" ? { caller: "10.0.0.7" } : {};
+    const tokens = times(4, () => token(one));
+    assert.equal(await said(validator.check(tokens[0], about)), "accepted");
+    for (let n = 0; n < 4; n++) {
+      await store.withdraw(validator, tokens[n], n % 2 ? 9 : 0, n % 2 ? 0 : 8);
+      assert.equal(await said(n < 2 ? validator.check(tokens[n], about) : validator.judge(tokens[n])), "Withdrawn", `${mode} ${n}`);
+    }
+    validator.close();
+    t.mock.restoreAll();
+  }
+});
+
+test("no token waits for withdrawals that were read some seconds ago", async (t) => {
+  const store = suspended(t), validator = await store.open("reuse"), asked = store.asked;
+  await store.withdraw(validator, token(one), 7, 7);
+  assert.equal(await said(validator.check(token(one))), "accepted");
+  store.pass(-100, 0); // (a clock may be set back)
+  assert.equal(await said(validator.check(token(one))), "accepted");
+  assert.equal(store.asked, asked);
+  store.before = away;
+  store.pass(100, 8);
+  store.readNext(); // (that fails)
+  await until(() => store.asked > asked);
+  assert.equal(await said(validator.check(token(one))), "accepted");
+  assert.deepEqual([store.waits, store.asked], [[], asked + 1]);
+  validator.close();
+});
+
+test("what a store was asked before a suspension does not count after it", async (t) => {
+  const store = suspended(t), validator = await store.open("reuse"), text = token(one), hold = gate();
+  store.after = () => hold.passed;
+  store.pass(100, 0);
+  const first = said(validator.check(token(one)));
+  await until(() => store.asked > 1);
+  await store.withdraw(validator, text);
+  const second = said(validator.check(text));
+  hold.open();
+  assert.deepEqual([await first, await second], ["accepted", "Withdrawn"]);
+  validator.close();
+});
+
+test("requests after a suspension share a look at the store, also one that fails", async (t) => {
+  for (const isAway of [false, true]) {
+    const store = suspended(t), validator = await store.open("reuse"), text = token(one), hold = gate(), asked = store.asked;
+    store.before = () => hold.passed.then(isAway ? away : undefined);
+    await store.withdraw(validator, text);
+    const answers = times(100, () => said(validator.check(text)));
+    await until(() => store.waits.length === 100);
+    hold.open();
+    assert.deepEqual(counted(await Promise.all(answers)), { [isAway ? "accepted" : "Withdrawn"]: 100 });
+    assert.equal(await said(validator.check(token(one))), "accepted");
+    assert.deepEqual([store.waits.length, store.asked - asked], [100, isAway ? 1 : 2]);
+    validator.close();
+    t.mock.restoreAll();
+  }
+});
+
+test("while a store hangs after a suspension, a request waits for a part of its time, and the next one not at all", async (t) => {
+  for (const mode of ["once", "reuse", "bound"]) {
+    const store = suspended(t), validator = await store.open(mode), about = mode === "bound" ? { caller: "10.0.0.7" } : {}, hold = gate();
+    Object.assign(store, { before: () => hold.passed, isOver: () => true });
+    await store.withdraw(validator, token(one));
+    assert.equal(await said(validator.check(token(one), about)), "accepted");
+    assert.equal(await said(validator.judge(token(one))), "accepted");
+    assert.deepEqual(store.waits, [0.75 * LONG * 1000]);
+    hold.open();
+    validator.close();
+    t.mock.restoreAll();
+  }
+});
+
+test("a request ends in its time though the store hangs after a suspension", async (t) => {
+  const store = suspended(t), validator = await store.open("reuse", { wait: 0.2 }), hold = gate();
+  store.before = () => hold.passed;
+  await store.withdraw(validator, token(one));
+  await until(async () => (await said(validator.check(token(one)))) === "accepted");
+  hold.open();
+  validator.close();
+});
+
+test("closing answers who waits for a look at the store", async (t) => {
+  const store = suspended(t), validator = await store.open("reuse"), hold = gate();
+  store.before = () => hold.passed;
+  await store.withdraw(validator, token(one));
+  const answers = [said(validator.check(token(one))), said(validator.judge(token(one)))];
+  await until(() => store.waits.length === 2);
+  validator.close();
+  assert.deepEqual(await Promise.all(answers.map((it) => within("an answer", it))), ["Closed", "Closed"]);
+  hold.open();
 });
 
 test("a clock that jumps", async () => {

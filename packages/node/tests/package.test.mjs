@@ -1,15 +1,12 @@
 // The archive by itself, and the types.
 
 import assert from "node:assert/strict";
-import { execFile } from "node:child_process";
 import { copyFile, mkdir, mkdtemp, readFile, readdir, rm, writeFile } from "node:fs/promises";
 import { tmpdir } from "node:os";
 import { join } from "node:path";
 import { after, before, test } from "node:test";
-import { promisify } from "node:util";
-import { PACKAGE, TOP, digest, imported, read } from "./making.mjs";
+import { PACKAGE, TOP, digest, imported, read, run } from "./making.mjs";
 
-const run = promisify(execFile);
 const NODE = process.execArgv.filter((it) => !it.startsWith("--test"));
 let room;
 
@@ -52,6 +49,13 @@ test("the archive is the same each time, and works by itself where it is unpacke
   // (a Node that can't says what to do)
   if (process.features.require_module) assert.deepEqual([ran.stdout, ran.stderr], ["true 3\n", ""]);
   else assert.match(ran.stderr, /this Node can't require this package, as Node 20\.19, 22\.12 and later can: write `await import/);
+});
+
+test("package.json says which Node and which clients it runs with, as README does", async () => {
+  const { engines, peerDependencies, peerDependenciesMeta } = JSON.parse(await readFile(`${PACKAGE}/package.json`, "utf8")), readme = read("packages/node/README.md");
+  assert.equal(engines.node, `>=${readme.match(/^Node (\d+) or later/m)[1]}`);
+  assert.deepEqual(peerDependencies, { pg: ">=8.8", redis: `>=4.5 <${Number(readme.match(/`redis@(\d+)`/)[1]) + 1}` });
+  assert.deepEqual(peerDependenciesMeta, { pg: { optional: true }, redis: { optional: true } }); // (most services need neither)
 });
 
 test("the types compile under strict, and say what is wrong", async () => {

@@ -1,7 +1,7 @@
 // State folders: what they keep over restarts, kills, losses of power, and calls that fail.
 
 import assert from "node:assert/strict";
-import children, { execFile, spawn } from "node:child_process";
+import children, { spawn } from "node:child_process";
 import { EventEmitter, once } from "node:events";
 import fs, { chmod, mkdir, mkdtemp, open, readFile, readdir, rm, stat, writeFile } from "node:fs/promises";
 import { request } from "node:http";
@@ -9,12 +9,11 @@ import { syncBuiltinESMExports } from "node:module";
 import { tmpdir } from "node:os";
 import { basename, dirname, join } from "node:path";
 import { after, afterEach, before, beforeEach, test } from "node:test";
-import { promisify } from "node:util";
-import { PACKAGE, PATIENCE, TOP, gate, hex, imported, issuer, now, said, token, until } from "./making.mjs";
+import { PACKAGE, PATIENCE, TOP, built, ended, gate, hex, imported, issuer, now, run, said, token, until, within } from "./making.mjs";
 
 const { Validator } = await imported(), { Library } = await imported("src/library.js");
-const { Journal } = await imported("src/journal.js"), { LocalStore } = await imported("src/local.js");
-const run = promisify(execFile), NODE = process.execArgv.filter((it) => !it.startsWith("--test"));
+const { Journal } = await imported("src/journal.js"), { LocalStore } = await imported("src/local.js"), { OutOfMemory } = await imported("src/errors.js");
+const NODE = process.execArgv.filter((it) => !it.startsWith("--test"));
 const LONG = 600; // seconds that no test waits
 const one = issuer(), BEGUN = BigInt(now()), library = await Library.start();
 const terms = { audiences: "ledger", bundles: one.bundles, wait: LONG }, opened = (state, more) => Validator.open({ ...terms, state, ...more });
@@ -144,10 +143,31 @@ test("each mode keeps withdrawals", async () => {
   }
 });
 
+test("a withdrawal that the disk does not take says so, and is kept when it is made again", async () => {
+  const text = token(one), validator = await opened(state);
+  disturbed((name) => {
+    if (name === "write") throw failed("ENOSPC");
+  });
+  await assert.rejects(validator.withdraw(text), ({ name, message, cause }) => name === "Unavailable" && /may not have that: withdraw it again/.test(message) && /ENOSPC/.test(cause.message));
+  mended();
+  assert.equal(await said(validator.check(text)), "Withdrawn");
+  await validator.withdraw(text);
+  await validator.close();
+  const again = await opened(state);
+  assert.equal(await said(again.check(text)), "Withdrawn");
+  await again.close();
+});
+
 test("a state folder is a path, and has the validator's ID", async () => {
   for (const it of [7, "", null, {}]) await assert.rejects(opened(it), TypeError);
   await assert.rejects(opened(state, { validatorId: new Uint8Array(16) }), { name: "TypeError", message: /leave out validatorId/ });
   await assert.rejects(opened(state, { mode: "strict" }), TypeError);
+  const pipe = join(dirname(state), "pipe"), program = `
+    const { Validator } = await import("${PACKAGE}/index.js");
+    await Validator.open({ audiences: "ledger", bundles: "{}", state: ${JSON.stringify(pipe)} }).catch((why) => console.log(why.code));`;
+  await run("mkfifo", [pipe]);
+  const { stdout } = await run(process.execPath, [...NODE, "--input-type=module", "--eval", program]);
+  assert.equal(stdout, "ENOTDIR\n"); // (to open a pipe may take for ever)
   await assert.rejects(opened(join(state, "none")), { code: "ENOENT" });
   // (one that is not opened lets go of the folder)
   await assert.rejects(opened(state, { bundles: "" }), { name: "BadBundles" });
@@ -168,15 +188,17 @@ test("one process holds a folder", async () => {
   await assert.rejects(run("flock", ["-n", lock, "true"]), { code: 1 });
   const child = spawn("sleep", [String(LONG)]); // (what this process starts holds nothing)
   await validator.close();
-  assert.equal(await other(), "");
+  assert.equal(await other().finally(() => child.kill()), "");
   const holder = spawn("flock", [lock, "cat"], { stdio: ["pipe", "pipe", "inherit"] });
-  holder.stdin.write("it is locked\n");
-  await once(holder.stdout, "data");
-  await writeFile(lock, "");
-  await assert.rejects(opened(state), { name: "Held", message: /is held by another process/ });
-  holder.stdin.end();
-  await once(holder, "exit");
-  child.kill();
+  try {
+    holder.stdin.write("it is locked\n");
+    await within("flock to have the lock", once(holder.stdout, "data"));
+    await writeFile(lock, "");
+    await assert.rejects(opened(state), { name: "Held", message: /is held by another process/ });
+  } finally {
+    holder.stdin.end();
+    await ended("flock", holder);
+  }
 });
 
 test("without the command flock no folder is opened", async () => {
@@ -191,6 +213,31 @@ test("without the command flock no folder is opened", async () => {
     process.env.PATH = PATH;
     await rm(join(room, "flock"), { force: true });
   }
+});
+
+test("without descriptors no folder is opened, and the process goes on", async () => {
+  const program = `
+    import { closeSync, openSync } from "node:fs";
+    const { Validator } = await import("${PACKAGE}/index.js"), terms = { audiences: "ledger", bundles: "{}", state: ${JSON.stringify(state)} };
+    const said = async () => Validator.open(terms).then((it) => it.close()).then(() => "opened", (why) => (why.cause ?? why).code);
+    await said();
+    const taken = [], all = new Set();
+    const take = () => {
+      try {
+        for (;;) taken.push(openSync("/dev/null"));
+      } catch {
+        // (there are no more)
+      }
+    };
+    for (let free = 0; free < 8; free++) {
+      take();
+      for (let n = 0; n < free; n++) closeSync(taken.pop());
+      all.add(await said());
+    }
+    for (const it of taken) closeSync(it);
+    console.log([...all].join(), await said());`;
+  const words = ["-c", 'ulimit -n 100; exec "$@"', "sh", process.execPath, ...NODE, "--input-type=module", "--eval", program];
+  assert.equal((await run("sh", words)).stdout, "EMFILE,opened opened\n");
 });
 
 test("a check is answered once the disk has its use, and those that come meanwhile share a write", async () => {
@@ -212,7 +259,7 @@ test("a check is answered once the disk has its use, and those that come meanwhi
 });
 
 test("while the disk hangs a check is late, and the validator is not ready", async () => {
-  const validator = await opened(state, { wait: 0.05 }), [text, other] = [token(one), token(one)], disk = hanging();
+  const validator = await opened(state, { wait: 1 }), [text, other] = [token(one), token(one)], disk = hanging();
   await assert.rejects(validator.check(text), { name: "Unavailable", reason: "NotKept" });
   await assert.rejects(validator.withdraw(other), { name: "Unavailable", message: /the state folder or the group's store may not have that: withdraw it again/ });
   assert.match(validator.unready(), /The state folder takes no acceptance/);
@@ -272,6 +319,25 @@ test("closing waits for the disk, and whoever waits for an answer gets Closed", 
   await again.close();
 });
 
+test("`await using` waits for the disk, and what `using` closes loses nothing", async () => {
+  for (const symbol of [Symbol.asyncDispose, Symbol.dispose].filter(Boolean)) {
+    const validator = await opened(state), text = token(one);
+    await validator.check(text);
+    const disk = hanging(), disposing = validator[symbol]();
+    await until(() => disk.count === 1); // (the journal ends by a mark)
+    let isDone = false;
+    const ended = Promise.resolve(disposing).then(() => (isDone = true));
+    assert.equal(await said(opened(state)), "Held");
+    assert.equal(isDone, symbol === Symbol.dispose);
+    disk.open();
+    await ended;
+    mended();
+    const open = () => opened(state).catch((why) => assert.equal(why.name, "Held")), again = symbol === Symbol.dispose ? await until(open) : await opened(state);
+    assert.equal(await said(again.check(text)), "Replayed");
+    await again.close();
+  }
+});
+
 test("after a sync that failed nothing is kept, until the next start", async () => {
   const validator = await opened(state), texts = range(3).map(() => token(one));
   assert.equal(await said(validator.check(texts[0])), "accepted");
@@ -319,6 +385,19 @@ test("a long journal becomes a snapshot, and starts do not fill the folder", asy
   assert.deepEqual(await found(state), range(40));
 });
 
+test("a start with long journals writes a snapshot, and the next one is due once the journals are as long as that", async () => {
+  const kept = range(40), first = await begun(state);
+  for (const it of kept) await first.keep(use(it));
+  await first.close();
+  let count = 0;
+  disturbed((name, _, [path]) => void (count += Number(name === "open" && basename(path) === "snapshot.new")));
+  const journal = await begun(state, { small: 1000 }, kept);
+  assert.deepEqual([count, (await readdir(state)).filter((it) => it.startsWith("journal")).length], [1, 1]);
+  for (const it of range(20)) await journal.keep(use(it));
+  await journal.close();
+  assert.equal(count, 1);
+});
+
 test("appends go on while a snapshot is written, and a snapshot that fails is told and loses nothing", async () => {
   const held = gate(), warned = [], kept = [], heard = ({ code, message }) => warned.push([code, message]);
   process.on("warning", heard);
@@ -362,17 +441,22 @@ test("a folder is held until the snapshot is written that was begun before it is
   assert.deepEqual(await found(state), range(20));
 });
 
-test("a snapshot that fails is not tried again at each request", async () => {
-  const journal = await begun(state, { small: 1 });
-  let count = 0;
+test("a snapshot that fails is not tried again at each request", async (t) => {
+  const journal = await begun(state, { small: 1 }), real = performance.now.bind(performance);
+  let count = 0, later = 0;
+  t.mock.method(performance, "now", () => real() + later);
   disturbed((name, _, [path]) => {
     if (name !== "open" || basename(path) !== "snapshot.new") return;
     count += 1;
     throw failed("ENOSPC");
   });
+  await journal.keep(use(0));
+  await until(() => count);
   for (const it of range(30)) await journal.keep(use(it));
-  await journal.close();
   assert.equal(count, 1);
+  later = 61_000; // (but a minute later)
+  await until(async () => (await journal.keep(use(30)), count === 2));
+  await journal.close();
 });
 
 test("a mark stands after a burst, and at the end", async () => {
@@ -388,8 +472,53 @@ test("a mark stands after a burst, and at the end", async () => {
   await assert.rejects(Journal.open(state), { name: "BadFolder", message: /journal\.2 is damaged at byte 152: look for a failing disk/ });
 });
 
+test("a journal that another one follows ends by a mark, so that damage of its last use is seen", async (t) => {
+  const real = setTimeout, never = { refresh() {}, unref: () => never };
+  t.mock.method(globalThis, "setTimeout", (act, wait, ...more) => (wait === 1000 ? never : real(act, wait, ...more))); // (no mark by time)
+  const journal = await begun(state, { small: 1 });
+  disturbed(async (name, file) => {
+    if (name === "write" && (await path(file)) === "snapshot.new") throw failed("ENOSPC"); // (so the journal stays)
+  });
+  await journal.keep(use(1));
+  await until(async () => (await readdir(state)).includes("journal.3"));
+  await journal.close();
+  const file = join(state, "journal.2"), bytes = await readFile(file);
+  bytes[bytes.indexOf(keyOf(1))] ^= 1;
+  await writeFile(file, bytes);
+  await assert.rejects(Journal.open(state), { name: "BadFolder", message: /journal\.2 is damaged/ });
+});
+
+test("a use for which there is no memory is not kept, and says so", async (t) => {
+  const folder = Library.prototype.folder, wants = [];
+  t.mock.method(Library.prototype, "folder", function (...given) {
+    const numbers = folder.apply(this, given);
+    return { ...numbers, put: (payload) => {
+      if (wants.pop()) throw new OutOfMemory();
+      return numbers.put(payload);
+    } };
+  });
+  const journal = await begun(state);
+  wants.push(true);
+  await assert.rejects(journal.keep(use(1)), OutOfMemory);
+  await journal.keep(use(2));
+  await journal.close();
+  assert.deepEqual(await found(state), [2]);
+});
+
+test("what an earlier snapshot left neither hinders the next one nor gets into it", async () => {
+  const kept = [], journal = await begun(state, { small: 1 }, kept);
+  await writeFile(join(state, "snapshot.new"), "left".repeat(10_000));
+  kept.push(1);
+  await journal.keep(use(1));
+  await until(async () => !(await readdir(state)).includes("snapshot.new"));
+  await journal.close();
+  assert.deepEqual(await found(state), [1]);
+});
+
 test("a disk that does not answer holds so much", async () => {
-  const journal = await begun(state), disk = hanging(), much = new Uint8Array(16_000_000).fill(0x4a);
+  const journal = await begun(state), much = new Uint8Array(16_000_000).fill(0x4a);
+  await journal.keep(new Uint8Array(16_777_215).fill(0x4a)); // (one write takes so much)
+  const disk = hanging();
   const first = journal.keep(use(1));
   await until(() => disk.count === 1);
   const second = journal.keep(much);
@@ -400,7 +529,30 @@ test("a disk that does not answer holds so much", async () => {
   assert.equal(await said(journal.keep(use(2))), "Closed");
 });
 
+test("what was kept is handed on in pieces of some megabytes", async () => {
+  const journal = await begun(state), some = new Uint8Array(700_000).fill(0x4a), pieces = [];
+  for (const it of [1, 2, 3]) await journal.keep(some.map((byte) => byte + it));
+  await journal.close();
+  const again = await Journal.open(state);
+  await again.begin((it) => pieces.push([it.length, it[0], it.at(-1)]), function* () {});
+  await again.close();
+  assert.deepEqual(pieces, [[1_400_000, 0x4b, 0x4c], [700_000, 0x4d, 0x4d]]);
+});
+
 // -- What stands in a folder
+
+test("a folder whose numbers have come to their end says so, and lets go", async () => {
+  const validator = await opened(state), text = token(one);
+  await validator.check(text);
+  await validator.close();
+  const last = join(state, `journal.${2n ** 64n - 1n}`);
+  await writeFile(last, "");
+  for (let again = 0; again < 2; again++) await assert.rejects(opened(state), { name: "Unavailable", message: /^A number of the folder has come to its end\. / });
+  await rm(last);
+  const again = await opened(state);
+  assert.equal(await said(again.check(text)), "Replayed");
+  await again.close();
+});
 
 test("an ID that is lost or bad, files that are none, and folders of an older version", async () => {
   const journal = await begun(state), idFile = join(state, "place");
@@ -421,6 +573,8 @@ test("an ID that is lost or bad, files that are none, and folders of an older ve
     await assert.rejects(Journal.open(state), new RegExp(`${name} is no regular file|ENXIO.*${name}`));
     await rm(join(state, name));
   }
+  const held = await Promise.all((await readdir("/proc/self/fd")).map((it) => fs.readlink(`/proc/self/fd/${it}`).catch(() => "")));
+  assert.deepEqual(held.filter((it) => it.startsWith(state)), []);
   for (const name of ["journal.1", "snapshot"]) {
     await writeFile(join(state, name), use(1));
     await assert.rejects(Journal.open(state), { name: "BadFolder", message: /is of an older svidd: start a newer one in the folder once/ });
@@ -472,7 +626,7 @@ test("a kill at any time loses no acceptance", async () => {
       text += it;
       if (text.split("\n").length > due) ran.kill("SIGKILL");
     });
-    await once(ran, "close");
+    await within("the program that is killed", once(ran, "close")).finally(() => ran.kill("SIGKILL"));
     assert.equal(ran.signalCode, "SIGKILL");
     told.push(...text.split("\n").slice(0, -1));
   }
@@ -663,7 +817,19 @@ test("in mode bound without a store a token is bound to its caller, over restart
   await writeFile(join(state, "claims/place"), "");
   await assert.rejects(opened(state, { mode: "bound" }), { name: "BadFolder", message: /claims\/\w+ is not 32/ });
   await rm(join(state, "claims"), { recursive: true });
-  await (await opened(state, { mode: "bound" })).close();
+  // (a first start whose snapshot fails lets go of both folders)
+  disturbed((name, _, [path]) => {
+    if (name === "open" && path.endsWith("claims/snapshot.new")) throw failed("ENOSPC");
+  });
+  await assert.rejects(opened(state, { mode: "bound" }), { code: "ENOSPC" });
+  mended();
+  // (a token that lives for years)
+  const years = token(one, { exp: now() + 1e9 });
+  for (const due of ["accepted", "Replayed"]) {
+    validator = await opened(state, { mode: "bound", longest: "unlimited" });
+    assert.equal(await said(validator.check(years, { caller: due })), due);
+    await validator.close();
+  }
 });
 
 test("a token that is withdrawn again, with a later expiry, stays withdrawn for as long, over restarts", async () => {
@@ -730,17 +896,28 @@ test("a clock that goes back lets no claim be made again", async () => {
     await rm(state, { recursive: true });
     clock = began + 10_000n;
   }
-  // (nothing but this tells the next start)
-  let store = await claims();
-  const latest = clock;
+  // (nothing but this tells the next start, or the snapshot that replaces it)
+  for (const options of [{}, { small: 1 }]) {
+    let store = await LocalStore.open(state, CLAIMS, options);
+    const latest = clock;
+    await store.put([]);
+    clock -= 61n;
+    for (let start = 0; start < 3; start++) {
+      assert.equal((await store.put([claim(1, 1)]))[0].deaf, latest + 3620n);
+      await store.close();
+      store = await LocalStore.open(state, CLAIMS, options);
+    }
+    await store.close();
+    await rm(state, { recursive: true });
+    clock = latest + 10_000n;
+  }
+  // (a token that was claimed may live for ever)
+  const ANY = 2n ** 64n - 1n, store = await LocalStore.open(state, { ...CLAIMS, longest: ANY });
   await store.put([]);
   clock -= 61n;
-  for (let start = 0; start < 3; start++) {
-    assert.equal((await store.put([claim(1, 1)]))[0].deaf, latest + 3620n);
-    await store.close();
-    store = await claims();
-  }
+  assert.equal((await store.put([claim(1, 1)]))[0].deaf, ANY);
   await store.close();
+  clock += 10_000n;
 });
 
 test("a claim is on the disk before it is answered, and is put again where the disk did not take it", async () => {
@@ -786,14 +963,15 @@ test("a folder of claims stays small, and a snapshot forgets no live one", async
 // What svidd answers over a folder, while `body` asks it: the status of each request with a token, and from a caller.
 async function asking(words, body) {
   const svidd = join(room, "svidd"), bundle = join(room, "example.org.json"), socket = join(room, "s");
-  await run("go", ["build", "-o", svidd, "./cmd/svidd"], { cwd: `${TOP}/go`, maxBuffer: 2 ** 26 });
+  await built("build", "-o", svidd, "./cmd/svidd");
   await writeFile(bundle, JSON.stringify(one.bundles["example.org"]));
   const usual = ["--audience", "ledger", "--bundle", `example.org=${bundle}`, "--longest", "3600", "--state", state, "--listen", `unix:${socket}`, "--wait", "60s"];
-  const ran = spawn(svidd, ["serve", ...usual, ...words], { stdio: ["ignore", "ignore", "pipe"] }), ended = once(ran, "exit");
+  const ran = spawn(svidd, ["serve", ...usual, ...words], { stdio: ["ignore", "ignore", "pipe"] });
   let log = "";
   ran.stderr.on("data", (it) => (log += it));
   const get = (path, headers = {}) => new Promise((resolve) => {
-    request({ socketPath: socket, path, headers, agent: false }, (res) => resolve(res.resume().statusCode)).on("error", () => resolve(0)).end();
+    request({ socketPath: socket, path, headers, agent: false, timeout: 1000 * PATIENCE }, (res) => resolve(res.resume().statusCode))
+      .on("timeout", function () { this.destroy(); }).on("error", () => resolve(0)).end();
   });
   try {
     await until(async () => {
@@ -803,7 +981,7 @@ async function asking(words, body) {
     await body((text, caller = "") => get("/check", { Authorization: `Bearer ${text}`, "X-Caller": caller }));
   } finally {
     ran.kill();
-    await ended;
+    await ended("svidd", ran);
   }
 }
 

@@ -2,11 +2,11 @@
 
 import assert from "node:assert/strict";
 import { test } from "node:test";
-import { imported, said } from "./making.mjs";
+import { PATIENCE, imported, said } from "./making.mjs";
 
 const { Validator } = await imported(), { Clock, Issuer, MemoryStore } = await imported("testing.js");
 
-const open = (issuer, options) => Validator.open({ audiences: "ledger", bundles: issuer.bundles, ...options });
+const open = (issuer, options) => Validator.open({ audiences: "ledger", bundles: issuer.bundles, wait: PATIENCE, ...options });
 
 test("a token of an issuer is good, and has what it is told", async () => {
   const issuer = new Issuer({ trustDomain: "example.com", audience: "ledger" }), validator = await open(issuer);

@@ -50,6 +50,7 @@ const names: readonly RefusalName[] = REFUSALS;
 const verify: Verify = async (alg, key, signed, signature) => alg === "ES256" && key !== "" && signed.length > signature.length;
 const bundles = await Bundles.open({ audiences: "ledger", bundles: new Uint8Array(), verify, rsaBits: 8192 });
 bundles[Symbol.dispose]();
+await bundles[Symbol.asyncDispose]();
 // @ts-expect-error (bundles use nothing up)
 bundles.check("a.b.c");
 
@@ -65,6 +66,7 @@ await bound.check("a.b.c", { caller: "10.0.0.7", now: 5n });
 const kept = await Validator.open({ audiences: "ledger", bundles: "{}", mode: "bound", state: "/var/lib/ledger" });
 const claims: unknown = (await kept.check("a.b.c", { caller: "10.0.0.7" })).claims["sub"];
 await kept.close();
+await kept[Symbol.asyncDispose]();
 // @ts-expect-error (a folder has a path)
 await Validator.open({ audiences: "ledger", bundles: "{}", state: 7 });
 const isKnown = (why: unknown): boolean => why instanceof NotAllowed || (why instanceof Unavailable && why.cause !== undefined);

@@ -1,14 +1,14 @@
 // What a validator does beside the vectors: many checks at once, withdrawals, messages, bundles, times, and running out of memory.
 
 import assert from "node:assert/strict";
-import { constants, generateKeyPairSync, sign } from "node:crypto";
+import { constants, sign } from "node:crypto";
 import { readdirSync } from "node:fs";
 import { cp, mkdtemp, rename, rm } from "node:fs/promises";
 import { tmpdir } from "node:os";
 import { join } from "node:path";
 import { test } from "node:test";
 import { inspect } from "node:util";
-import { PACKAGE, TOP, counted, digest, exhausted, hex, imported, issuer, listed, now, read, said, seen, token } from "./making.mjs";
+import { PACKAGE, TOP, counted, digest, exhausted, hex, imported, issuer, listed, made, now, read, run, said, seen, token, within } from "./making.mjs";
 
 const { Bundles, MemoryStore, REFUSALS, Refusal, SvidError, Validator } = await imported();
 const { sentences } = await listed();
@@ -301,7 +301,7 @@ test("of a token that another one accepted too, a validator says so once", async
   await assert.rejects(Validator.open({ ...terms, onTwice: 7 }), { name: "TypeError", message: "onTwice is a function" });
   const warned = new Promise((resolve) => process.once("warning", resolve));
   two.take((await three.check(tokens[35], time)).use.message, time);
-  const { code, message } = await warned;
+  const { code, message } = await within("a warning", warned);
   assert.deepEqual([code, message.includes(hex(uses[35].key))], ["SVID_TWICE", true]);
   for (const it of [first, two, three]) it.close();
 });
@@ -350,11 +350,12 @@ test("a validator that is closed says so, also to a check that is on its way", a
   const judge = await Bundles.open(terms);
   judge.close();
   assert.equal(await said(judge.judge(text)), "Closed");
-  if (!Symbol.dispose) return;
-  for (const kind of [Validator, Bundles]) {
-    const it = await kind.open(terms);
-    it[Symbol.dispose]();
-    assert.equal(await said(it.judge(text)), "Closed", kind.name);
+  for (const symbol of [Symbol.dispose, Symbol.asyncDispose].filter(Boolean)) {
+    for (const kind of [Validator, Bundles]) {
+      const it = await kind.open(terms);
+      await it[symbol]();
+      assert.equal(await said(it.judge(text)), "Closed", `${kind.name} ${String(symbol)}`);
+    }
   }
 });
 
@@ -389,13 +390,13 @@ test("a clock before 1970 is refused, and the record stays", async (t) => {
 test("options that can't be are refused", async () => {
   const wrong = [
     { audiences: [] }, { audiences: "" }, { audiences: ["ledger", ""] }, { audiences: undefined }, { audiences: [1] },
-    { bundles: undefined }, { bundles: 1 }, { longest: -1 }, { longest: "60" }, { longest: null }, { ahead: NaN }, { step: -1n },
+    { audiences: 7 }, { audiences: {} }, { bundles: undefined }, { bundles: 1 }, { longest: -1 }, { longest: "60" }, { longest: null }, { ahead: NaN }, { step: -1n },
     { validatorId: new Uint8Array(15) }, { validatorId: "x" }, { rsaBits: 1024 }, { rsaBits: 16385 }, { rsaBits: "4096" }, { verify: 1 },
     { longest: 2n ** 64n },
   ];
   for (const it of wrong) {
-    const name = await said(Validator.open({ ...terms, ...it }));
-    assert.ok(name === "TypeError" || name === "RangeError", `${Object.keys(it)[0]}: ${name}`);
+    const [name] = Object.keys(it), why = await Validator.open({ ...terms, ...it }).catch((error) => error);
+    assert.ok(["TypeError", "RangeError"].includes(why.name) && why.message.includes(name), `${name}: ${why}`);
   }
   assert.throws(() => new Validator(), TypeError);
   assert.throws(() => new Bundles(), TypeError);
@@ -419,6 +420,29 @@ test("options that change while a validator opens are those that were given", as
   const admins = await opening(Validator, { callers: ["spiffe://example.org/admin"] });
   assert.equal(await said(admins.check(text)), "NotAllowed");
   admins.close();
+});
+
+test("bundles that never are any are refused", async () => {
+  // (a service that forgot to wait for its bundles, say, would refuse each token)
+  for (const it of [Promise.resolve(bundles), new Map(Object.entries(bundles)), new ArrayBuffer(8), new Date(), [bundles]]) {
+    const due = { name: "TypeError", message: /^bundles is an object from trust domains to bundles, or the JSON text of one/ };
+    for (const kind of [Validator, Bundles]) await assert.rejects(kind.open({ ...terms, bundles: it }), due);
+    const validator = await Validator.open(terms);
+    assert.throws(() => validator.renew(it), due);
+    assert.equal(await said(validator.check(token(one))), "accepted");
+    validator.close();
+  }
+  for (const it of [{}, Object.create(null)]) (await Validator.open({ ...terms, bundles: it })).close();
+});
+
+test("options of which two can't be end no process", async () => {
+  const program = `import { Validator } from "${PACKAGE}/index.js";
+    const wrong = { audiences: "ledger", validatorId: "x", follow: {} };
+    for (let n = 0; n < 2; n++) await Validator.open(wrong).catch((why) => console.log(why.name));
+    await import("${PACKAGE}/src/follow.js");
+    setImmediate(() => console.log("there"));`;
+  const { stdout } = await run(process.execPath, ["--input-type=module", "--eval", program]);
+  assert.equal(stdout, "TypeError\nTypeError\nthere\n");
 });
 
 test("a log of a group is refused, and the error says how a token is accepted once in a group", async () => {
@@ -468,6 +492,14 @@ test("bundles judge without a record, and at any time", async () => {
   judge.close();
 });
 
+test("a token may have thousands of audiences", async () => {
+  const aud = [...Array.from({ length: 9000 }, () => "a"), "ledger"], text = token(one, { aud });
+  const validator = await Validator.open(terms);
+  assert.deepEqual(validator.says(text).audiences, aud);
+  assert.equal((await validator.check(text)).audience, "ledger");
+  validator.close();
+});
+
 test("a token says what it says, with no one's word for it", async () => {
   const validator = await Validator.open(terms), audiences = Array.from({ length: 40 }, (_, n) => `service-${n}-${"x".repeat(n * 60)}`);
   const says = validator.says(token(issuer("other"), { aud: audiences, exp: 5 }));
@@ -480,7 +512,7 @@ test("a token says what it says, with no one's word for it", async () => {
 });
 
 test("a key verifies by each algorithm that it may sign by", async () => {
-  const { privateKey, publicKey } = generateKeyPairSync("rsa", { modulusLength: 2048 }), entry = { use: "jwt-svid", kid: "r", ...publicKey.export({ format: "jwk" }) };
+  const { privateKey, publicKey } = made("rsa", { modulusLength: 2048 }), entry = { use: "jwt-svid", kid: "r", ...publicKey.export({ format: "jwk" }) };
   const validator = await Validator.open({ ...terms, bundles: { "example.org": { keys: [entry] } }, mode: "reuse" });
   const part = (it) => Buffer.from(JSON.stringify(it)).toString("base64url");
   for (const alg of ["RS256", "PS256", "RS512", "PS512", "RS256"]) {
@@ -533,7 +565,7 @@ test("what can't be verified is an error, and never let in", async () => {
   const keys = [issuer("a"), issuer("b")], text = token({ ...keys[1], kid: undefined });
   const both = { "example.org": { keys: keys.map((it) => it.entry) } };
   const verify = (_alg, key) => (key.includes(keys[0].entry.x) ? fails() : true);
-  const validator = await Validator.open({ audiences: "ledger", bundles: both, verify });
+  const validator = await Validator.open({ ...terms, bundles: both, verify });
   assert.equal(await said(validator.check(text)), "accepted");
   validator.close();
   for (const it of [() => false, async () => false, () => undefined, () => 1, () => "no", () => ({ valid: false })]) {

@@ -24,7 +24,6 @@ export class Library {
   constructor(module) {
     const asked = WebAssembly.Module.imports(module);
     if (asked.length) throw new Error(`the module asks its host for ${asked.map((it) => it.name).join(", ")}`);
-    this.module = module;
     this.calls = new WebAssembly.Instance(module, {}).exports;
   }
 

@@ -12,6 +12,7 @@ import { timeOf } from "./refusals.js";
 import { BEARER_FAULTS, partsOf, tokenIn } from "./token.js";
 import { agoOf, clock, dateOf, readTime, spanOf } from "./time.js";
 import { Timeline } from "./timeline.js";
+import { lacking } from "./verify.js";
 
 const TICK = 1000, STEPS = 1000n, AHEAD = 10n;
 const BUNDLES_NOT_OBJECT = 31, BUNDLES_DOMAIN = 32, BUNDLES_KEYS = 33;
@@ -151,7 +152,10 @@ function drawResult({ token, now, tokenFault }, { names, fault, verdict, judgedA
   byId("use").setAttribute("aria-disabled", String(!isAccepted));
   byId("withdraw").setAttribute("aria-disabled", String(!isAccepted && verdict?.refusal !== "Replayed"));
   if (tokenFault) return drawVerdict("none", "Not judged", "No token can be taken out of the header field.");
-  if (!token) return drawVerdict("none", "Paste a token", "Its parts, the verdict and the reason appear here.");
+  if (!token) {
+    const why = lacking() ? `No signature can be verified here, and no example made: ${lacking()}.` : "Its parts, the verdict and the reason appear here.";
+    return drawVerdict("none", "Paste a token", why);
+  }
   if (fault) return drawVerdict("none", "Not judged", "The trust bundles can't be read.");
   const late = judgedAt > now ? ` Judged at ${dateOf(judgedAt)}, the time that the record has seen.` : "";
   const holder = `${verdict.id} until ${dateOf(verdict.exp ?? 0n)}, ${agoOf(verdict.exp ?? 0n, judgedAt)}.${late}`;
@@ -298,7 +302,13 @@ async function takeFile(file) {
 
 async function takeFiles(files) {
   fill(byId("record-change"));
-  for (const it of files) await takeFile(it);
+  for (const it of files) {
+    try {
+      await takeFile(it);
+    } catch (error) {
+      tellChange(`${it.name} was not taken: ${error.message}`, true); // (one that is a folder, or gone)
+    }
+  }
 }
 
 function put(id, text) {
@@ -340,6 +350,7 @@ function listen() {
   byId("inputs").addEventListener("submit", (event) => event.preventDefault());
   byId("slider").addEventListener("input", slides);
   press("live", () => (setLive(!isLive()), refresh()));
+  byId("example").setAttribute("aria-disabled", String(lacking() !== undefined));
   press("example", loadExample);
   press("open", () => byId("files").click());
   press("use", () => changes(() => use(library, shown.input, shown.result), "The use of this token"));

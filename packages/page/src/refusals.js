@@ -89,6 +89,8 @@ export function objectOf(parts, part) {
   return node?.kind === "object" ? node : undefined;
 }
 
+// A character as it looks, or by its number where it looks like nothing, as a blank of no width.
+const shown = (text) => JSON.stringify(text).replace(/(?! )[\p{C}\p{M}\p{Z}]/gu, (it) => `\\u${it.codePointAt(0).toString(16).padStart(4, "0")}`);
 const said = (why, ...marks) => ({ why, marks });
 
 function tooLong({ token }) {
@@ -105,7 +107,7 @@ function notThreeParts({ token, parts }) {
 function misspelt({ parts }, which, name) {
   const part = parts[which], at = part.badAt ?? 0, bad = [...part.text.slice(at, at + 2)][0] ?? "";
   const isLast = at === part.text.length - 1 && /[\w-]/.test(bad);
-  const why = isLast ? "Its last character has bits that are left over, or one too few." : `${JSON.stringify(bad)} is no character of base64url.`;
+  const why = isLast ? "Its last character has bits that are left over, or one too few." : `${shown(bad)} is no character of base64url.`;
   const inToken = which ? `, which is character ${part.from + at + 1} of the token` : "";
   return said(`The ${name} is misspelt at character ${at + 1}${inToken}. ${why}`, [part.from + at, part.from + at + bad.length]);
 }
@@ -157,7 +159,7 @@ function noId(it) {
   const { status, offset } = it.library.parseId(id);
   const rest = textOf(new TextEncoder().encode(id).subarray(offset)), dots = rest.match(/^\.*/)[0];
   const bad = { [ID_DOMAIN_BYTE]: [...rest][0], [ID_SEGMENT_DOTS]: dots, [ID_PATH_BYTE]: [...rest][0] }[status];
-  return said(`sub is no SPIFFE ID: ${ID_FAULTS[status]}${bad === undefined ? "" : `, ${JSON.stringify(bad)}`}.`, charactersOf(it, 1, "sub"));
+  return said(`sub is no SPIFFE ID: ${ID_FAULTS[status]}${bad === undefined ? "" : `, ${shown(bad)}`}.`, charactersOf(it, 1, "sub"));
 }
 
 /** A claim that is a time, if it is one. */

@@ -3,6 +3,8 @@
 const LAST_DATE = 253402300799n; // the end of the year 9999
 const UNITS = [["year", 31556952n], ["month", 2629746n], ["day", 86400n], ["h", 3600n], ["min", 60n], ["s", 1n]];
 const WORDS = new Set(["year", "month", "day"]); // the others are signs, which have no plural
+// What is no such date some browsers read all the same, each as another one.
+const DATE = /^\d{4}-\d\d-\d\d(?=([T ]\d\d:\d\d(:\d\d(\.\d+)?)?(Z|[+-]\d\d:\d\d)?)?$)/i;
 const two = (it) => String(it).padStart(2, "0");
 
 /** A local date and time, as "2026-11-25 19:40:12". */
@@ -39,6 +41,6 @@ export function readTime(text) {
     const time = BigInt(trimmed);
     return time < 2n ** 64n ? time : undefined;
   }
-  const parsed = /^\d{4}-\d\d-\d\d/.test(trimmed) ? Date.parse(trimmed) : NaN;
+  const [day] = DATE.exec(trimmed) ?? [], isDay = day && new Date(day).toJSON()?.startsWith(day), parsed = isDay ? Date.parse(trimmed) : NaN;
   return Number.isNaN(parsed) || parsed < 0 ? undefined : BigInt(Math.floor(parsed / 1000));
 }

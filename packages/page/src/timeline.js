@@ -58,7 +58,7 @@ export class Timeline {
     const shown = [...this.validators].slice(0, COLOURS), more = this.validators.size - shown.length;
     fill(byId("validators"), shown.map(([id, { colour, count }]) =>
       make("li", {}, make("i", { class: `dot validator-${colour}`, "aria-hidden": "true" }), make("code", {}, id.slice(0, 8)), ` ${count.toLocaleString("en")}`)),
-      more > 0 && make("li", {}, `and ${more} more validators`));
+      more > 0 && make("li", {}, `and ${more} more ${more === 1 ? "validator" : "validators"}`));
   }
 
   // The rows in sight, and some beyond, at their height in the whole list.

@@ -26,6 +26,9 @@ const KEY_FAULTS = {
 };
 // lists:end
 
+/** Why no signature is verified or made here, if so. */
+export const lacking = () => (globalThis.crypto?.subtle ? undefined : "WebCrypto works only on https, localhost and files");
+
 const answered = new Map();
 
 /**
@@ -41,7 +44,7 @@ export function answer(row, signed, signature) {
 
 async function ask({ alg, spki }, signed, signature) {
   if (spki.status !== OK) return { is: "unusable", why: faultOf(spki.status) };
-  if (!globalThis.crypto?.subtle) return { is: "unusable", why: "WebCrypto works only on https, localhost and files" };
+  if (lacking()) return { is: "unusable", why: lacking() };
   const [importing, verifying] = parametersOf(alg);
   try {
     const imported = await crypto.subtle.importKey("spki", spki.bytes, importing, false, ["verify"]);

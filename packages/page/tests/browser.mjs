@@ -19,6 +19,9 @@ export function within(what, promise) {
   return Promise.race([promise, late]).finally(() => clearTimeout(timer));
 }
 
+/** Waits for the end of a process, whose promise `ended` is. One that does not end is killed. */
+export const endOf = (process, ended) => within(`the end of ${process.spawnfile}`, ended).finally(() => process.kill("SIGKILL"));
+
 /** A running Chromium. */
 export class Browser {
   static async start() {
@@ -91,7 +94,7 @@ export class Browser {
 
   async close() {
     await this.send("Browser.close").catch(() => this.process.kill());
-    await this.ended;
+    await endOf(this.process, this.ended);
     await rm(this.profile, { recursive: true, force: true, maxRetries: 5 });
   }
 }

@@ -9,6 +9,12 @@ import { makeKey, sign } from "./tokens.mjs";
 
 const library = await Library.load(readFileSync(process.env.SVID_MODULE));
 
+test("a module that asks its host for something is not started, and named", () => {
+  // (a function f of a module m)
+  const asking = Uint8Array.from([0, 0x61, 0x73, 0x6d, 1, 0, 0, 0, 1, 4, 1, 0x60, 0, 0, 2, 7, 1, 1, 0x6d, 1, 0x66, 0, 0]);
+  assert.throws(() => new Library(new WebAssembly.Module(asking)), { message: "the module asks its host for f" });
+});
+
 test("a bundle as SPIRE prints it is one, and an object of trust domains is not", () => {
   for (const one of ['{"keys":[]}', '{"keys":null,"spiffe_sequence":1}']) assert.ok(library.isOneBundle(one));
   for (const other of ["", "[]", "{", '{"a":{"keys":[]}}', '{"keys":{"keys":[]}}', '{"keys":7}']) assert.ok(!library.isOneBundle(other));

@@ -7,6 +7,7 @@ import { readFileSync } from "node:fs";
 import { test } from "node:test";
 import { Library } from "../src/library.js";
 import { REFUSALS } from "../src/refusals.js";
+import { endOf, within } from "./browser.mjs";
 import { base64url, batch, mutated as mutatedBy, random } from "./tokens.mjs";
 
 const CALLS = 100_000, ROUND = 500, SESSION_CALLS = 8;
@@ -140,7 +141,7 @@ class Native {
     let kept = Buffer.alloc(0);
     const found = [];
     while (found.length < calls.length) {
-      const [data] = await Promise.race([once(this.process.stdout, "data"), this.ended.then(() => assert.fail("native.py ended"))]);
+      const [data] = await within("an answer of native.py", Promise.race([once(this.process.stdout, "data"), this.ended.then(() => assert.fail("native.py ended"))]));
       kept = Buffer.concat([kept, data]);
       while (kept.length >= 4 && kept.length >= 4 + kept.readUInt32LE()) {
         const end = 4 + kept.readUInt32LE();
@@ -153,7 +154,7 @@ class Native {
 
   async close() {
     this.process.stdin.end();
-    await this.ended;
+    await endOf(this.process, this.ended);
   }
 }
 

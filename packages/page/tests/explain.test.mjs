@@ -4,7 +4,7 @@
 import assert from "node:assert/strict";
 import { readFileSync } from "node:fs";
 import { test } from "node:test";
-import { examine, readRecord } from "../src/examine.js";
+import { examine, readRecord, use, withdraw } from "../src/examine.js";
 import { Library } from "../src/library.js";
 import { REFUSALS } from "../src/refusals.js";
 import { base64url, makeKey, mutated, random, sign } from "./tokens.mjs";
@@ -94,7 +94,7 @@ test("a text that begins with a byte order mark is the whole text", async () => 
   const unasked = (await examine(library, { ...input, own: [] })).verdict;
   assert.deepEqual([unasked.status, unasked.isUnasked], [0, true]);
   const bad = await sign(key, '{"alg":"ES256"}', '{"sub":"spiffe://example.org/\ufeffa","aud":"ledger","exp":1767229200}');
-  assert.equal((await examine(library, { ...input, token: bad })).verdict.why, 'sub is no SPIFFE ID: the ID has a byte that may not stand in a path segment, "\ufeff".');
+  assert.equal((await examine(library, { ...input, token: bad })).verdict.why, 'sub is no SPIFFE ID: the ID has a byte that may not stand in a path segment, "\\ufeff".');
 });
 
 test("an entry with very many members is soon read", async () => {
@@ -122,5 +122,31 @@ test("of many keys that fit, the first ones are tried", async () => {
     assert.deepEqual(unnamed.keys.map((it) => it.reason), [...Array(3).fill(undefined), ...Array(3).fill("only the first 3 keys that fit are tried")]);
     const named = await judge(await sign(key, Buffer.from(`{"alg":"ES256","kid":"k${n}"}`), payload));
     assert.equal(named.verdict.refusal, undefined);
+  }
+});
+
+test("of a token that was used or withdrawn, its jti is marked, or what is signed where it has none", async () => {
+  const library = await Library.load(readFileSync(process.env.SVID_MODULE)), key = await makeKey("ES256", "k1");
+  const usual = { bundles: JSON.stringify({ "example.org": { keys: [key.entry] } }), domain: "", own: ["ledger"], now: NOW, longest: undefined, validatorId: new Uint8Array(16) };
+  for (const jti of ["", "one"]) {
+    const payload = JSON.stringify({ sub: "spiffe://example.org/a", aud: "ledger", exp: 1767229200, ...(jti && { jti }) });
+    const input = { ...usual, token: await sign(key, '{"alg":"ES256","kid":"k1"}', payload), record: readRecord(library, new Uint8Array()) };
+    const result = await examine(library, input), [, { from }, { from: end }] = result.parts;
+    for (const [change, name] of [[use, "Replayed"], [withdraw, "Withdrawn"]]) {
+      const { verdict } = await examine(library, { ...input, record: readRecord(library, change(library, input, result)) });
+      // (four characters hold three bytes, and the last one of these ends the object)
+      const its = [from + Math.floor((payload.indexOf('"jti"') * 4) / 3), from + Math.ceil(((payload.length - 1) * 4) / 3)];
+      assert.deepEqual([verdict.refusal, verdict.marks], [name, [jti ? its : [0, end - 1]]], jti);
+    }
+  }
+});
+
+test("where no key fits, the kid of the token is named, if it has one", async () => {
+  const library = await Library.load(readFileSync(process.env.SVID_MODULE)), key = await makeKey("ES256", "k1"), record = readRecord(library, new Uint8Array());
+  const usual = { bundles: JSON.stringify({ "example.org": { keys: [key.entry] } }), domain: "", own: ["ledger"], now: NOW, longest: undefined, validatorId: new Uint8Array(16), record };
+  for (const [kid, named] of [[undefined, ""], ["k2", ' with the kid "k2"']]) {
+    const token = await sign(key, JSON.stringify({ alg: "RS256", kid }), '{"sub":"spiffe://example.org/a","aud":"ledger","exp":1767229200}');
+    const { names, verdict } = await examine(library, { ...usual, token });
+    assert.deepEqual([names.kid, verdict.refusal, verdict.why], [kid, "NoKey", `The bundle has no key for this algorithm${named}. The keys below say why each was passed over.`]);
   }
 });

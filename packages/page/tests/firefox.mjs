@@ -7,7 +7,7 @@ import { mkdtemp, rm, writeFile } from "node:fs/promises";
 import { connect } from "node:net";
 import { tmpdir } from "node:os";
 import { join } from "node:path";
-import { FieldsAndButtons, within } from "./browser.mjs";
+import { FieldsAndButtons, endOf, within } from "./browser.mjs";
 
 // What Firefox asks of its maker's servers goes to a proxy that is not there. Port 0 is any that is free, and stands in the file PORT then.
 // It begins with an empty page, and prepares no process for a page that nobody opens.
@@ -48,7 +48,7 @@ export class Firefox {
 
   async connected() {
     this.socket = connect(await this.port(), "127.0.0.1");
-    await once(this.socket, "connect");
+    await within("a connection to Firefox", once(this.socket, "connect"));
     let kept = Buffer.alloc(0);
     this.socket.on("data", (data) => {
       kept = Buffer.concat([kept, data]);
@@ -69,7 +69,7 @@ export class Firefox {
     const watched = watch(this.profile);
     try {
       const gone = this.ended.then(() => Promise.reject(new Error("firefox-esr ended before it listened")));
-      while (!read()) await Promise.race([once(watched, "change"), gone]);
+      while (!read()) await within("Firefox to listen", Promise.race([once(watched, "change"), gone]));
     } finally {
       watched.close();
     }
@@ -118,7 +118,7 @@ export class Firefox {
   async close() {
     this.socket.end();
     this.process.kill();
-    await this.ended;
+    await endOf(this.process, this.ended);
     await rm(this.profile, { recursive: true, force: true, maxRetries: 5 });
   }
 }

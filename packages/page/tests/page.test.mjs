@@ -92,7 +92,8 @@ test("an example is made here, and is good for five minutes from now on", async 
     await page.click("example");
     tokens.push(await page.run(() => document.getElementById("token").value));
     const [, payload] = tokens[n].split(".").map((it) => Buffer.from(it, "base64url").toString());
-    const { iat, exp, aud } = JSON.parse(payload);
+    const { iat, exp, aud } = JSON.parse(payload), bundles = JSON.parse(await page.run(() => document.getElementById("bundles").value));
+    assert.deepEqual(bundles["example.org"].keys.map((it) => it.kid), ["example", "example-next"]);
     assert.ok(iat >= from && iat <= Date.now() / 1000 && exp - iat === 300, payload);
     assert.deepEqual(aud, ["ledger"]);
     assert.equal(await page.run(() => document.getElementById("live").getAttribute("aria-pressed")), "true");
@@ -158,6 +159,13 @@ test("a check has one line from 390 pixels on, and two at the most at 320", asyn
   await page.size(WIDTHS.wide, 900);
 });
 
+test("a file that can't be read is named, and the others are taken", async () => {
+  await page.click("forget");
+  await openFiles(join(room, "gone"), room, join(EXAMPLES, "shared.messages"));
+  const said = await page.text("record-change");
+  assert.match(said, /gone was not taken: .+svid-files-\w+ was not taken: .+shared\.messages \(/s);
+});
+
 test("files of both versions are joined, and what changed is told", async () => {
   await page.click("forget");
   await openFiles(join(EXAMPLES, "shared.messages"));
@@ -173,6 +181,34 @@ test("files of both versions are joined, and what changed is told", async () => 
   assert.match(await page.text("record-change"), /0 new, 12 known/);
   await openFiles(join(EXAMPLES, "two-uses.batch"), await fileOf("later.messages", batch(NOW + 120, [{ exp: NOW + 999, key: Buffer.alloc(32, 1), validatorId: Buffer.alloc(16, 2), at: NOW + 110 }], 1)));
   assert.match(await page.text("record-change"), /two-uses\.batch \(2 entries\): 0 new, 12 known.*later\.messages \(1 entry\): 1 new, \d+ known, \d+ expired and dropped\. Its clock went from/);
+});
+
+test("what is saved is the record, and an empty one is not saved", async () => {
+  await openFiles(join(EXAMPLES, "shared.messages"));
+  await page.run(() => {
+    const { createObjectURL } = URL, { click } = HTMLAnchorElement.prototype;
+    window.saved = [];
+    URL.createObjectURL = (it) => (window.saved.push(it), createObjectURL(it));
+    HTMLAnchorElement.prototype.click = function () {
+      window.saved.push(this.download);
+    };
+    window.asItWas = () => (Object.assign(URL, { createObjectURL }), Object.assign(HTMLAnchorElement.prototype, { click }));
+  });
+  const isOff = () => page.run(() => ["save", "forget"].map((id) => document.getElementById(id).getAttribute("aria-disabled")));
+  const before = await page.text("record-said");
+  assert.deepEqual(await isOff(), ["false", "false"]);
+  await page.click("save");
+  const [name, encoded] = await page.run(async () => {
+    const [blob, name] = window.saved.splice(0);
+    return [name, btoa(String.fromCharCode(...new Uint8Array(await blob.arrayBuffer())))];
+  });
+  assert.equal(name, "record.messages");
+  await page.click("forget");
+  assert.deepEqual(await isOff(), ["true", "true"]);
+  await page.click("save");
+  assert.deepEqual(await page.run(() => (window.asItWas(), window.saved)), []);
+  await openFiles(await fileOf(name, Buffer.from(encoded, "base64")));
+  assert.equal(await page.text("record-said"), before);
 });
 
 test("a file that is no row of messages is not taken, and told with its offset", async () => {
@@ -258,7 +294,12 @@ test("a file of a header field fills the field of the token", async () => {
 
 test("a browser does not open what is dropped on the page", async () => {
   const isOpened = (kind) => page.run((it) => document.body.dispatchEvent(new DragEvent(it, { bubbles: true, cancelable: true, dataTransfer: new DataTransfer() })), kind);
-  assert.deepEqual([await isOpened("dragover"), await isOpened("drop")], [false, false]);
+  const isShown = () => page.run(() => !document.getElementById("drop").hidden);
+  assert.deepEqual([await isOpened("dragover"), await isShown()], [false, true]);
+  await isOpened("dragleave"); // (it leads out of the window)
+  assert.equal(await isShown(), false);
+  await isOpened("dragover");
+  assert.deepEqual([await isOpened("drop"), await isShown()], [false, false]);
 });
 
 test("a clock that is ahead of this computer's is told", async () => {
@@ -353,8 +394,12 @@ test("10,000 uses are drawn in less than a second", async (t) => {
 });
 
 test("the timeline is walked by keys, and the chosen key is told", async () => {
+  await page.run(() => (window.isInSight = () => {
+    const [list, row] = ["#rows", "#rows [aria-selected=true]"].map((it) => document.querySelector(it)?.getBoundingClientRect());
+    return row !== undefined && row.top >= list.top && row.bottom <= list.bottom;
+  }));
   await page.run(() => document.getElementById("rows").focus());
-  const chosen = () => page.run(() => ({ id: document.getElementById("rows").getAttribute("aria-activedescendant"), inSight: !!document.querySelector("#rows [aria-selected=true]"), said: document.getElementById("chosen").textContent }));
+  const chosen = () => page.run(() => ({ id: document.getElementById("rows").getAttribute("aria-activedescendant"), inSight: isInSight(), said: document.getElementById("chosen").textContent }));
   await page.press("Home");
   for (const [key, id] of [["ArrowDown", "row-1"], ["ArrowDown", "row-2"], ["ArrowUp", "row-1"], ["PageDown", "row-10"], ["Home", "row-0"]]) {
     await page.press(key);
@@ -521,40 +566,45 @@ async function tick() {
 }
 
 test("of two tokens the later one is shown, whichever answer comes first", async () => {
-  await page.click("example");
-  const { token, time } = await page.run(() => ({ token: document.getElementById("token").value, time: document.getElementById("time").value }));
-  await page.write({ time }); // (a tick would show the later one again)
-  await page.run(() => {
-    const verify = SubtleCrypto.prototype.verify, held = new Promise((resolve) => (window.goOn = resolve));
-    window.ended = new Promise((resolve) => {
-      SubtleCrypto.prototype.verify = async function (...words) {
-        SubtleCrypto.prototype.verify = verify;
-        await held;
-        const answer = await verify.apply(this, words);
-        setTimeout(resolve);
-        return answer;
-      };
-    });
-    document.getElementById("token").value = document.getElementById("token").value.slice(0, -2) + "AA";
-    document.getElementById("token").dispatchEvent(new InputEvent("input", { bubbles: true }));
-  });
-  await page.write({ token: "no token" });
-  assert.equal(await page.text("verdict-said"), "Refused: NotThreeParts");
-  await page.run(() => (window.goOn(), window.ended));
-  await page.settled();
-  assert.deepEqual([await page.text("verdict-said"), await page.text("token-shown")], ["Refused: NotThreeParts", "no token\u200b"]);
-  await page.write({ token });
-  assert.equal(await page.text("verdict-said"), "Accepted");
+  for (const fails of [false, true]) {
+    await page.click("example");
+    const { token, time } = await page.run(() => ({ token: document.getElementById("token").value, time: document.getElementById("time").value }));
+    await page.write({ time }); // (a tick would show the later one again)
+    await page.run((fails) => {
+      const verify = SubtleCrypto.prototype.verify, held = new Promise((resolve) => (window.goOn = resolve));
+      window.ended = new Promise((resolve) => {
+        SubtleCrypto.prototype.verify = async function (...words) {
+          SubtleCrypto.prototype.verify = verify;
+          await held;
+          const answer = await verify.apply(this, words);
+          setTimeout(resolve);
+          if (fails) throw new Error("it is not to be seen");
+          return answer;
+        };
+      });
+      const field = document.getElementById("token"), end = field.value.slice(-2) === "AA" ? "BA" : "AA"; // (what was asked before is not asked again)
+      field.value = field.value.slice(0, -2) + end;
+      field.dispatchEvent(new InputEvent("input", { bubbles: true }));
+    }, fails);
+    await page.write({ token: "no token" });
+    assert.equal(await page.text("verdict-said"), "Refused: NotThreeParts");
+    await page.run(() => (window.goOn(), window.ended));
+    await page.settled();
+    assert.deepEqual([await page.text("verdict-said"), await page.text("token-shown")], ["Refused: NotThreeParts", "no token\u200b"]);
+    await page.write({ token });
+    assert.equal(await page.text("verdict-said"), "Accepted");
+  }
 });
 
 test("a tick of the clock replaces nothing that says the same, and what is open stays open", async () => {
   await page.click("example");
   await page.run(() => {
     document.querySelector("#keys details").open = true;
-    window.kept = [...document.querySelectorAll("#results *, #record *, #token-shown *")].filter((it) => !it.closest("dl:has(.time)"));
+    const all = [...document.querySelectorAll("#results *, #record *, #token-shown *")].filter((it) => !it.closest("dl:has(.time)"));
+    window.kept = [...all, document.getElementById("verdict-said").firstChild]; // (which would be said aloud again)
   });
   await tick();
-  const replaced = await page.run(() => window.kept.filter((it) => !it.isConnected).map((it) => it.outerHTML.slice(0, 80)));
+  const replaced = await page.run(() => window.kept.filter((it) => !it.isConnected).map((it) => (it.outerHTML ?? it.data).slice(0, 80)));
   assert.deepEqual(replaced, []);
   assert.equal(await page.run(() => document.querySelector("#keys details").open), true);
   await page.run(() => (document.querySelector("#keys details").open = false));
@@ -607,6 +657,13 @@ test("after the module stopped, a new one judges, and the record is as it was", 
 
 test("where a browser has no cryptography, the page says why no key can be used", async () => {
   const tab = await browser.open(process.env.SVID_PAGE, (it) => it.send("Page.addScriptToEvaluateOnNewDocument", { source: "Object.defineProperty(Crypto.prototype, 'subtle', { value: undefined })" }));
+  const none = "No signature can be verified here, and no example made: WebCrypto works only on https, localhost and files.";
+  for (const press of [() => {}, () => tab.click("example")]) {
+    await press();
+    assert.equal(await tab.text("verdict-why"), none);
+    assert.equal(await tab.run(() => document.getElementById("example").getAttribute("aria-disabled")), "true");
+  }
+  assert.deepEqual(await tab.complaints(), []);
   const [bundles, token] = await Promise.all(["bundles.json", "token.txt"].map((it) => readFile(join(EXAMPLES, it), "utf8")));
   await tab.write({ bundles, token: token.trim(), own: "ledger", time: String(NOW) });
   assert.equal(await tab.text("verdict-said"), "Refused: BadSignature");

@@ -37,6 +37,8 @@ test("calls leave nothing in the memory of the module", async () => {
   };
   for (let n = 0; n < 100; n++) call();
   const before = library.calls.memory.buffer.byteLength;
-  for (let n = 0; n < 3000; n++) call();
-  assert.equal(library.calls.memory.buffer.byteLength, before);
+  for (let n = 0; n < 3000; n++) {
+    call();
+    assert.equal(library.calls.memory.buffer.byteLength, before, `after ${n} calls`);
+  }
 });

@@ -30,6 +30,8 @@ test("a span has its greatest unit", () => {
 test("a time is read as a person writes it", () => {
   const rows = { 0: 0n, " 12 ": 12n, "18446744073709551615": 2n ** 64n - 1n, "18446744073709551616": undefined, "99999999999999999999": undefined, "": undefined, "1.5": undefined, "-1": undefined,
     "2026-01-01T00:00:00Z": 1767225600n, "2026-01-01T00:00:00.999Z": 1767225600n, "2026-01-01": 1767225600n, "2026-01-01T01:00+01:00": 1767225600n,
-    "1969-12-31T23:59:59Z": undefined, "2026-13-01": undefined, yesterday: undefined, "Thu, 01 Jan 2026 00:00:00 GMT": undefined };
+    "1969-12-31T23:59:59Z": undefined, "2026-13-01": undefined, yesterday: undefined,
+    "2026-02-28": 1772236800n, "2028-02-29T00:00Z": 1835395200n, "2026-02-29": undefined, "2026-02-31T12:00Z": undefined, "2026-04-31T12:00+01:00": undefined,
+    "2026-01-31 12:00 PST": undefined, "2026-01-31T12:00Z (noon)": undefined, "2026-01-01 00:00:00Z": 1767225600n, "2026-01-01T02:00:00-02:00": 1767240000n, "Thu, 01 Jan 2026 00:00:00 GMT": undefined };
   for (const [text, want] of Object.entries(rows)) assert.equal(readTime(text), want, JSON.stringify(text));
 });

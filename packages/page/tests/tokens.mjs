@@ -1,12 +1,13 @@
 // Tokens and keys for the tests: made again in each run, by the cryptography of Node.
 
+import { generateKeyPairSync } from "node:crypto";
+
 const encoder = new TextEncoder();
 const { subtle } = globalThis.crypto;
 
-const EXPONENT = new Uint8Array([1, 0, 1]);
 const KINDS = {
-  RS: (bits, modulusLength) => ({ name: "RSASSA-PKCS1-v1_5", hash: `SHA-${bits}`, modulusLength, publicExponent: EXPONENT }),
-  PS: (bits, modulusLength) => ({ name: "RSA-PSS", hash: `SHA-${bits}`, modulusLength, publicExponent: EXPONENT }),
+  RS: (bits) => ({ name: "RSASSA-PKCS1-v1_5", hash: `SHA-${bits}` }),
+  PS: (bits) => ({ name: "RSA-PSS", hash: `SHA-${bits}` }),
   ES: (bits) => ({ name: "ECDSA", namedCurve: { 256: "P-256", 384: "P-384", 512: "P-521" }[bits] }),
 };
 const SIGNING = {
@@ -17,13 +18,13 @@ const SIGNING = {
 
 export const base64url = (it) => Buffer.from(it).toString("base64url");
 
-/** A key pair: how it signs, and its entry in a bundle. */
+/** A key pair: how it signs, and its entry in a bundle. (It is read again: Node 20 hangs for ever if its collector comes while it writes a key as JWK that it has just made.) */
 export async function makeKey(alg, kid = `key-${alg}`, modulusLength = 2048) {
-  const bits = Number(alg.slice(2));
-  const pair = await subtle.generateKey(KINDS[alg.slice(0, 2)](bits, modulusLength), true, ["sign", "verify"]);
-  const { kty, crv, x, y, n, e } = await subtle.exportKey("jwk", pair.publicKey);
-  const entry = JSON.parse(JSON.stringify({ kty, use: "jwt-svid", kid, crv, x, y, n, e }));
-  const sign = async (input) => new Uint8Array(await subtle.sign(SIGNING[alg.slice(0, 2)](bits), pair.privateKey, encoder.encode(input)));
+  const bits = Number(alg.slice(2)), kind = KINDS[alg.slice(0, 2)](bits), { namedCurve } = kind, der = (type) => ({ type, format: "der" });
+  const made = generateKeyPairSync(namedCurve ? "ec" : "rsa", { namedCurve, modulusLength, publicKeyEncoding: der("spki"), privateKeyEncoding: der("pkcs8") });
+  const { kty, crv, x, y, n, e } = await subtle.exportKey("jwk", await subtle.importKey("spki", made.publicKey, kind, true, ["verify"]));
+  const entry = JSON.parse(JSON.stringify({ kty, use: "jwt-svid", kid, crv, x, y, n, e })), privateKey = await subtle.importKey("pkcs8", made.privateKey, kind, false, ["sign"]);
+  const sign = async (input) => new Uint8Array(await subtle.sign(SIGNING[alg.slice(0, 2)](bits), privateKey, encoder.encode(input)));
   return { alg, kid, entry, sign };
 }
 

@@ -26,6 +26,7 @@ async function shown() {
   return page.run(() => ({
     said: document.getElementById("verdict-said").textContent,
     why: document.getElementById("verdict-why").textContent,
+    kind: document.getElementById("verdict").dataset.verdict, // (which has its colour)
     states: [...document.querySelectorAll("#checks [data-state]")].map((it) => it.dataset.state),
     marked: [...document.querySelectorAll("#token-shown mark")].map((it) => it.textContent).join(""),
     members: [...document.querySelectorAll("#parts .marked")].map((it) => it.querySelector("dt")?.textContent ?? "signature"),
@@ -448,7 +449,7 @@ export function testVerdicts(start) {
   });
 
   test("a second check of a token says Replayed, and the slider goes from before the token until after it", async () => {
-    await page.write({ ...fresh(), token: await signed({ nbf: NOW }) });
+    await page.write({ ...fresh(), token: await signed({ nbf: NOW, iat: NOW - 5000 }) });
     const slide = (it) => page.run((value) => {
       const slider = document.getElementById("slider");
       slider.value = value;
@@ -457,9 +458,13 @@ export function testVerdicts(start) {
     await page.click("live");
     for (const [at, said] of [[0, "Refused: NotYet"], [500, "Accepted"], [1000, "Refused: Expired"]]) {
       await slide(at);
-      assert.equal((await shown()).said, said);
+      const it = await shown();
+      assert.deepEqual([it.said, it.kind], [said, said === "Accepted" ? "accepted" : "refused"]);
       assert.equal(await page.run(() => document.getElementById("live").getAttribute("aria-pressed")), "false");
     }
+    await page.write({ token: await signed({ iat: NOW - 100 }) });
+    await slide(0);
+    assert.equal(await page.run(() => document.getElementById("time").value), String(NOW - 141)); // (a tenth of its life before it, and a second)
     await page.write({ token: await signed({ nbf: 0 }) });
     await slide(0);
     assert.deepEqual([(await shown()).said, await page.run(() => document.getElementById("time").value)], ["Accepted", "0"]);

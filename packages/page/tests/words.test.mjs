@@ -23,10 +23,21 @@ test("a subject that is no SPIFFE ID", async () => {
     DOMAIN_LONG: [`spiffe://${"a".repeat(256)}`], SEGMENT_EMPTY: ["spiffe://a//b"], SEGMENT_DOTS: ["spiffe://a/../b", ".."], PATH_BYTE: ["spiffe://a/b*", "*"],
   };
   assert.equal(Object.keys(texts).length, [...LISTED.keys()].filter((it) => it.startsWith("ID_")).length);
-  for (const [name, [sub, shown]] of Object.entries(texts)) {
+  for (const [name, [sub, shown]] of [...Object.entries(texts), ["PATH_BYTE", ["spiffe://a/b\u{1F600}", "\u{1F600}"]]]) {
     const token = [{ alg: "ES256" }, { sub, aud: "ledger", exp: 1767229200 }].map((it) => base64url(JSON.stringify(it))).join(".") + ".AAAA";
     const { verdict } = await examine(library, { ...input, token });
     assert.equal(verdict.why, `sub is no SPIFFE ID: ${clause(`ID_${name}`)}${shown ? `, ${JSON.stringify(shown)}` : ""}.`);
+  }
+});
+
+test("a character that can't be seen is told by its number", async () => {
+  const part = (it) => base64url(JSON.stringify(it)), head = part({ alg: "ES256" });
+  // (a letter that can be seen is shown, and a blank too)
+  for (const [bad, shown] of [["\u200b", "\\u200b"], ["\u00a0", "\\u00a0"], ["\u202e", "\\u202e"], ["\u0301", "\\u0301"], ["\u{e0001}", "\\ue0001"], ["\n", "\\n"], [" ", " "], ["é", "é"]]) {
+    const misspelt = await examine(library, { ...input, token: `${head.slice(0, 4)}${bad}${head.slice(4)}.e30.AAAA` });
+    assert.equal(misspelt.verdict.why, `The header is misspelt at character 5. "${shown}" is no character of base64url.`);
+    const { verdict } = await examine(library, { ...input, token: `${head}.${part({ sub: `spiffe://a/b${bad}`, aud: "ledger", exp: 1767229200 })}.AAAA` });
+    assert.equal(verdict.why, `sub is no SPIFFE ID: ${clause("ID_PATH_BYTE")}, "${shown}".`);
   }
 });
 

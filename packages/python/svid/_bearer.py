@@ -4,6 +4,7 @@ from __future__ import annotations
 
 import asyncio
 import json
+import time
 from collections.abc import Callable, Iterable, Mapping, Sequence
 from http import HTTPStatus
 from typing import Any, NamedTuple
@@ -105,10 +106,21 @@ class Terms:
         return None if self._caller is None else self._caller(request)
 
     def admit(
-        self, authorization: Sequence[bytes], reuses: bool, caller: bytes | None
+        self,
+        authorization: Sequence[bytes],
+        reuses: bool,
+        caller: bytes | None,
+        come: float | None = None,
     ) -> Admission:
-        """Checks the one token of a request, by the values of all its headers Authorization."""
+        """Checks the one token of a request, by the values of all its headers Authorization.
+
+        come: since when it waits for a thread. Threads are few, and while the store or the disk
+            hangs each is busy for as long as a request may wait: requests queue up, and clients
+            leave. One that is late by now uses up no token.
+        """
         try:
+            if come is not None:
+                self._validator._in_time(come)
             token = _token(authorization)
             if isinstance(token, Admission):
                 return token
@@ -132,9 +144,11 @@ class Terms:
         self, authorization: Sequence[bytes], reuses: bool, caller: bytes | None
     ) -> Admission:
         """Does the same, and lets the event loop go on while the check waits."""
-        if reuses or not self._validator.waits:
+        waits = self._validator.waits and not reuses
+        if not waits and not self._validator._looks_first():
             return self.admit(authorization, reuses, caller)
-        return await asyncio.to_thread(self.admit, authorization, reuses, caller)
+        come = time.monotonic()
+        return await asyncio.to_thread(self.admit, authorization, reuses, caller, come)
 
 
 def _token(authorization: Sequence[bytes]) -> bytes | Admission:

@@ -49,6 +49,23 @@ class Document(NamedTuple):
     text: bytes
 
 
+class Edition(NamedTuple):
+    """Whose keys a validator has, and whose are to come."""
+
+    is_there: bool = True
+    """There is a bundle, or none is to come."""
+    awaited: frozenset[str | None] = frozenset()
+    """The trust domains whose bundle is to come, and did not yet."""
+
+    def awaits(self, domain: str) -> bool:
+        """Whether a token of this trust domain may be good all the same."""
+        return not self.is_there or domain in self.awaited
+
+
+NO_BUNDLE = b"{}"
+"""The text of no bundle, as `joined` writes it."""
+
+
 class Unnamed(BadBundles):
     """The text is the bundle of one trust domain, and was not named."""
 

@@ -13,6 +13,8 @@ from collections.abc import Callable, Sequence
 from typing import NamedTuple, Protocol, cast
 
 from . import _library as lib
+from ._ending import Ending
+from ._looks import Looks
 from .errors import Closed, Forked
 from .stores import Claim, Found, Store, TellingStore
 
@@ -22,6 +24,8 @@ _MOST = 256
 """How many claims share a call."""
 _LONGEST = 60.0
 """For how many seconds a thread waits at once."""
+_REST = 0.05
+"""How many seconds a thread rests that had no memory."""
 _HEARS = 1.0
 """How many seconds pass between two looks at the store's withdrawals."""
 
@@ -51,6 +55,9 @@ class Claimant(Protocol):
     def heard(self, these: Sequence[tuple[bytes, int]], is_whole: bool) -> None:
         """The store tells of withdrawals. Whole: there are no more at the moment."""
 
+    def now(self) -> int:
+        """The time, in seconds since 1970."""
+
 
 def up() -> int:
     """The moment of the clock that only goes ahead, in milliseconds."""
@@ -74,8 +81,10 @@ class Claims:
         self._idle = 0  # threads that wait for claims
         self._asks = True  # whether the store is to say that it is there
         self._silent: float | None = None  # since when the store does not answer
+        self._untold: float | None = None  # since when it does not tell withdrawals
         self._closing = False
-        self._ended = threading.Event()  # what reads withdrawals is to end
+        self._ended = Ending()  # what reads withdrawals is to end
+        self.looks = Looks(self._ended)
         self._heard = threading.Event()  # all withdrawals were read once
         self.deaf = 0
         self.is_there = False  # the store has answered once
@@ -100,27 +109,32 @@ class Claims:
             self._waiting.append(due)
             self._gate.notify()
 
-    def withdraw(self, key: bytes, expires: int, told: Callable[[Exception | None], None]) -> None:
+    def withdraw(
+        self, key: bytes, expires: int, told: Callable[[BaseException | None], None]
+    ) -> None:
         """Withdraws a token in the background, and tells why that failed, or None."""
 
         def work() -> None:
             try:
                 self._store.withdraw(key, expires)
-            except Exception as why:
+            except BaseException as why:  # (a store may raise anything)
                 told(why)
             else:
                 told(None)
 
-        threading.Thread(target=work, name="svid-withdraw", daemon=True).start()
+        try:
+            threading.Thread(target=work, name="svid-withdraw", daemon=True).start()
+        except RuntimeError as why:  # (the process may have no other thread)
+            told(why)
 
     def look(self, wait: float) -> bool:
         """Whether the store has not answered for longer than `wait`. If so it is asked again."""
         with self._gate:
-            if self._silent is None:
-                return False
-            self._asks = True
-            self._gate.notify()
-            return time.monotonic() - self._silent > wait
+            if self._silent is not None:
+                self._asks = True
+                self._gate.notify()
+            since = [it for it in (self._silent, self._untold) if it is not None]
+        return bool(since) and time.monotonic() - min(since) > wait
 
     def close(self) -> None:
         """Lets the threads end. Waits for nothing, since the store may not answer."""
@@ -129,23 +143,51 @@ class Claims:
                 self._closing = True
                 self._gate.notify_all()
             self._ended.set()
+            self.looks.close()
 
     def _grow(self) -> None:
         threading.Thread(target=self._work, name="svid-claims", daemon=True).start()
 
     def _work(self) -> None:
         """Puts claims until it is closed. One thread more than calls are under way does so."""
-        while (these := self._next()) is not None:
+        while True:
             try:
-                # (a store that sorted a list in place would give each answer to another request)
-                claims = tuple(claim for _, claim in these)
-                found = [_packed(it) for it in self._put(claims)]
-                if len(found) != len(these):
-                    raise ValueError(f"{len(these)} claims have {len(found)} answers")
-            except Exception as why:
-                self._failed([due for due, _ in these], why)
-            else:
-                self._answered([due for due, _ in these], found)
+                if (these := self._next()) is None:
+                    return
+                fault = None
+                try:
+                    found = self._found(these)
+                except BaseException as why:  # (a store may raise anything)
+                    fault = why
+                pause = self._over(fault is None)
+                if fault is None:
+                    self._answered([due for due, _ in these], found)
+                else:
+                    self._failed([due for due, _ in these], fault, pause)
+            except MemoryError:  # (whoever waits is late, and later claims need a thread)
+                time.sleep(_REST)
+                self._asks = True  # (nobody may know what the store has answered)
+
+    def _found(self, these: list[tuple[Due, Claim]]) -> list[tuple[bytes, int] | Exception]:
+        """What the store answers to claims. Raises what it does where none has an answer."""
+        # (a store that sorted a list in place would give each answer to another request)
+        claims = tuple(claim for _, claim in these)
+        found = [_packed(it) for it in self._put(claims)]
+        if len(found) != len(these):
+            raise ValueError(f"{len(these)} claims have {len(found)} answers")
+        faults = [it for it in found if isinstance(it, Exception)]
+        if faults and len(faults) == len(found):
+            raise faults[0]
+        return found
+
+    def _over(self, is_answered: bool) -> int:
+        """A call is over. Says how many milliseconds its claims rest, if they have no answer."""
+        with self._gate:
+            if is_answered:
+                lib.quick.svid_pacing_answered(self._pacing_at)
+                return 0
+            pause: int = lib.quick.svid_pacing_unanswered(self._pacing_at)
+            return pause
 
     def _put(self, claims: Sequence[Claim]) -> Sequence[Found | Exception]:
         """Puts claims. One of them may have an answer though another one has none."""
@@ -157,18 +199,29 @@ class Claims:
         position, last, was_well = "", "", True
         while not self._ended.is_set():
             try:
+                if self._untold is None:
+                    self._untold = time.monotonic()
+                self.looks.begin(self._now())
                 position, last = last, self._heard_after(last)
-                was_well = True
+                self._untold, was_well = None, True
             except (Closed, Forked):
                 return
-            except Exception as why:
+            except BaseException as why:  # (a store may raise anything)
                 position = last
                 if was_well:
                     with contextlib.suppress(Exception):
                         _LOG.warning("the group's store tells no withdrawals: %s", why)
                 was_well = False
             if position == last:
+                self.looks.end()
                 self._ended.wait(_HEARS)
+
+    def _now(self) -> int:
+        """The claimant's time."""
+        claimant = self._claimant()
+        if claimant is None:
+            raise Closed
+        return claimant.now()
 
     def _heard_after(self, position: str) -> str:
         """Reads the withdrawals that came after a position, and says up to which it has read."""
@@ -210,13 +263,14 @@ class Claims:
         claims = [(it, claim) for it in these if claimant and (claim := claimant.send(it))]
         if not claims and not self._asks:
             return None
-        self._asks = False
-        lib.quick.svid_pacing_sent(self._pacing_at, moment)
         if self._silent is None:
             self._silent = time.monotonic()
         if self._idle == 1:
-            with contextlib.suppress(RuntimeError):  # (the process may have no other thread)
+            # (the process may have no other thread, or no memory for it)
+            with contextlib.suppress(RuntimeError, MemoryError):
                 self._grow()
+        self._asks = False
+        lib.quick.svid_pacing_sent(self._pacing_at, moment)  # (from here on nothing may fail)
         return claims
 
     def _pause(self) -> float | None:
@@ -230,11 +284,7 @@ class Claims:
         """The store has answered a call. A claim without an answer is put again."""
         answers = [(due, it) for due, it in zip(these, found) if not isinstance(it, Exception)]
         others = [due for due, it in zip(these, found) if isinstance(it, Exception)]
-        if others and not answers:
-            self._failed(these, next(it for it in found if isinstance(it, Exception)))
-            return
         with self._gate:
-            lib.quick.svid_pacing_answered(self._pacing_at)
             self._silent = self._silent if others else None
             self.deaf = max([self.deaf, *(deaf for _, (_, deaf) in answers)])
             self.is_there = True
@@ -243,17 +293,16 @@ class Claims:
         claimant = self._claimant()
         if claimant is None:
             return
-        with contextlib.suppress(Exception):  # (it may be closed)
+        with contextlib.suppress(Closed, Forked):
             if not self._announced.is_set():
                 claimant.reached()
                 self._announced.set()
             for due, (answer, _) in answers:
                 claimant.found(due.number, answer)
 
-    def _failed(self, these: list[Due], why: Exception) -> None:
+    def _failed(self, these: list[Due], why: BaseException, pause: int) -> None:
         """A call has ended without an answer: its claims are put again."""
         with self._gate:
-            pause = lib.quick.svid_pacing_unanswered(self._pacing_at)
             self._later.append((up() + pause, these))
         if pause == lib.PACING_FIRST[2]:  # (it had answered before)
             with contextlib.suppress(Exception):  # (who is warned must not end the claims)

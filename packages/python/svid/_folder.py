@@ -38,7 +38,7 @@ class Folder:
 
     def __init__(self, path: Path) -> None:
         """Makes the folder where it is not there, and locks it. Raises Held."""
-        self.path = pathlib.Path(path)
+        self.path = pathlib.Path(path).absolute()  # (the process may change its folder)
         self._make()
         self._own: list[int] = []
         try:

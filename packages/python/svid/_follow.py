@@ -11,7 +11,17 @@ import threading
 from collections.abc import Callable, Iterable, Mapping
 from typing import NamedTuple
 
-from ._bundles import Bundles, Document, Unnamed, bundle_text, contents, joined
+from ._bundles import (
+    NO_BUNDLE,
+    Bundles,
+    Document,
+    Edition,
+    Unnamed,
+    bundle_text,
+    contents,
+    joined,
+)
+from ._ending import Ending
 from .errors import BadBundles, Closed, Forked
 from .sources import LIMIT, Ends, Endpoint, ForGood, WorkloadApi, bearable, fetch, watch
 
@@ -65,7 +75,7 @@ class Followed:
         self._faults: dict[_Key, str] = {}
         self._pauses: dict[_Key, float] = {}
         self._has_news = False
-        self._ended = threading.Event()
+        self._ended = Ending()
         self._ends = Ends()
         self._threads: list[threading.Thread] = []
         self._taker: _Taker = _nobody
@@ -101,22 +111,18 @@ class Followed:
                 else:
                     self._files.append(_Key(os.fspath(it), name))
 
-    def text(self) -> bytes:
-        """All bundles, as the library takes them. Raises BadBundles."""
-        these = sorted((self._kept.copy() | self._in_files).items(), key=lambda it: str(it[0]))
+    def now(self) -> tuple[bytes, Edition]:
+        """All bundles, as the library takes them, and whose they are. Raises BadBundles."""
+        kept = self._kept.copy() | self._in_files
+        these = sorted(kept.items(), key=lambda it: str(it[0]))
         if len(these) == 1:
-            return these[0][1].text
-        return joined([Document(where or str(name), None, it.text) for (where, name), it in these])
-
-    @property
-    def is_there(self) -> bool:
-        """Whether there are bundles, or no more are to come."""
-        return bool(self._kept or self._in_files or not self._addresses)
-
-    def awaits(self, domain: str) -> bool:
-        """Whether the bundle of a trust domain is to come from an address, and did not yet."""
-        these = (it.domain for it in self._addresses if it not in self._kept)
-        return not self.is_there or domain in these
+            text = these[0][1].text
+        else:
+            named = [(where or str(name), it.text) for (where, name), it in these]
+            text = joined([Document(what, None, it) for what, it in named])
+        follows = self._addresses or self._files or self._folder is not None
+        awaited = frozenset(it.domain for it in self._addresses if it not in kept)
+        return text, Edition(text != NO_BUNDLE or not follows, awaited)
 
     # -- Threads
 
@@ -194,10 +200,10 @@ class Followed:
 
     def _fault(self, key: _Key, why: Exception | None) -> None:
         """Tells what is wrong with a source, if that is news, or that it is well again."""
-        said = None if why is None else f"{why}"[:1024]
+        said = None if why is None else _printable(f"{why}"[:1024])
         if self._faults.get(key) == said:
             return
-        where = key.where if key.domain is None else f"{key.domain}, {key.where}"
+        where = _printable(key.where if key.domain is None else f"{key.domain}, {key.where}")
         with contextlib.suppress(Exception):  # (who is warned must not end the following)
             if said is None:
                 del self._faults[key]
@@ -299,6 +305,11 @@ class Followed:
         if key not in self._kept or self._kept[key].raw != raw:
             self._kept[key] = _Kept(raw, _judged(key, raw, keys))
             self._has_news = True
+
+
+def _printable(text: str) -> str:
+    """A text that a terminal shows: a server may have written some of it."""
+    return "".join(it if it.isprintable() else ascii(it)[1:-1] for it in text)
 
 
 def _judged(key: _Key, raw: bytes, keys: bool = False) -> bytes:

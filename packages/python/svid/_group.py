@@ -169,11 +169,12 @@ class GroupStore(abc.ABC):
     def _hear(self, end: float) -> None:
         """Reads the withdrawals that have come."""
         while True:
-            these, last = self._withdrawals(self._position, end)
+            after = self._position
+            these, last = self._withdrawals(after, end)
             with self._lock:
                 self._know(these)
-                done, self._position = self._position == last, last
-            if done:
+                self._position = last
+            if last == after:
                 self._heard = True
                 return
 
@@ -262,7 +263,7 @@ def found_of(answer: Answer, claim: Claim, n: int) -> Found | StoreFault:
     if not answer.cells:  # (each is there by this call)
         return Found(claim.owner, answer.time, answer.deaf)
     cell = answer.cells[n * CELL : (n + 1) * CELL]
-    if cell[0] == 1:
+    if cell[0] in (1, _statements.STORED):
         return Found(cell[1:], answer.time, answer.deaf)
     return StoreFault(_statements.OF_CELL.get(cell[0], "answer"))
 
@@ -300,4 +301,6 @@ class End:
 
     def wait(self, seconds: float) -> None:
         """Waits for so long, or until the end."""
-        select.select([self._reader], [], [], seconds)
+        poll = select.poll()  # (which takes a descriptor of any number)
+        poll.register(self._reader, select.POLLIN)
+        poll.poll(seconds * 1000)

@@ -11,9 +11,9 @@ from collections.abc import Callable, Iterator
 from typing import Any
 
 from . import _library as lib
-from ._bundles import bundle_words
+from ._bundles import Edition, bundle_words
 from ._signatures import Verifies
-from ._token import Token
+from ._token import Token, says
 from ._words import REASONS, no_memory, reason, said
 from .errors import (
     REFUSALS,
@@ -26,6 +26,7 @@ from .errors import (
     NotAllowed,
     TooFar,
     Unavailable,
+    UnknownDomain,
 )
 from .records import Accepted, Use, entries, news_of_twice
 
@@ -65,6 +66,7 @@ class Handle:
         validator_id: bytes,
         own: list[bytes],
         bundles: bytes,
+        edition: Edition,
     ) -> None:
         """Opens it, for these audiences. Raises BadBundles."""
         self._lock: threading.Lock | _LeftBehind = threading.Lock()
@@ -78,7 +80,7 @@ class Handle:
         self._room_at = lib.address(self._room)
         self._used_at = lib.address(self._used)
         self._out = (self._room_at, _ROOM_SIZE, self._used_at)
-        self._bundles = object()  # another one for each renewal
+        self._bundles = edition  # another one for each renewal
         terms = lib.Terms(longest, ahead, step, (ctypes.c_uint8 * 16)(*validator_id))
         names, lens = b"".join(own), (ctypes.c_size_t * len(own))(*map(len, own))
         lent = (lib.address(terms), names, len(names), lib.address(lens), len(own))
@@ -110,10 +112,11 @@ class Handle:
         if isinstance(self._lock, _LeftBehind):
             raise Forked
 
-    def renew(self, bundles: bytes) -> None:
+    def renew(self, bundles: bytes, edition: Edition) -> None:
         """Replaces the bundles. Raises BadBundles, and then the old ones stay.
 
         They are read before the lock is taken, and the old ones are freed after it.
+        edition: another object than that of the old ones.
         """
         words, told = (ctypes.c_uint64 * 2)(), lib.Told()
         at = lib.address(words)
@@ -125,9 +128,13 @@ class Handle:
                 status = lib.library.svid_validator_renew_by(self._at, at, self._told_at)
                 if status != lib.OK:
                     raise self._fault(status)
-                self._bundles = object()
+                self._bundles = edition
+                self._renewed()
         finally:
             lib.library.svid_bundles_close(at)
+
+    def _renewed(self) -> None:
+        """The bundles are other ones, and the lock is held."""
 
     def read(self, text: bytes, now: int) -> Token:
         """Reads a token. Raises Refused for what is none, and then advances the record too."""
@@ -147,7 +154,7 @@ class Handle:
                     continue
                 status = call(*at, *token.evidence, token.at, *self._out, self._told_at)
                 if status != lib.OK:
-                    raise self._fault(status)
+                    raise self._refusal(status, token)
                 expires, moment, key, validator_id = _USE.unpack(self._used)
                 return Accepted(self._subject(), Use(expires, key, validator_id, moment))
 
@@ -268,6 +275,14 @@ class Handle:
         if status != lib.OK:
             raise self._fault(status)
         return bytes(room)
+
+    def _refusal(self, status: int, token: Token) -> Exception:
+        """The exception for a status of a token, which was judged by `token.bundles`."""
+        if REFUSALS.get(status) is UnknownDomain and token.bundles is not None:
+            domain = says(token.text).trust_domain
+            if token.bundles.awaits(domain):
+                return Unavailable(f"the bundle of {domain} was not read yet", "NoBundle")
+        return self._fault(status)
 
     def _fault(self, status: int) -> Exception:
         return fault(status, self._told)

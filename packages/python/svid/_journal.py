@@ -173,11 +173,12 @@ class _Keeper:
         try:
             self._numbers = self._read()
             self._make_calls(None)
+            self._thread = threading.Thread(target=self._work, name="svid-journal", daemon=True)
+            self._thread.start()
         except BaseException:
+            _close(self._file)
             folder.close()
             raise
-        self._thread = threading.Thread(target=self._work, name="svid-journal", daemon=True)
-        self._thread.start()
         _keepers.add(self)
 
     def load(self, take: Callable[[bytes], None]) -> None:
@@ -210,6 +211,8 @@ class _Keeper:
         self._stand()
         with self._switching:
             self._stand()
+            if self._broken is not None:
+                raise Unavailable(str(self._broken))
             self._numbers.begin()
             self._pause = time.monotonic() + _PAUSE
             self._make_calls(parts)
@@ -443,6 +446,9 @@ class _Keeper:
         except OSError as why:
             self._numbers.failed()
             return self._end_moved(why)
+        except MemoryError as why:  # (the next write goes over this one)
+            self._numbers.unwritten()
+            return why
         self._numbers.synced()
         self._marked = not payload
         return None

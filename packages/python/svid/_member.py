@@ -19,6 +19,7 @@ from collections.abc import Callable, Sequence
 from typing import Any, NamedTuple, TypeVar
 
 from . import _library as lib
+from ._bundles import Edition
 from ._claims import Claims, Due, up
 from ._handle import Handle, fault
 from ._journal import Journal
@@ -32,6 +33,8 @@ from .stores import Claim, Store
 _DEED = struct.Struct("=QQQQQQ32s16s")
 _BEGIN = struct.Struct("=QQ")  # what is to be done, and for which request
 _LONGEST = 2.0**63
+_LOOKS = 0.75
+"""For which part of its time a request waits until withdrawals are read."""
 _Call = Callable[..., int]
 _T = TypeVar("_T")
 
@@ -103,12 +106,12 @@ class Member(Handle):
         validator_id: bytes,
         own: list[bytes],
         bundles: bytes,
-        bundled: bool,
+        edition: Edition,
         clock: Callable[[float | None], int],
     ) -> None:
         """Opens it. It judges no token before `begin`.
 
-        clock: gives the time of now. bundled: it has bundles, or none are to come.
+        clock: gives the time of now.
         """
         super().__init__(
             longest=longest,
@@ -117,20 +120,23 @@ class Member(Handle):
             validator_id=validator_id,
             own=own,
             bundles=bundles,
+            edition=edition,
         )
         self._wait = min(wait, threading.TIMEOUT_MAX)
         self._longest = longest
         self._journal = journal
         self._clock = clock
-        self._bundled = bundled
         tells = mode != "strict" and hasattr(store, "withdrawals")
         self._claims = None if store is None else Claims(store, self, tells)
+        self._looks = None if self._claims is None or not tells else self._claims.looks
         self._has_heard = not tells
         late = "NotClaimed" if mode in ("strict", "bound") else "NotKept"
         self._reasons = {**REASONS, lib.LATE: late if journal or store else "NotJudged"}
         if self._claims is not None:
             weakref.finalize(self, self._claims.close).atexit = False
         self._life = os.urandom(16)
+        self._known = lib.Known(loaded=1, joined=1, caught_up=1)
+        self._known_at = lib.address(self._known)
         self._is_bound = mode == "bound"
         self._open: dict[int, Request] = {}
         self._withdrawals: dict[int, _Ends] = {}
@@ -175,10 +181,26 @@ class Member(Handle):
         request = Request(self.read(text, clock()), clock, caller, verifies)
         try:
             self._come(request)
+            self._look()
             return self._see_through(request)
         finally:
             self._leave(request)
             request.token.close()
+
+    def judge(self, token: Token, now: int, verifies: Verifies) -> Accepted:
+        """As `Handle.judge`. It looks at the store's withdrawals first where that is due."""
+        self.stand()
+        self._look()
+        return super().judge(token, now, verifies)
+
+    def looks_first(self) -> bool:
+        """Whether a token waits until the store's withdrawals are read."""
+        return self._looks is not None and self._looks.is_due(self.now())
+
+    def in_time(self, come: float) -> None:
+        """Raises Unavailable if a request that came at this moment is late."""
+        if time.monotonic() - come > self._wait:
+            raise Unavailable(said(lib.LATE), self._reasons[lib.LATE])
 
     def withdraw(self, now: int, key: bytes, expires: int) -> Use:
         """Withdraws a token, everywhere. Raises Gone, and Unavailable if a keeper may lack it."""
@@ -256,11 +278,9 @@ class Member(Handle):
             self._has_heard = True
             self._know()
 
-    def has_bundles(self, bundled: bool) -> None:
-        """Whether there are bundles, or none are to come."""
-        if bundled != self._bundled:
-            self._bundled = bundled
-            self._know()
+    def now(self) -> int:
+        """The time, in seconds since 1970."""
+        return self._clock(None)
 
     def _own(self, request: Request, due: Due, owner: Any) -> None:
         """Writes whose the claim of a request is."""
@@ -280,6 +300,11 @@ class Member(Handle):
                 raise Unavailable("no more requests can be told apart: open another validator")
             self._open[request.number] = request
             request.end = time.monotonic() + self._wait
+
+    def _look(self) -> None:
+        """Waits until the store's withdrawals are read, where nobody has looked for long."""
+        if self._looks is not None and self._looks.is_due(now := self.now()):
+            self._looks.wait(now, _LOOKS * self._wait)
 
     def _see_through(self, request: Request) -> Accepted:
         """Does what is to be done for a request, until it is answered."""
@@ -350,7 +375,7 @@ class Member(Handle):
         if deed.status in self._reasons:
             text = said(deed.status) + (f" ({request.why})" if request.why else "")
             raise Unavailable(text, self._reasons[deed.status]) from request.why
-        raise fault(deed.status)
+        raise self._refusal(deed.status, request.token)
 
     def _leave(self, request: Request) -> None:
         """Nobody waits for the answer any more."""
@@ -427,6 +452,10 @@ class Member(Handle):
         if status != lib.OK:
             raise fault(status)
 
+    def _renewed(self) -> None:
+        self._known.bundled = self._bundles.is_there
+        self._check(lib.quick.svid_member_know(self._at, self._known_at))
+
     # -- Calls that take the lock
 
     def _make(self, call: _Call, *lent: Any) -> None:
@@ -436,15 +465,16 @@ class Member(Handle):
     def _know(self, now: int = 0, jumped: bool = False) -> None:
         """Tells the library what the validator has."""
         claims = self._claims
-        known = lib.Known(loaded=1, joined=1, caught_up=1, jumped=jumped)
-        known.away = claims is not None and claims.look(self._wait)
-        known.deaf = claims is not None and claims.deaf >= now + self._longest
+        away = claims is not None and claims.look(self._wait)
+        deaf = claims is not None and claims.deaf >= now + self._longest
         with self._lock:
+            known = self._known
+            known.away, known.deaf, known.jumped = away, deaf, jumped
             # (read with the lock held: who looked earlier must not say later that the store was
             # not reached)
             known.opened = claims is None or claims.is_there
-            known.bundled, known.heard = self._bundled, self._has_heard
-            self._check(lib.quick.svid_member_know(self._at, lib.address(known)))
+            known.heard = self._has_heard
+            self._renewed()
 
     def _bring(self, number: int, use: Use) -> None:
         """Brings a withdrawal to its keepers."""
@@ -460,7 +490,7 @@ class Member(Handle):
         else:
             self._journal.keep(use.message, at_disk)
 
-    def _told_of(self, number: int, keeper: int, why: Exception | None) -> None:
+    def _told_of(self, number: int, keeper: int, why: BaseException | None) -> None:
         """A keeper has a withdrawal, or may not have it."""
         with contextlib.suppress(Closed), self._lock:
             self._ended(lib.quick.svid_withdrawal_told, number, keeper, why is None)

@@ -61,8 +61,8 @@ STATEMENTS: dict[str, str] = {
     "withdrawals": (
         "SELECT w.this::text || '/' || w.last, coalesce(w.these, ''::bytea) FROM (SELECT "
         "$1::text AS t) AS p CROSS JOIN LATERAL (SELECT CASE WHEN p.t ~ "
-        "'^[0-9a-f]{8}(-[0-9a-f]{4}){3}-[0-9a-f]{12}/[0-9]{1,18}$' THEN p.t END AS t) AS q "
-        "CROSS JOIN LATERAL {S}.withdrawals(split_part(q.t, '/', 1)::uuid, "
+        "'^[0-9a-f]{8}(-[0-9a-f]{4}){3}-[0-9a-f]{12}/([0-9]{1,18}|[1-8][0-9]{18})$' THEN p.t "
+        "END AS t) AS q CROSS JOIN LATERAL {S}.withdrawals(split_part(q.t, '/', 1)::uuid, "
         "coalesce(split_part(q.t, '/', 2)::bigint, 0)) AS w"
     ),
     "lacking": (
@@ -108,19 +108,22 @@ CODES: dict[str, str] = {
 }
 OF_STATUS: dict[int, str] = {1: "run", 4: "run", 2: "back", 3: "unlooked"}
 OF_CELL: dict[int, str] = {0: "gone", 2: "late"}
+STORED = 3
 QUARANTINE = 4
 MOST_CALLS = 8
 MOST_LEFT = 100
 PIECES = 10_000
 MOST_EXPIRY = 4_611_686_018_427_387_904
-RECENT_MARKS = 4
-MOST_MARKS = 16
+RECENT_MARKS = 8
+MOST_MARKS = 64
 DIAL_WAIT = 2_000
 STATE_EVERY = 1_000
 STATE_WAIT = 1_500
 HEAR_WAIT = 1_000
+MOST_UNLOOKED = 7_000
 LOOK_EVERY = 500
 LOOK_WAIT = 2_000
+SOON = 1_000
 MOST_AGE = 2_900
 STEP_BACK = 60_000
 LEAST_MARGIN = 60_000

@@ -8,6 +8,7 @@ import struct
 from typing import Any, NamedTuple
 
 from . import _library as lib
+from ._bundles import Edition
 from ._signatures import Verifies
 from ._words import no_memory
 from .errors import REFUSALS
@@ -76,7 +77,7 @@ class Token:
         """Reads it. `status` says whether it is a token. Close it in the end."""
         self.text = text
         self.evidence = NO_KEY
-        self.bundles: object = None  # those whose keys were asked about
+        self.bundles: Edition | None = None  # those whose keys were asked about
         self._read = _Read()
         self.told = self._read.told
         self.at = ctypes.byref(self._read)

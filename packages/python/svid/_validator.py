@@ -13,7 +13,7 @@ import threading
 import time
 import weakref
 from collections.abc import Callable, Iterable, Iterator
-from typing import TypeVar
+from typing import Any, TypeVar
 
 from . import _library as lib
 from ._allow import allows, patterns
@@ -24,7 +24,7 @@ from ._local import LocalStore
 from ._member import Member
 from ._signatures import Verifier, Verifies
 from ._token import says
-from .errors import BadMessages, NotAllowed, Refused, Unavailable, UnknownDomain
+from .errors import BadMessages, NotAllowed, Refused
 from .records import Accepted, Report, Use
 from .stores import Store
 
@@ -135,7 +135,8 @@ class Validator:
             at least 0.001.
         clock: gives the time in seconds since 1970 (`svid.testing.Clock`).
         on_refusal: is called with each refusal of `check` and `judge` before they raise it. By
-            default the logger "svid" has its name, at the level INFO.
+            default the logger "svid" has its name, at the level INFO. It has what a hook raises,
+            too, which changes no answer.
         on_twice: is called with the key (`Use.key`) of a token that several validators accepted,
             when `take` learns that. By default the logger "svid" has a warning.
 
@@ -182,6 +183,7 @@ class Validator:
         elif validator_id is None:
             validator_id = os.urandom(16)
         try:
+            text, edition = self._followed.now()
             if mode == "bound" and store is None and state is not None:
                 claims = pathlib.Path(os.fsdecode(state)) / "claims"
                 now = functools.partial(self._seconds, None)
@@ -191,8 +193,8 @@ class Validator:
                 **terms,
                 validator_id=validator_id,
                 own=own,
-                bundles=self._followed.text(),
-                bundled=self._followed.is_there,
+                bundles=text,
+                edition=edition,
                 clock=self._seconds,
                 mode=mode,
                 wait=wait,
@@ -201,7 +203,8 @@ class Validator:
                 store=store,
             )
             self._start()
-            self._follow()
+            self._follow(self._followed)
+            self._drop_later()
         except BaseException:
             self._followed.drop()
             self._end_folders()
@@ -217,6 +220,14 @@ class Validator:
     def waits(self) -> bool:
         """Whether `check` waits for a disk or a store: an event loop needs a thread for it."""
         return self._journal is not None or self._mode in _CLAIMS
+
+    def _looks_first(self) -> bool:
+        """Whether `check` and `judge` wait until the store's withdrawals are read."""
+        return self._handle.looks_first()
+
+    def _in_time(self, come: float) -> None:
+        """Raises Unavailable if a request that came at this moment is late."""
+        self._handle.in_time(come)
 
     @property
     def ready(self) -> bool:
@@ -260,13 +271,17 @@ class Validator:
         try:
             accepted = self._handle.check(text, clock, who, self._verifies)
         except (Refused, NotAllowed) as why:
-            self._tell(why, text)
+            _hear(self._on_refusal, why)
             raise
         self._tidy()
         return self._told(accepted, text)
 
     def judge(self, token: Token, now: float | None = None) -> Accepted:
-        """Answers what `check` would, but the record gains no use: `check` may still accept it."""
+        """Answers what `check` would, but the record gains no use: `check` may still accept it.
+
+        It asks no store and knows no caller: a token that another validator accepted, or, in mode
+        "bound", another caller's, may seem good to it.
+        """
         moment, text = self._seconds(now), _bytes(token)
         try:
             read = self._handle.read(text, moment)
@@ -277,7 +292,7 @@ class Validator:
             if self._callers and not any(allows(it, accepted.spiffe_id) for it in self._callers):
                 raise NotAllowed
         except (Refused, NotAllowed) as why:
-            self._tell(why, text)
+            _hear(self._on_refusal, why)
             raise
         return self._told(accepted, text)
 
@@ -313,7 +328,7 @@ class Validator:
         BadMessages, and then takes none of them. At most 67,108,864 bytes.
         """
         for key in self._handle.take_and_tell(self._seconds(now), _lent(messages)):
-            self._on_twice(key)
+            _hear(self._on_twice, key)
 
     def parts(self, size: int = _PIECE) -> Iterator[bytes]:
         """The record as messages, each of at most so many bytes, which are 82 or more.
@@ -401,19 +416,27 @@ class Validator:
         with self._renewing:
             before = self._followed
             now = Followed(before.given if bundles is None else bundles, before)
-            self._use(now)
+            try:
+                self._follow(now)
+                self._use(now)
+            except BaseException:
+                now.drop()
+                raise
             self._dropping.detach()
             before.drop()
             self._followed = now
-            self._follow()
+            self._drop_later()
         before.close()
 
-    def _follow(self) -> None:
-        """Begins to follow the sources of the bundles."""
+    def _follow(self, followed: Followed) -> None:
+        """Begins to follow the sources of bundles."""
         # (its threads must not keep the validator)
+        followed.begin(weakref.WeakMethod(self._take), self._refresh)
+
+    def _drop_later(self) -> None:
+        """Lets the threads that follow the bundles end with the validator."""
         self._dropping = weakref.finalize(self, self._followed.drop)
         self._dropping.atexit = False
-        self._followed.begin(weakref.WeakMethod(self._take), self._refresh)
 
     def _take(self, followed: Followed) -> None:
         """Takes bundles that have changed, unless others are followed by now."""
@@ -422,19 +445,9 @@ class Validator:
                 self._use(followed)
 
     def _use(self, followed: Followed) -> None:
-        self._handle.renew(followed.text())
-        self._handle.has_bundles(followed.is_there)
+        self._handle.renew(*followed.now())
         if isinstance(self._verifies, Verifier):
             self._verifies.forget()
-
-    def _tell(self, why: Refused | NotAllowed, token: bytes) -> None:
-        """Tells a refusal. Raises Unavailable if the bundle of the trust domain is to come."""
-        if isinstance(why, UnknownDomain):
-            domain = says(token).trust_domain
-            if self._followed.awaits(domain):
-                text = f"the bundle of {domain} was not read yet"
-                raise Unavailable(text, "NoBundle") from None
-        self._on_refusal(why)
 
     def _told(self, accepted: Accepted, token: bytes) -> Accepted:
         """An acceptance, with what the token says."""
@@ -499,6 +512,15 @@ def _names(audiences: str | Iterable[str]) -> list[bytes]:
     if not names or not all(names):
         raise ValueError("audiences are one or more names, and none of them is empty")
     return [name.encode() for name in names]
+
+
+def _hear(hook: Callable[[Any], object], what: object) -> None:
+    """Tells a hook, whatever that does."""
+    try:
+        hook(what)
+    except Exception:
+        with contextlib.suppress(Exception):
+            _LOG.warning("a hook of the service failed", exc_info=True)
 
 
 def _log_refusal(why: Refused | NotAllowed) -> None:

@@ -29,8 +29,10 @@ class SvidMiddleware:
     signature. A check that waits for a disk or a store runs in a thread.
 
     `reuse` are paths where a token is checked, and stays good: it may come again, there and once
-    elsewhere. It is refused there, too, once it was used elsewhere. It may also be a function of
-    the scope that returns True or False, as `lambda scope: scope.get("method") == "GET"`.
+    elsewhere. It is refused there, too, once it was used elsewhere in this process. No store is
+    asked there, and in mode "bound" a token is good there whoever sends it (`Validator.judge`). It
+    may also be a function of the scope that returns True or False, as
+    `lambda scope: scope.get("method") == "GET"`.
 
     `open_paths` are paths that need no token, as those of health checks. There the scope has no
     SPIFFE ID and no acceptance, whatever stood in it, and a token is not looked at.

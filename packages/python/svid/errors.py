@@ -188,7 +188,8 @@ class Refused(Error):
         return type(self).__name__
 
     def __str__(self) -> str:
-        return f"{self.name}: {' '.join((type(self).__doc__ or '').split())}"
+        number = next((it for it, kind in REFUSALS.items() if isinstance(self, kind)), None)
+        return self.name if number is None else f"{self.name}: {said(number)}"
 
 
 # lists:begin refusals (written by tools/lists from lists/refusals.toml)

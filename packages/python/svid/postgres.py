@@ -187,8 +187,7 @@ class PostgresStore(GroupStore):
                 ]
             return [why] * len(claims)
         found = [found_of(answer, claim, n) for n, claim in enumerate(claims)]
-        mine = [it for it, is_ in zip(claims, found) if getattr(is_, "owner", None) == it.owner]
-        self._keep(mine, answer.epoch)
+        self._keep(claims, found, answer)
         return found
 
     def _withdraw(self, key: bytes, expires: int, end: float) -> bytes:
@@ -198,22 +197,30 @@ class PostgresStore(GroupStore):
         found = found_of(answer, one, 0)
         if isinstance(found, StoreFault):
             raise found
-        if found.owner == WITHDRAWN:
-            self._keep([one], answer.epoch)
+        self._keep([one], [found], answer)
         return found.owner
 
     def _withdrawals(self, after: str, end: float) -> tuple[list[tuple[bytes, int]], str]:
         ((last, these),) = self._call("withdrawals", [after.replace("\0", " ")], end)
         return withdrawals_of(these), last
 
-    def _keep(self, mine: list[Claim], epoch: str) -> None:
-        """Keeps the claim in mind that lives longest: each look asks whether it is there."""
-        if not mine:
-            return
-        one = max(mine, key=lambda it: it.expires)
+    def _keep(
+        self, claims: Sequence[Claim], found: Sequence[Found | StoreFault], answer: Answer
+    ) -> None:
+        """Keeps claims in mind: each look asks whether they are there.
+
+        Of those that the call stored it is the one that lives longest.
+        """
+        mine = [n for n, it in enumerate(claims) if getattr(found[n], "owner", None) == it.owner]
+        stored = [claims[n] for n in mine if _is_stored(answer, n)]
         with self._lock:
-            if self._epoch == epoch:
-                self._marks = _marked(self._marks, one)
+            if self._epoch != answer.epoch:
+                return
+            for n in mine:
+                if not _is_stored(answer, n):
+                    self._marks = _marked_late(self._marks, claims[n])
+            if stored:
+                self._marks = _marked(self._marks, max(stored, key=lambda it: it.expires))
 
     def _decide(self, name: str, values: list[_Value], count: int, end: float) -> Answer:
         """Calls a function that answers as put does for so many claims.
@@ -256,11 +263,15 @@ class PostgresStore(GroupStore):
         """
         self._same_process()
         with self._connection(end) as one:
+            begun = time.monotonic()
             rows = one.call(self._statements[name], values, end)
             if confirm and self._replicas > 1:
                 kept = one.call(self._statements["kept"], [self._replicas], end)
                 if kept != [[1]]:
                     raise StoreFault("alone")
+            if confirm and (time.monotonic() - begun) * 1000 > _statements.SOON:
+                # (it may be gone, and who was away would see that later than its answer)
+                one.call(self._statements["role"], [], end)
         self._servers.counts(one.at)
         return rows
 
@@ -342,6 +353,25 @@ def _answered(rows: list[list[Any]], count: int) -> Answer:
     digits = epoch.hex()
     name = "-".join((digits[:8], digits[8:12], digits[12:16], digits[16:20], digits[20:]))
     return Answer(status, moment, deaf, name, answer[_HEAD.size :])
+
+
+def _is_stored(answer: Answer, n: int) -> bool:
+    """Whether the call stored the claim with a number, where it is there."""
+    return not answer.cells or answer.cells[n * CELL] == _statements.STORED
+
+
+def _marked_late(marks: list[Claim], one: Claim) -> list[Claim]:
+    """Marks with one more, which an earlier call had stored, whose answer may not have come.
+
+    Its order at the server is not known.
+    """
+    if any(it.key == one.key for it in marks):
+        return marks
+    older, last = marks[: -_statements.RECENT_MARKS], marks[-_statements.RECENT_MARKS :]
+    if len(older) == _statements.MOST_MARKS - _statements.RECENT_MARKS:
+        older.pop()
+    older = sorted([*older, one], key=lambda it: -it.expires)
+    return [*older, *last]
 
 
 def _marked(marks: list[Claim], one: Claim) -> list[Claim]:

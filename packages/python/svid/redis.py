@@ -39,7 +39,7 @@ from ._group import (
     warn_of_end,
     withdrawals_of,
 )
-from ._statements import MOST_CALLS, STATE_WAIT
+from ._statements import MOST_CALLS, MOST_MARKS, STATE_WAIT
 from .stores import WITHDRAWN, Claim, Found
 
 __all__ = ["RedisStore", "State", "StoreFault"]
@@ -81,8 +81,13 @@ class _Known(NamedTuple):
     """The greatest time that was seen in the epoch."""
     life: tuple[int, int] = (0, 0)
     """The last number of this member that the server has answered, and when."""
-    mark: bytes = b""
-    """The last entry that is new."""
+    marks: tuple[bytes, ...] = ()
+    """Of each call that may have put this member's last entry."""
+
+    @property
+    def run(self) -> bytes:
+        """The server's, whose entries were compared."""
+        return self.record.split(b" ")[7] if self.record else b""
 
 
 class _Shard:
@@ -290,14 +295,14 @@ class RedisStore(GroupStore):
             with self._lock:
                 it.count += 1
                 counts[it], known = it.count, it.known
-            values = [counts[it], secrets.token_hex(16), *terms, *known.life, known.mark]
+            values = [counts[it], secrets.token_hex(16), *terms, *known.life, b"".join(known.marks)]
             calls[it] = known, [*values, it.checked, *settings]
         answers = self._run(one, "state", calls, end, late)
         waits, pause = [], 0
         fault: StoreFault | None = None
         for it, (what, more, checked, *rest) in zip(shards, answers):
             if what == b"ok":
-                if not self._adopt(it, counts[it], checked, at, *rest):
+                if not self._adopt(it, counts[it], calls[it][0], checked, at, *rest):
                     waits.append(it)
                 continue
             with self._lock:
@@ -318,6 +323,7 @@ class RedisStore(GroupStore):
         self,
         it: _Shard,
         count: int,
+        asked: _Known,
         checked: bytes,
         at: tuple[str, int],
         record: bytes,
@@ -326,14 +332,22 @@ class RedisStore(GroupStore):
         moment: int,
         latest: int,
     ) -> bool:
-        """Takes what a server has of a shard, unless a later look was answered first."""
+        """Takes what a server has of a shard, unless a later look was answered first.
+
+        asked: what was known when the look began. An answer of an earlier run may have come since:
+            nobody has compared what that put.
+        """
         with self._lock:
             if count < it.seen:
                 return False
-            if (same := epoch == it.known.epoch) and it.known.latest > latest:
-                latest = it.known.latest
-            mark = it.known.mark if same else b""
-            it.known = _Known(record, epoch, deaf, latest, (count, moment), mark)
+            before = it.known
+            if (same := epoch == before.epoch) and before.latest > latest:
+                latest = before.latest
+            marks = before.marks if same else ()
+            now = _Known(record, epoch, deaf, latest, (count, moment), marks)
+            if same and now.run != before.run and not set(marks) <= set(asked.marks):
+                return False
+            it.known = now
             it.seen, it.checked, it.agreed = count, checked, at
         return True
 
@@ -394,7 +408,7 @@ class RedisStore(GroupStore):
 
     def _decided(self, it: _Shard, count: int, known: _Known, answer: list[Any]) -> Answer:
         """What is answered to the claims of a shard, if it counts."""
-        _, moment, deaf, epoch, least, mark, cells = answer
+        _, moment, deaf, epoch, least, own, cells, is_new = answer
         if len(cells) not in (0, count * CELL):
             raise StoreFault("answer")
         with self._lock:
@@ -402,7 +416,15 @@ class RedisStore(GroupStore):
             if now.epoch != known.epoch or least < now.latest:
                 it.agreed = None
                 raise StoreFault("epoch")
-            it.known = now._replace(latest=max(now.latest, moment), mark=mark or now.mark)
+            if now.run != known.run:  # (what a later run has was compared without this answer)
+                raise StoreFault("run")
+            marks, before = now.marks, known.marks if is_new else ()
+            for n in range(0, len(own), _scripts.MARK):
+                if (mark := own[n : n + _scripts.MARK]) not in marks:
+                    left = tuple(it for it in marks if it not in before)
+                    # (one that was found takes no room from others)
+                    marks = ((*left, mark) if is_new else (mark, *left))[-MOST_MARKS:]
+            it.known = now._replace(latest=max(now.latest, moment), marks=marks)
         return Answer(0, moment, deaf, epoch.decode(), cells)
 
     def _call(
@@ -422,7 +444,11 @@ class RedisStore(GroupStore):
                 if others:
                     self._agree(one, others, end)
                     continue
+                begun = time.monotonic()
                 answers = self._run(one, name, calls, end)
+                if (time.monotonic() - begun) * 3000 > self._compare_wait:
+                    # (it may be gone, and who was away would see that later than its answer)
+                    one.checked([("TIME",)], end)
                 for it, answer in zip(values, answers):
                     if answer[0] == b"ok":
                         continue
@@ -670,7 +696,11 @@ class _Connection:
         self._ends = ends
         try:
             self._redis = at.connection(_left(end))
-            self._redis.connect()
+            try:
+                self._redis.connect()
+            except Exception as why:
+                _hide(self._redis.password, why)
+                raise
         except Exception as why:
             raise self._fault(why) from why
 
@@ -741,6 +771,16 @@ class _Connection:
         name = _scripts.CODES.get(word or str(why).partition(" ")[0], "server")
         more = f"{self.at.name}: {brief(str(why))}"
         return StoreFault(name, more if name == "server" else f": {more}")
+
+
+def _hide(password: str | None, why: BaseException | None) -> None:
+    """Takes a password out of an exception, and out of those before it.
+
+    A server that does not know AUTH says what it was given.
+    """
+    while why and password:
+        texts = [it.replace(password, "***") if isinstance(it, str) else it for it in why.args]
+        why.args, why = tuple(texts), why.__context__
 
 
 def _left(end: float) -> float:

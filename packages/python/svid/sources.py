@@ -38,6 +38,7 @@ MOST = 1 << 20
 each takes memory to read."""
 _MOST_BRACKETS = 1 << 15
 _REDIRECTS = 5
+_BEGIN = "-----BEGIN "
 _SHORTEST, _USUAL, _LONGEST = 10, 300, 86_400
 """For how many seconds a bundle is good, at the least, without a hint, and at the most."""
 
@@ -74,7 +75,9 @@ class Endpoint:
     def check(self, domain: str) -> None:
         """Raises ValueError where it can't be meant for the bundle of this trust domain."""
         parts = urlsplit(self.url)
-        if parts.scheme != "https" or not parts.hostname or parts.username is not None:
+        if parts.username is not None:  # (an error with the address would have the password)
+            raise ValueError("the url of an endpoint has no name of a user, and no password")
+        if parts.scheme != "https" or not parts.hostname:
             raise ValueError(f"{self.url!r} is no address as https://HOST/PATH")
         if self.spiffe_id is not None:
             if not (of := self.domain()):
@@ -134,7 +137,7 @@ class Ends:
     """Connections that are open: each has a function that ends it, from whatever thread."""
 
     def __init__(self) -> None:
-        self._lock = threading.Lock()
+        self._lock = threading.RLock()  # (a collector may end all, in a thread that holds it)
         self._open: set[Callable[[], object]] = set()
         self._are_over = False
 
@@ -144,10 +147,10 @@ class Ends:
         timer = threading.Timer(seconds, end)
         timer.daemon = True
         with self._lock:
-            if self._are_over:
-                raise TimeoutError("the validator is closed")
             self._open.add(end)
         try:
+            if self._are_over:
+                raise TimeoutError("the validator is closed")
             timer.start()
             yield timer
         finally:
@@ -167,7 +170,7 @@ class _Line:
     """The socket of one request."""
 
     def __init__(self) -> None:
-        self._lock = threading.Lock()
+        self._lock = threading.RLock()  # (as that of all)
         self._socket: socket.socket | None = None
         self._is_over = False
 
@@ -259,6 +262,10 @@ class _Connection(http.client.HTTPSConnection):
         super().__init__(host, context=context, timeout=timeout)
         self._endpoint, self._tls, self._line = endpoint, context, line
 
+    def _tunnel(self) -> None:
+        self._line.has(self.sock)  # (a proxy may take its time, too)
+        super()._tunnel()  # type: ignore[misc]
+
     def connect(self) -> None:
         http.client.HTTPConnection.connect(self)  # (and through a proxy, where there is one)
         named = getattr(self, "_tunnel_host", None) or self.host
@@ -281,7 +288,8 @@ class _Redirects(urllib.request.HTTPRedirectHandler):
         self._endpoint = endpoint
 
     def redirect_request(self, *given: Any) -> Any:
-        url = given[-1]
+        _, answer, *_, url = given
+        answer.close()  # (urllib would read all of it, and it may have no end)
         if self._endpoint.spiffe_id is not None or not url.lower().startswith("https://"):
             raise OSError(f"it leads elsewhere: {ascii(url[:256])}")
         return super().redirect_request(*given)
@@ -292,7 +300,10 @@ def _context(endpoint: Endpoint, authorities: Callable[[], bytes | None]) -> ssl
     bundle = authorities()
     if endpoint.spiffe_id is None:
         # (comments of a file may have any letters)
-        return ssl.create_default_context(cadata=bundle and bundle.decode("ascii", "ignore"))
+        text = None if bundle is None else bundle.decode("ascii", "ignore")
+        if text is not None and _BEGIN not in text:  # (without any, ssl takes the system's)
+            raise ValueError(f"{endpoint.authorities} has no certificate as PEM")
+        return ssl.create_default_context(cadata=text)
     if bundle is None:
         raise ValueError(f"the bundle of {endpoint.domain()} was not read yet")
     context = ssl.SSLContext(ssl.PROTOCOL_TLS_CLIENT)

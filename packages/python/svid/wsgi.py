@@ -57,4 +57,5 @@ class SvidMiddleware:
             return self.app({**theirs, **dict(zip(_OURS, ours))}, start_response)
         headers, body = admission.answer()
         start_response(f"{admission.status.value} {admission.status.phrase}", headers)
-        return [body]
+        # (gunicorn sends any body that it gets, and a client takes it for the next answer)
+        return [] if environ.get("REQUEST_METHOD") == "HEAD" else [body]

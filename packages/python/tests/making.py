@@ -9,9 +9,11 @@ import ipaddress
 import json
 import logging
 import os
+import signal
 import struct
 import subprocess
 import tempfile
+import threading
 import time
 
 import jwt
@@ -104,8 +106,11 @@ class Authority:
         self.name = "root" if above is None else "authority"
         self.certificate = (above or self).made(self.key, is_authority=True, subject=self.name)
 
-    def made(self, key, *, is_authority=False, uris=(), signs=(), subject=None):
-        """A certificate that it signs. signs: what its owner may sign by the key's usage."""
+    def made(self, key, *, is_authority=False, uris=(), signs=(), subject=None, is_named=True):
+        """A certificate that it signs. signs: what its owner may sign by the key's usage.
+
+        is_named: it has the extension for names.
+        """
 
         def named(text):
             return x509.Name([x509.NameAttribute(x509.NameOID.COMMON_NAME, text)] if text else [])
@@ -127,8 +132,9 @@ class Authority:
             .not_valid_after(at + datetime.timedelta(hours=1))
             .add_extension(x509.BasicConstraints(is_authority, None), True)
             .add_extension(x509.KeyUsage(**usage), True)
-            .add_extension(x509.SubjectAlternativeName(names), not is_authority)
         )
+        if is_named:
+            builder = builder.add_extension(x509.SubjectAlternativeName(names), not is_authority)
         return builder.sign(self.key, hashes.SHA256())
 
     def server(self, folder, *uris, **terms):
@@ -208,6 +214,61 @@ def until(true):
         time.sleep(0.005)
 
 
+# An example says no `wait`, and a machine may be slow: what runs it begins with this.
+PATIENT = f"""
+import functools, svid
+svid.Validator = functools.partial(svid.Validator, wait={PATIENCE})
+"""
+
+
+def patient(folder):
+    """The environment of a process whose validators have patience."""
+    (folder / "sitecustomize.py").write_text(PATIENT)
+    return {**os.environ, "PYTHONPATH": f"{folder}:{os.environ['PYTHONPATH']}"}
+
+
+def joined(*threads):
+    """Waits until threads have ended."""
+    until(lambda: not any(it.is_alive() for it in threads))
+
+
+def status_of(child):
+    """How a fork of this process ended. One that does not is killed."""
+    found = []
+
+    def is_over():
+        pid, status = os.waitpid(child, os.WNOHANG)
+        found.append(status)
+        return pid
+
+    try:
+        until(is_over)
+    except AssertionError:
+        os.kill(child, signal.SIGKILL)
+        os.waitpid(child, 0)
+        raise
+    return found[-1]
+
+
+@contextlib.contextmanager
+def answering(ran, what):
+    """A process is to say something. One that does not is killed, which ends whatever reads it."""
+    is_late = threading.Event()
+
+    def end():
+        is_late.set()
+        ran.kill()
+
+    timer = threading.Timer(PATIENCE, end)
+    timer.daemon = True
+    timer.start()
+    try:
+        yield
+    finally:
+        timer.cancel()
+        assert not is_late.is_set(), f"{what} says nothing"
+
+
 @contextlib.contextmanager
 def no_logger():
     """The handler of the logger "svid" fails, as one whose server is away."""
@@ -245,6 +306,6 @@ def program(bundles, table, tokens, *options):
         words = ["--bundles", f"{room}/bundles", "--table", f"{room}/table", "--now", str(NOW)]
         words = [PROGRAM, "check", *words, "--validator-id", VALIDATOR_ID, *options, "ledger"]
         lines = b"".join(it.encode() + b"\n" for it in tokens)
-        ran = subprocess.run(words, input=lines, capture_output=True, check=False)
+        ran = subprocess.run(words, input=lines, capture_output=True, timeout=PATIENCE, check=False)
     assert ran.returncode in (0, 1) and not ran.stderr, ran.stderr
     return ran.stdout.decode().splitlines()

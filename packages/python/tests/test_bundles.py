@@ -1,5 +1,6 @@
 """Bundles: every form in which they are given, and how they are renewed."""
 
+import contextlib
 import json
 import logging
 import os
@@ -95,8 +96,77 @@ def test_a_trust_domain_that_is_named_twice():
             validator(given)
 
 
-def test_an_empty_folder_knows_nobody(tmp_path):
-    assert says(tmp_path) == "refused UnknownDomain"
+def test_without_a_bundle_no_token_is_refused(tmp_path):
+    """That is not the token's fault, and no token is to come here."""
+    folder, file = tmp_path / "folder", tmp_path / "file.json"
+    for given, path, text in (
+        (folder, folder / "example.org.json", SPIRE),
+        (file, file, {"example.org": SPIRE}),
+    ):
+        folder.mkdir(exist_ok=True)
+        file.write_text("{ }")
+        refused = []
+        with validator(given, refresh=0.01, on_refusal=refused.append) as checks:
+            for _ in range(2):
+                assert judged(checks, token()) == "unavailable NoBundle"
+                with pytest.raises(svid.Unavailable, match="no trust bundle") as raised:
+                    checks.check(token(), NOW)
+                assert raised.value.reason == "NotReady" and not refused
+                assert "no trust bundle" in checks.unready(NOW)
+                rewrite(path, json.dumps(text))
+                soon(checks, ACCEPTED)
+                assert verdict(checks, token(jti=os.urandom(8).hex())) == ACCEPTED
+                assert checks.unready(NOW) is None
+                path.unlink() if given is folder else rewrite(file, "{}")
+                until(lambda: judged(checks, token()) != ACCEPTED)
+    assert says({}) == says(b"{}") == "refused UnknownDomain"  # (none is to come)
+
+
+class Between:
+    """The lock of a validator. Each time that it is free, something is done."""
+
+    def __init__(self, checks, does):
+        self.lock, self.does, self.is_doing = checks._handle._lock, does, False
+        checks._handle._lock = self
+
+    def __enter__(self):
+        self.lock.acquire()
+
+    def __exit__(self, *_):
+        self.lock.release()
+        if not self.is_doing:
+            self.is_doing = True
+            self.does()
+            self.is_doing = False
+
+
+def test_no_token_is_refused_while_the_last_bundle_goes(tmp_path):
+    """Nor while the first one comes: between any two steps it is accepted, or is to come again."""
+    said, refused = [], []
+    with validator(on_refusal=refused.append) as checks:
+
+        def asks():
+            said.append(judged(checks, token()))
+            with contextlib.suppress(svid.Unavailable):
+                said.append(checks.check(token(jti=str(len(said))), NOW).spiffe_id)
+
+        between = Between(checks, asks)
+        for given in tmp_path, {"example.org": SPIRE}, tmp_path:
+            checks.renew(given)
+        between.is_doing = True
+    assert not refused and {"unavailable NoBundle", ACCEPTED} <= {*said}
+
+
+def test_a_check_from_which_the_last_bundle_goes(tmp_path):
+    """It came while there was one."""
+
+    def verifies(*_):
+        checks.renew(tmp_path)
+        return True
+
+    with validator(verifies=verifies) as checks:
+        with pytest.raises(svid.Unavailable, match="the bundle of example.org was not read yet"):
+            checks.check(token(), NOW)
 
 
 def test_the_workload_api():
@@ -250,10 +320,30 @@ def test_bundles_are_read_without_the_lock():
             done.append(True)
 
         with checks._handle._lock:
-            thread = threading.Thread(target=renew)
+            thread = threading.Thread(target=renew, daemon=True)
             thread.start()
             thread.join(PATIENCE)
             assert done == [True]
+
+
+def test_a_renewal_for_which_there_is_no_thread(tmp_path, monkeypatch):
+    """The old bundles stay, and are followed as before."""
+    path, other = tmp_path / "example.org.json", tmp_path / "other" / "example.org.json"
+    other.parent.mkdir()
+    path.write_text(json.dumps(SPIRE))
+    other.write_text(json.dumps({"keys": []}))
+
+    def start(_):
+        raise RuntimeError("can't start new thread")
+
+    with validator(path, refresh=0.01) as checks:
+        with monkeypatch.context() as patch:
+            patch.setattr(threading.Thread, "start", start)
+            with pytest.raises(RuntimeError, match="can't start new thread"):
+                checks.renew(other)
+        assert judged(checks, token()) == ACCEPTED
+        rewrite(path, rotation(1))
+        soon(checks, ACCEPTED, token(key=private_key("ES256", 1)))
 
 
 def test_a_renewal_holds_up_no_check():
@@ -262,7 +352,7 @@ def test_a_renewal_holds_up_no_check():
         part = 1.0
         # (other work on the machine may hold a check up: so one of several tries is to show it)
         for _ in range(30):
-            thread = threading.Thread(target=checks.renew, args=(many,))
+            thread = threading.Thread(target=checks.renew, args=(many,), daemon=True)
             longest, started = 0.0, time.perf_counter()
             thread.start()
             while thread.is_alive():
@@ -286,7 +376,8 @@ for _ in range(5):
     checks.renew(many)
 print(resource.getrusage(resource.RUSAGE_SELF).ru_maxrss - before)
 """
-    ran = subprocess.run([sys.executable, "-c", program], input=many_keys(), stdout=subprocess.PIPE)
+    words = [sys.executable, "-c", program]
+    ran = subprocess.run(words, input=many_keys(), stdout=subprocess.PIPE, timeout=PATIENCE)
     assert ran.returncode == 0 and int(ran.stdout) < 100_000_000 // 1024
 
 
@@ -316,17 +407,18 @@ def test_threads_check_while_bundles_are_renewed():
     with validator() as checks:
         both = [bundle(entry(KEY, "k1")), bundle(entry(KEY, "k1"), entry(KEY, "k2"))]
         threads = [
-            threading.Thread(target=lambda: said.extend(verdict(checks, it) for it in texts))
+            threading.Thread(
+                target=lambda: said.extend(verdict(checks, it) for it in texts), daemon=True
+            )
             for _ in range(4)
         ]
         for it in threads:
             it.start()
-        turn = 0
+        turn, end = 0, time.monotonic() + PATIENCE
         while any(it.is_alive() for it in threads):
+            assert time.monotonic() < end, "the checks do not end"
             checks.renew(both[turn % 2])
             turn += 1
-        for it in threads:
-            it.join()
     assert said.count(ACCEPTED) == len(texts)
     assert said.count("refused Replayed") == 3 * len(texts)
 
@@ -372,7 +464,7 @@ def test_files_that_change_are_read_again(tmp_path):
         rewrite(path, json.dumps(SPIRE))
         soon(checks, ACCEPTED)
         path.unlink()
-        soon(checks, "refused UnknownDomain")
+        soon(checks, "unavailable NoBundle")
 
 
 def rotation(which):
@@ -422,8 +514,9 @@ def test_a_change_is_used_within_two_seconds(tmp_path):
 def test_files_are_not_looked_at_where_nobody_wants_that(tmp_path):
     path = tmp_path / "example.org.json"
     path.write_text(json.dumps({"keys": []}))
+    before = threads()  # (of validators of other tests, which end once they are collected)
     with validator(path, refresh=None) as checks:
-        assert not threads()
+        assert {*threads()} <= {*before}
         rewrite(path, json.dumps(SPIRE))
         assert verdict(checks, token()) == "refused NoKey"
         checks.renew()
@@ -527,7 +620,7 @@ def test_bundles_that_are_not_taken_are_handed_on_again(tmp_path, caplog, monkey
     assert len(told(caplog)) == 1
 
 
-def no_memory(_):
+def no_memory(*_):
     raise MemoryError
 
 

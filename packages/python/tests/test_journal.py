@@ -21,7 +21,16 @@ import time
 
 import pytest
 import svid
-from making import PATIENCE, SUBJECT, fresh, no_logger, validator
+from making import (
+    PATIENCE,
+    SUBJECT,
+    answering,
+    fresh,
+    joined,
+    no_logger,
+    status_of,
+    validator,
+)
 from svid import _folder, _journal
 
 BEGUN = int(time.time())
@@ -161,6 +170,24 @@ def test_a_frame_of_another_file_is_none(tmp_path):
     assert found(tmp_path) == set()
 
 
+def test_a_process_that_changes_its_folder(tmp_path, monkeypatch):
+    """A path without its beginning is that of the start, also where another folder has it now."""
+    for name in "one", "other/state":
+        (tmp_path / name).mkdir(parents=True)
+    monkeypatch.chdir(tmp_path / "one")
+    later = fresh(jti="1")
+    with validator(state="state") as checks:
+        checks.check(fresh())
+        monkeypatch.chdir(tmp_path / "other")
+        checks.check(later)
+        checks._journal.snapshot(checks.parts)
+    assert names(tmp_path / "other/state") == []
+    monkeypatch.chdir(tmp_path / "one")
+    with validator(state="state") as checks:
+        with pytest.raises(svid.Replayed):
+            checks.check(later)
+
+
 def test_one_process_holds_a_folder(tmp_path):
     (tmp_path / "lock").write_text("a longer name of who held it before" * 9)
     journal = svid.Journal(tmp_path)
@@ -170,11 +197,11 @@ def test_one_process_holds_a_folder(tmp_path):
     assert raised.value.holder.startswith(name) and str(raised.value).count(name) == 1
     assert len(raised.value.holder) == len(name + "2026-01-01T00:00:00Z")
     words = [sys.executable, "-c", "import svid, sys; svid.Journal(sys.argv[1])", tmp_path]
-    ran = subprocess.run(words, capture_output=True, check=False)
+    ran = subprocess.run(words, capture_output=True, timeout=PATIENCE, check=False)
     assert b"svid.errors.Held" in ran.stderr
     journal.close()
     journal.close()
-    assert subprocess.run(words, check=True).returncode == 0
+    assert subprocess.run(words, timeout=PATIENCE, check=True).returncode == 0
 
 
 def test_who_waits_for_a_folder_takes_one_descriptor_no_more(tmp_path):
@@ -241,13 +268,14 @@ def test_a_fork_does_not_go_on_with_a_journal(tmp_path):
         finally:
             os._exit(1)
     try:
+        assert select.select([reader], [], [], PATIENCE)[0]
         assert os.read(reader, 100) == b"Forked Forked None"
         append(journal, 3)
         journal.close()
         assert found(tmp_path) == {1, 3}
     finally:
         os.kill(child, signal.SIGKILL)
-        os.waitpid(child, 0)
+        status_of(child)
         os.close(reader)
         os.close(writer)
 
@@ -256,9 +284,11 @@ def test_a_new_process_does_not_hold_the_folder(tmp_path):
     """Nor one that this process starts."""
     journal = svid.Journal(tmp_path)
     with subprocess.Popen(["sleep", "60"]) as other:
-        journal.close()
-        svid.Journal(tmp_path).close()
-        other.kill()
+        try:
+            journal.close()
+            svid.Journal(tmp_path).close()
+        finally:
+            other.kill()
 
 
 def test_messages_are_bytes_of_some_length(tmp_path):
@@ -304,7 +334,9 @@ def waiting(journal):
 
 def test_threads_share_a_sync(tmp_path, slow):
     with contextlib.closing(opened(tmp_path, slow)) as journal:
-        threads = [threading.Thread(target=append, args=(journal, it)) for it in range(9)]
+        threads = [
+            threading.Thread(target=append, args=(journal, it), daemon=True) for it in range(9)
+        ]
         threads[0].start()
         try:
             until(lambda: slow.syncs == 1)
@@ -313,8 +345,7 @@ def test_threads_share_a_sync(tmp_path, slow):
             until(lambda: waiting(journal) == 8)
         finally:
             slow.go.set()
-        for it in threads:
-            it.join()
+        joined(*threads)
         assert slow.syncs == 2
     assert found(tmp_path) == set(range(9))
 
@@ -390,6 +421,25 @@ def test_a_mark_stands_behind_a_burst(tmp_path, monkeypatch):
         whole = frames(b"svidjnl", 1, journal.validator_id, use(1).message, b"").rstrip(b"\0")
         until(lambda: (tmp_path / "journal.1").read_bytes().rstrip(b"\0") == whole)
         assert end in (whole, whole[: len(end)])
+
+
+def test_a_mark_stands_behind_a_journal_that_another_one_follows(tmp_path, monkeypatch):
+    """So that damage of its last use is seen. It may stay, where the power fails meanwhile."""
+    monkeypatch.setattr(_journal, "_QUIET", PATIENCE)
+    state, copy = tmp_path / "state", tmp_path / "copy"
+
+    def parts():
+        shutil.copytree(state, copy)
+        yield use(1).message
+
+    with contextlib.closing(svid.Journal(state)) as journal:
+        append(journal, 1)
+        journal.snapshot(parts)
+    content = bytearray((copy / "journal.1").read_bytes())
+    content[content.index(use(1).key)] ^= 1
+    (copy / "journal.1").write_bytes(content)
+    with pytest.raises(svid.Damaged):
+        svid.Journal(copy)
 
 
 def test_a_quiet_journal_writes_nothing_more(tmp_path, monkeypatch):
@@ -507,6 +557,22 @@ def test_a_snapshot_for_which_there_is_no_thread(tmp_path, monkeypatch, caplog):
     assert found(tmp_path) == {1}
 
 
+def test_a_folder_for_which_there_is_no_thread(tmp_path, monkeypatch):
+    """Nobody holds it, and it takes no descriptor."""
+
+    def start(_):
+        raise RuntimeError("can't start new thread")
+
+    svid.Journal(tmp_path).close()
+    before = os.listdir("/proc/self/fd")
+    with monkeypatch.context() as patch:
+        patch.setattr(threading.Thread, "start", start)
+        with pytest.raises(RuntimeError, match="can't start new thread"):
+            svid.Journal(tmp_path)
+    assert len(os.listdir("/proc/self/fd")) == len(before)
+    svid.Journal(tmp_path).close()
+
+
 def test_an_empty_part_does_not_end_a_snapshot(tmp_path):
     with contextlib.closing(svid.Journal(tmp_path)) as journal:
         append(journal, 1, 2)
@@ -563,7 +629,8 @@ def test_a_kill_at_any_time_loses_no_acceptance(tmp_path):
     environment = {**os.environ, "PYTHONPATH": os.pathsep.join(sys.path)}
     for turn in range(12):
         words = [sys.executable, "-c", WORKER, state, str(turn)]
-        with subprocess.Popen(words, env=environment, stdout=subprocess.PIPE) as ran:
+        ran = subprocess.Popen(words, env=environment, stdout=subprocess.PIPE)
+        with ran, answering(ran, "the worker"):
             # (a kill while Python starts shows nothing, and how fast it is differs by machine)
             first = b"".join(ran.stdout.readline() for _ in range(chance.randint(1, 40)))
             assert first
@@ -602,6 +669,22 @@ def test_a_write_that_was_torn_anywhere(tmp_path):
                     is_blank = not (text[:cut] + rest)[begin:].strip(b"\0")
                     assert other.torn == (() if is_blank else (str(folder / "journal.1"),))
                 shutil.rmtree(folder)
+
+
+def test_a_write_that_was_torn_is_told(tmp_path, caplog):
+    """To the operator, as a warning; a start after an orderly end tells nothing."""
+    with validator(state=tmp_path / "state") as checks:
+        for jti in "1", "2":
+            checks.check(fresh(jti=jti))
+    for cut in 0, 1:
+        folder = crashed(tmp_path / "state", tmp_path / f"{cut}")
+        (file,) = folder.glob("journal.*")
+        file.write_bytes(file.read_bytes()[: 2 * FRAME - cut])
+        with caplog.at_level(logging.INFO, "svid"), validator(state=folder) as checks:
+            assert len(checks.report().uses) == 2 - cut
+        told = [(it.levelname, it.getMessage()) for it in caplog.records]
+        said = f"a crash cut off a write at the end of {file}: nobody had an answer"
+        assert told == [("WARNING", said)] * cut
 
 
 def test_each_changed_bit_is_found_and_named(tmp_path):
@@ -724,6 +807,12 @@ def test_an_id_that_is_lost_or_bad(tmp_path):
         with pytest.raises(ValueError, match="32 hexadecimal digits"):
             svid.Journal(tmp_path)
     (tmp_path / "place").unlink()
+    blank = tmp_path / "blank"  # (a crash may leave a file that has no bytes yet, or zeros)
+    blank.mkdir()
+    for content in b"", bytes(5000):
+        (blank / "journal.1").write_bytes(content)
+        svid.Journal(blank).close()
+        (blank / "place").unlink()
     for _ in range(2):  # (each time it lets go of the folder)
         with pytest.raises(ValueError, match="place is missing"):
             svid.Journal(tmp_path)
@@ -1091,8 +1180,13 @@ def test_a_snapshot_of_a_folder_that_is_moved_changes_no_other_one(tmp_path):
             append(journal, 3)
         shutil.rmtree(folder)
         (tmp_path / "old").rename(folder)
+        # (it is back, and others may have had its path)
+        before = {it.name: it.read_bytes() for it in folder.iterdir()}
         with pytest.raises(svid.Unavailable, match="start the service again"):
-            append(journal, 3)  # (it is back, and others may have had its path)
+            append(journal, 3)
+        with pytest.raises(svid.Unavailable, match="put it back there, and start"):
+            journal.snapshot(lambda: [use(1).message])
+        assert {it.name: it.read_bytes() for it in folder.iterdir()} == before
     assert found(folder) == {1}
 
 
@@ -1125,6 +1219,55 @@ def test_want_of_memory_is_a_passing_fault(tmp_path, monkeypatch):
             append(journal, 2)
         append(journal, 3)
     assert found(tmp_path) == {1, 3}
+
+
+def test_want_of_memory_for_the_messages_of_a_write_is_told(tmp_path, monkeypatch):
+    """Nobody is answered that they are kept."""
+
+    class Many:
+        def append(self, _):
+            """It has no end."""
+
+        def __iter__(self):
+            raise MemoryError
+
+    with contextlib.closing(svid.Journal(tmp_path)) as journal:
+        with monkeypatch.context() as patch:
+            commit = _journal._Commit()
+            commit.parts = Many()
+            patch.setattr(_journal, "_Commit", lambda: commit)
+            with pytest.raises(svid.Unavailable, match="the use is not kept"):
+                append(journal, 1)
+        append(journal, 2)
+    assert found(tmp_path) == {2}
+
+
+def test_what_an_earlier_snapshot_left_is_no_hindrance(tmp_path):
+    """It may not have been removed, where the disk failed."""
+    with contextlib.closing(svid.Journal(tmp_path)) as journal:
+        append(journal, 1)
+        (tmp_path / "snapshot.new").write_text("left")
+        journal.snapshot(lambda: [use(1).message])
+        append(journal, 2)
+    assert found(tmp_path) == {1, 2} and not (tmp_path / "snapshot.new").exists()
+
+
+def test_want_of_memory_behind_a_sync_is_a_passing_fault(tmp_path, monkeypatch):
+    """Who looks whether the folder is still at its path may have none."""
+    with contextlib.closing(svid.Journal(tmp_path)) as journal:
+        append(journal, 1)
+        stand, wants = journal._keeper._folder.stand, [MemoryError]
+
+        def stands():
+            if wants:
+                raise wants.pop()
+            stand()
+
+        monkeypatch.setattr(journal._keeper._folder, "stand", stands)
+        with pytest.raises(svid.Unavailable):
+            append(journal, 2)
+        append(journal, 3)
+    assert {1, 3} <= found(tmp_path)
 
 
 def test_a_full_disk_is_a_passing_fault(tmp_path):
@@ -1170,9 +1313,11 @@ def test_a_killed_process_is_let_in_at_once(tmp_path):
         "import svid, sys, time; j = svid.Journal(sys.argv[1]); print(flush=True); time.sleep(60)"
     )
     with subprocess.Popen([sys.executable, "-c", text, tmp_path], stdout=subprocess.PIPE) as ran:
-        assert select.select([ran.stdout], [], [], PATIENCE)[0]
-        with pytest.raises(svid.Held):
-            svid.Journal(tmp_path)
-        ran.kill()
+        try:
+            assert select.select([ran.stdout], [], [], PATIENCE)[0]
+            with pytest.raises(svid.Held):
+                svid.Journal(tmp_path)
+        finally:
+            ran.kill()
         ran.wait()
         svid.Journal(tmp_path).close()

@@ -1,5 +1,6 @@
 """Mode "bound" without a store: the claims of one validator, in a folder."""
 
+import contextlib
 import threading
 import time
 
@@ -141,7 +142,8 @@ def test_nobody_is_answered_before_the_disk_has_the_claim(opened):
             said.append("Unavailable")
 
     store._journal.append = fails
-    threads = [threading.Thread(target=claim, args=(owner,)) for owner in (b"1", b"2")]
+    owners = b"1", b"2"
+    threads = [threading.Thread(target=claim, args=(it,), daemon=True) for it in owners]
     for it in threads:
         it.start()
     until(lambda: len(asked) + len(said) == 2)
@@ -165,6 +167,15 @@ def test_claims_that_can_not_be_read_are_not_forgotten(opened, monkeypatch, stat
     assert put(opened(), b"k", b"2") == (b"1", 0)
 
 
+def size_of(folder):
+    """How many bytes the files of a folder have. (One may go meanwhile.)"""
+    size = 0
+    for it in folder.iterdir():
+        with contextlib.suppress(FileNotFoundError):
+            size += it.stat().st_size
+    return size
+
+
 def test_the_folder_stays_small(opened, clock, tmp_path, monkeypatch):
     monkeypatch.setattr("svid._journal._SMALL", 1 << 18)
     store = opened()
@@ -173,8 +184,7 @@ def test_the_folder_stays_small(opened, clock, tmp_path, monkeypatch):
         store.put([Claim(it, b"1" * 32, clock.at + 30) for it in keys])
         clock.at += 240
         store.put([])
-    size = lambda: sum(it.stat().st_size for it in (tmp_path / "claims").iterdir())  # noqa: E731
-    until(lambda: store.put([]) == [] and size() < 2 << 20)
+    until(lambda: store.put([]) == [] and size_of(tmp_path / "claims") < 2 << 20)
     assert len(store._entries) <= 1000
     assert put(opened(), keys[0][:1], b"1", 30)[1] == 0
 

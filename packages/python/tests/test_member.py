@@ -1,20 +1,24 @@
 """Requests, and their answers: the modes, the store of a group, deadlines and readiness."""
 
+import asyncio
 import contextlib
 import errno
+import functools
 import gc
+import linecache
 import math
 import os
 import random
 import threading
 import time
+import types
 import weakref
 
 import pytest
 import svid
 import svid.testing
 from making import PATIENCE, SUBJECT, bundle, entry, fresh, private_key, until, validator
-from svid import _claims, _journal, _member
+from svid import _claims, _journal, _looks, _member
 from test_threads import forked
 
 THREADS = 32
@@ -172,6 +176,19 @@ def test_one_of_many_threads_is_accepted():
         assert nothing_waits(checks)
 
 
+def test_a_store_has_one_wait_for_its_first_answers(monkeypatch):
+    """A validator is made by then, where the store answers late and tells no withdrawals."""
+    now, waits = [0.0], []
+    monkeypatch.setattr("svid._claims.time", types.SimpleNamespace(monotonic=lambda: now[0]))
+    store = svid.testing.MemoryStore()
+    claims = _claims.Claims(store, store, tells=True)
+    claims._grow = claims._hear = lambda: None
+    claims._announced.wait = lambda seconds: now.__setitem__(0, now[0] + 0.75 * seconds)
+    claims._heard.wait = waits.append
+    claims.begin(2.0)
+    assert waits == [0.5]
+
+
 def test_a_validator_begins_once_the_store_answers():
     store, said = Fickle(), []
     store.before = lambda: time.sleep(0.5)
@@ -217,6 +234,98 @@ def test_a_store_that_fails_now_and_then():
         won = [token for token, it in said if it == SUBJECT]
         assert len(won) == len(set(won)) > 0
         assert nothing_waits(one) and nothing_waits(other)
+
+
+def test_claims_go_on_once_there_is_memory(monkeypatch):
+    with strict(svid.testing.MemoryStore(), wait=0.3) as checks:
+        send, wants = checks._handle.send, 3 * [MemoryError]  # (two threads wait for claims)
+
+        def sends(due):
+            if wants:
+                raise wants.pop()
+            return send(due)
+
+        monkeypatch.setattr(checks._handle, "send", sends)
+        assert answer(checks.check, fresh(jti="first")) == "Unavailable"
+        until(lambda: answer(checks.check, fresh(jti=os.urandom(8).hex())) == SUBJECT)
+
+
+def test_want_of_memory_in_any_line_of_a_call_leaves_none_under_way(monkeypatch):
+    """Else less and less would go on: at most 64 calls are under way."""
+    monkeypatch.setattr(_claims, "_REST", 0.001)
+    functions = {"_taken", "_found", "_put", "_grow", "_answered", "_failed"}
+    ran, armed, puts = set(), [], []
+
+    def line(frame, event, _):
+        at = frame.f_code.co_name, frame.f_lineno
+        wants = linecache.getline(_claims.__file__, frame.f_lineno).strip() != "return claims"
+        if armed and event == "line" and at not in ran and wants:
+            armed.clear()
+            ran.add(at)
+            raise MemoryError  # (from here on nobody traces this thread)
+        return line
+
+    def traced(frame, *_):
+        is_one = frame.f_code.co_name in functions and frame.f_globals is vars(_claims)
+        return line if is_one else None
+
+    def fails_now_and_then():
+        puts.append(1)
+        if len(puts) % 3 == 0:
+            away()
+
+    monkeypatch.setattr(threading, "_trace_hook", traced)
+    is_news = True
+    while is_news:
+        store = Fickle()
+        store.before = fails_now_and_then
+        armed.append(True)
+        with strict(store, wait=0.1) as checks:
+            until(lambda: checks.ready)
+            for _ in range(4):
+                in_time(checks.check, fresh(jti=os.urandom(8).hex()))
+            is_news = not armed
+            armed.clear()
+            store.before = lambda: None
+            until(lambda: checks.ready)
+            pacing = checks._handle._claims._pacing
+            until(lambda: pacing.calls == 0)
+    assert {it for it, _ in ran} == functions and len(ran) > 30
+
+
+def test_a_store_may_raise_anything(monkeypatch, caplog):
+    """As what ends a coroutine, which is no Exception."""
+    monkeypatch.setattr(_claims, "_HEARS", 0.01)
+    store, said = Pages(), []
+
+    def ends(*_):
+        said.append(1)
+        raise asyncio.CancelledError("it ends")
+
+    with bound(store, wait=0.2) as checks:
+        until(lambda: checks.ready)
+        pacing = checks._handle._claims._pacing
+        pacing.calls += 63  # (one more that stays under way would be one too many)
+        monkeypatch.setattr(store, "put", ends)
+        for _ in range(3):
+            until(lambda: said.clear() or answer(checks.check, fresh(), caller=b"a") and said)
+        monkeypatch.undo()
+        monkeypatch.setattr(store, "withdraw", ends)
+        assert Soon(checks.withdraw, fresh(jti="2")).answer == "Unavailable"
+        monkeypatch.undo()
+        monkeypatch.setattr(store, "withdrawals", ends)
+        said.clear()
+        until(lambda: len(said) > 2)
+        monkeypatch.undo()
+        store.withdraw(checks.withdraw(fresh(jti="3")).key, int(time.time()) + 1000)
+        until(lambda: checks.ready)
+        check = functools.partial(checks.check, caller=b"a")
+        assert in_time(check, fresh()) == SUBJECT
+        other = fresh(jti="4")
+        with strict(store) as theirs:
+            theirs.withdraw(other)
+        until(lambda: answer(checks.judge, other) == "Withdrawn")
+    assert "it ends" in caplog.text
 
 
 def test_each_life_has_claims_of_its_own():
@@ -562,6 +671,25 @@ def test_a_withdrawal_that_the_store_may_not_have():
         assert nothing_waits(checks)
 
 
+def test_a_withdrawal_for_which_there_is_no_thread(tmp_path, monkeypatch):
+    """The store may lack it, and the disk has it all the same."""
+    store, token, start = svid.testing.MemoryStore(), fresh(), threading.Thread.start
+
+    def none(thread):
+        if thread.name == "svid-withdraw":
+            raise RuntimeError("can't start new thread")
+        start(thread)
+
+    with strict(store, state=tmp_path) as checks:
+        with monkeypatch.context() as patch:
+            patch.setattr(threading.Thread, "start", none)
+            with pytest.raises(svid.Unavailable, match="withdraw it again"):
+                checks.withdraw(token)
+        assert nothing_waits(checks)
+    with strict(store, state=tmp_path) as checks:
+        assert in_time(checks.check, token) == "Withdrawn"
+
+
 def test_a_withdrawal_that_the_disk_may_not_have(tmp_path, monkeypatch):
     with validator(state=tmp_path) as checks:
         monkeypatch.setattr(_journal, "write", no_space)
@@ -835,6 +963,29 @@ def test_a_store_that_goes_away():
         until(lambda: checks.ready)  # (each look asks the store)
 
 
+@pytest.mark.parametrize("mode", ["bound", "once", "reuse"])
+@pytest.mark.parametrize("is_silent", [False, True])
+def test_a_store_that_tells_no_withdrawals_any_more(mode, is_silent, monkeypatch):
+    """Its claims go on. In the mode bound no tokens are to be sent here, as with svidd."""
+    monkeypatch.setattr(_claims, "_HEARS", 0.01)
+    store, go = Pages(), threading.Event()
+    who = {"caller": b"a"} if mode == "bound" else {}
+    with validator(mode=mode, store=store, wait=0.05) as checks:
+        until(lambda: checks.ready)
+        store.before = (lambda: go.wait(PATIENCE)) if is_silent else away
+        if mode == "bound":
+            until(lambda: not checks.ready)
+            assert checks.unready().startswith("The group's store does not answer")
+        else:
+            until(lambda: checks._handle._claims.look(0.05))
+            assert checks.ready
+        assert in_time(functools.partial(checks.check, **who), fresh()) == SUBJECT
+        store.before = lambda: None
+        go.set()
+        until(lambda: not checks._handle._claims.look(0.05))
+        assert checks.ready
+
+
 def test_claims_wait_for_a_store_without_a_turn(monkeypatch):
     """A store that is away costs no processor, neither of the service nor of its own."""
     store, asked, turns, taken = Fickle(), [], [], _claims.Claims._taken
@@ -981,3 +1132,140 @@ def test_who_reads_withdrawals_ends():
     del checks
     gc.collect()
     until(lambda: not threads())
+
+
+# -- After a suspension
+
+
+class Suspended(Pages):
+    """A store whose validators look at it once at their start, and then where a look is due."""
+
+    def __init__(self, monkeypatch):
+        super().__init__()
+        self.after = lambda: None
+        self.clock, self.up = svid.testing.Clock(), time.monotonic()
+        monkeypatch.setattr(_claims, "_HEARS", 9 * PATIENCE)
+        moves = types.SimpleNamespace(monotonic=lambda: self.up)
+        monkeypatch.setattr(_looks, "time", moves)
+
+    def withdrawals(self, after):
+        found = super().withdrawals(after)
+        self.after()  # (what it has read may be old by now)
+        return found
+
+    def validator(self, mode, **terms):
+        checks = validator(mode=mode, store=self, clock=self.clock, **terms)
+        until(lambda: checks.ready and not claims_of(checks).looks.is_due(int(self.clock())))
+        return checks
+
+    def withdraw_meanwhile(self, token, seconds=100):
+        """The process is suspended for so long, and another member withdraws the token."""
+        with validator(mode="reuse") as other:
+            use = other.withdraw(token)
+        self.withdraw(use.key, use.expires)
+        self.clock.advance(seconds)
+
+
+def claims_of(checks):
+    return checks._handle._claims
+
+
+def caller_of(mode):
+    return {"caller": b"a"} if mode == "bound" else {}
+
+
+@pytest.mark.parametrize("mode", ["once", "reuse", "bound"])
+def test_a_withdrawal_while_the_machine_was_suspended(mode, monkeypatch):
+    """The clock that only goes ahead stands still then. While a process is stopped, both go on."""
+    store, tokens = Suspended(monkeypatch), [fresh(jti=str(n)) for n in range(4)]
+    with store.validator(mode) as checks:
+        who = caller_of(mode)
+        assert answer(checks.check, tokens[0], **who) == SUBJECT
+        for n, token in enumerate(tokens):
+            store.withdraw_meanwhile(token, seconds=9 * (n % 2))
+            store.up += 8 * (1 - n % 2)
+            said = answer(checks.judge, token) if n == 3 else answer(checks.check, token, **who)
+            assert said == "Withdrawn"
+
+
+def test_no_look_is_due_while_looks_are_made(monkeypatch):
+    store, tokens = Suspended(monkeypatch), [fresh(jti=str(n)) for n in range(2)]
+    with store.validator("reuse") as checks:
+        store.up, asked = store.up + 7, store.asked
+        store.withdraw_meanwhile(tokens[0], seconds=7)
+        assert answer(checks.check, tokens[1]) == SUBJECT and store.asked == asked
+        store.clock.advance(-100)
+        assert answer(checks.check, tokens[1]) == SUBJECT and store.asked == asked
+
+
+def test_a_look_from_before_a_suspension_does_not_count(monkeypatch):
+    store, token, go = Suspended(monkeypatch), fresh(), threading.Event()
+    with store.validator("reuse") as checks:
+        looks = claims_of(checks).looks
+        store.after = lambda: go.wait(PATIENCE)
+        asked = store.asked
+        looks._ended.wake()
+        until(lambda: store.asked > asked)
+        store.withdraw_meanwhile(token)
+        call = Soon(checks.check, token)
+        until(lambda: looks._wanted == looks._begun + 1 or call.said)
+        go.set()
+        assert call.answer == "Withdrawn"
+
+
+@pytest.mark.parametrize("is_away", [False, True])
+def test_requests_after_a_suspension_share_a_look(is_away, monkeypatch):
+    """Also where it fails: whoever comes then is answered at once, as before."""
+    store, tokens, go = Suspended(monkeypatch), [fresh(jti=str(n)) for n in range(2)], []
+    with store.validator("reuse", wait=9 * PATIENCE) as checks:
+        looks, asked, waits = claims_of(checks).looks, store.asked, []
+        wait_for = looks._turn.wait_for
+        looks._turn.wait_for = lambda *given: waits.append(1) or wait_for(*given)
+
+        def holds():
+            until(lambda: go)
+            if is_away:
+                away()
+
+        store.before = holds
+        store.withdraw_meanwhile(tokens[0])
+        calls = [Soon(checks.check, tokens[0]) for _ in range(THREADS)]
+        until(lambda: len(waits) == THREADS)
+        go.append(True)
+        assert {it.answer for it in calls} == {SUBJECT if is_away else "Withdrawn"}
+        assert answer(checks.check, tokens[1]) == SUBJECT
+        assert (len(waits), store.asked - asked) == (THREADS, 1 if is_away else 2)
+
+
+@pytest.mark.parametrize("mode", ["once", "reuse", "bound"])
+def test_a_store_that_hangs_after_a_suspension(mode, monkeypatch):
+    """A request waits for a part of its time, and is answered then. The next one is at once."""
+    store, token = Suspended(monkeypatch), fresh()
+    with store.validator(mode) as checks:
+        looks, waits, who = claims_of(checks).looks, [], caller_of(mode)
+        looks._turn.wait_for = lambda _, most: waits.append(most)
+        if mode != "once":
+            assert answer(checks.check, token, **who) == SUBJECT
+        with holding(store):
+            store.withdraw_meanwhile(fresh(jti="2"))
+            assert answer(checks.check, token, **who) == SUBJECT
+            assert answer(checks.judge, fresh(jti="2")) == SUBJECT
+        assert waits == [0.75 * PATIENCE]
+
+
+def test_a_store_that_hangs_ends_no_request_late(monkeypatch):
+    store, token = Suspended(monkeypatch), fresh()
+    with store.validator("reuse", wait=0.2) as checks, holding(store):
+        store.withdraw_meanwhile(token)
+        assert in_time(checks.check, token) == SUBJECT
+
+
+def test_closing_while_a_look_is_awaited(monkeypatch):
+    store, token = Suspended(monkeypatch), fresh()
+    checks = store.validator("reuse", wait=9 * PATIENCE)
+    with holding(store):
+        store.withdraw_meanwhile(token)
+        call = Soon(checks.check, token)
+        until(lambda: claims_of(checks).looks._wanted)
+        checks.close()
+        assert call.answer == "Closed"

@@ -1,6 +1,7 @@
 """The middlewares, by the examples, each with a client of its own."""
 
 import asyncio
+import concurrent.futures
 import errno
 import functools
 import http.client
@@ -8,12 +9,25 @@ import importlib.util
 import json
 import os
 import pathlib
+import socket
 import subprocess
 import sys
 import threading
 
 import pytest
-from making import NOW, PATIENCE, bundle, entry, fresh, private_key, token, validator
+from making import (
+    NOW,
+    PATIENCE,
+    answering,
+    bundle,
+    entry,
+    fresh,
+    patient,
+    private_key,
+    token,
+    until,
+    validator,
+)
 from starlette.applications import Starlette
 from starlette.responses import PlainTextResponse
 from starlette.routing import Route, WebSocketRoute
@@ -21,6 +35,7 @@ from starlette.testclient import TestClient
 from starlette.websockets import WebSocketDisconnect
 
 import svid
+import svid.testing
 from svid.asgi import SvidMiddleware
 from svid.wsgi import SvidMiddleware as WsgiMiddleware
 
@@ -98,14 +113,17 @@ def test_starlette(bundles, keeps, tmp_path, monkeypatch):
 
 
 @pytest.fixture
-def server(bundles):
+def server(bundles, tmp_path):
     """The port of the example by wsgiref."""
     words = [sys.executable, EXAMPLES / "wsgiref_app.py", "0"]
-    with subprocess.Popen(words, stdout=subprocess.PIPE, stderr=subprocess.DEVNULL) as served:
+    pipes = {"stdout": subprocess.PIPE, "stderr": subprocess.DEVNULL}
+    with subprocess.Popen(words, env=patient(tmp_path), **pipes) as served:
         try:
-            yield int(served.stdout.readline().split()[-1])
+            with answering(served, "the example"):
+                port = int(served.stdout.readline().split()[-1])
+            yield port
         finally:
-            served.terminate()
+            served.kill()
 
 
 def test_wsgiref(server):
@@ -121,6 +139,11 @@ def test_wsgiref(server):
     for headers, name in REFUSED:
         tried = headers.get("Authorization", "").startswith("Bearer")
         assert get(headers) == (401, refusal(name), challenge(name, tried))
+    # A body would be read as the next answer of a connection, which may be that of another client.
+    with socket.create_connection(("127.0.0.1", server), PATIENCE) as line, line.makefile() as said:
+        line.sendall(b"HEAD / HTTP/1.0\r\n\r\n")
+        fields, _, body = said.read().partition("\n\n")
+        assert "Content-Length: 40" in fields and body == ""
 
 
 def test_websockets():
@@ -311,7 +334,7 @@ def test_a_check_that_is_unavailable_is_answered_503(tmp_path, monkeypatch):
 def test_each_answer_says_what_svidd_says():
     """And no cache keeps it."""
     with validator(clock=lambda: NOW, step=10, callers=["spiffe://example.org/admin"]) as checks:
-        later = validator(clock=lambda: NOW, mode="strict", store=Away(), wait=0.01)
+        later = validator(clock=lambda: NOW, mode="strict", store=Away(), wait=1)
         for it, made, status, reason, error in (
             (checks, token(exp=NOW), 401, "Expired", "invalid_token"),
             (checks, token(), 403, "NotAllowed", "insufficient_scope"),
@@ -352,6 +375,74 @@ def test_want_of_memory_is_an_answer(monkeypatch):
         monkeypatch.setattr(checks, "check", want)
         start, body = ask(checks, fresh())
         assert start["status"] == 503 and json.loads(body["body"])["reason"] == "NoMemory"
+
+
+def test_a_request_that_waits_too_long_for_a_thread_uses_up_no_token():
+    go, short, store, sent = threading.Event(), 0.05, Remembers(), []
+
+    async def send(message):
+        sent.append(message)
+
+    async def main(checks):
+        loop = asyncio.get_running_loop()
+        loop.set_default_executor(concurrent.futures.ThreadPoolExecutor(1))
+        busy = loop.run_in_executor(None, go.wait, PATIENCE)
+        scope = {"type": "http", "headers": [(b"authorization", b"Bearer " + fresh().encode())]}
+        late = asyncio.create_task(SvidMiddleware(None, checks)(scope, None, send))
+        await asyncio.sleep(2 * short)
+        go.set()
+        await busy
+        await late
+
+    with validator(mode="strict", store=store, wait=short) as checks:
+        asyncio.run(main(checks))
+    start, body = sent
+    assert start["status"] == 503 and json.loads(body["body"])["reason"] == "NotClaimed"
+    assert store.claims == []
+
+
+class Remembers(svid.testing.MemoryStore):
+    """A store that knows what was claimed."""
+
+    def __init__(self):
+        super().__init__()
+        self.claims = []
+
+    def put(self, claims):
+        self.claims += claims
+        return super().put(claims)
+
+
+@pytest.mark.parametrize("reuse", [(), ["/"]], ids=str)
+def test_a_look_after_a_suspension_does_not_hold_up_the_event_loop(reuse):
+    """It comes before a check, and before a token is judged that may come again."""
+    go, clock, given, sent = threading.Event(), svid.testing.Clock(), fresh(), []
+
+    class Hangs(svid.testing.MemoryStore):
+        def withdrawals(self, after):
+            return go.wait(PATIENCE) and super().withdrawals(after)
+
+    async def send(message):
+        sent.append(message)
+
+    async def main(checks):
+        headers = [(b"authorization", b"Bearer " + given.encode())]
+        app = SvidMiddleware(None, checks, reuse=reuse)
+        scope = {"type": "http", "path": "/", "headers": headers}
+        request = asyncio.create_task(app(scope, None, send))
+        await asyncio.sleep(0)
+        go.set()  # (this comes after the request, which would wait on the event loop)
+        await request
+
+    go.set()
+    store = Hangs()
+    with validator(mode="reuse", store=store, wait=PATIENCE, clock=clock) as checks:
+        until(lambda: checks.ready)
+        go.clear()
+        store.withdraw(checks.judge(given).use.key, int(clock()) + 3000)
+        clock.advance(100)
+        asyncio.run(main(checks))
+    assert sent[0]["status"] == 401
 
 
 def test_a_check_that_waits_does_not_hold_up_the_event_loop(tmp_path, monkeypatch):

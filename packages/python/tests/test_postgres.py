@@ -20,10 +20,12 @@ import pytest
 import svid
 from making import (
     PATIENCE,
+    answering,
     bundle,
     entry,
     fresh,
     private_key,
+    status_of,
     until,
     validator,
 )
@@ -31,10 +33,9 @@ from svid import postgres
 from svid._group import End
 from svid.postgres import PostgresStore, StoreFault
 
-TOP = pathlib.Path(os.environ["SVID"]).parent
 CLIENT = pathlib.Path(__file__).parent / "store_client.py"
 # (the user of PostgreSQL may not go through a folder of this one)
-OPEN = {**os.environ, "TMPDIR": "/tmp"}
+OPEN = {**os.environ, "TMPDIR": of_go.room()}
 ASKS_FOR_TLS = struct.pack(">II", 8, 80877103)  # ("SSLRequest" of the protocol)
 # The tests of go/claims/postgres, in groups. One process runs those that are chosen.
 TESTS = {
@@ -43,6 +44,7 @@ TESTS = {
     "ends": "TestStoreOfAServerThatEnds|TestTrouble|TestFullDisk|TestCloseLeavesNothing"
     "|TestQuarantine",
     "losses": "TestRowsThatGoByHandEndTheEpoch|TestALookMissesRows|TestAnOlderCopyThatWentOn"
+    "|TestALateAnswerOfAServerThatIsGone|TestAnotherClaimOfACall"
     "|TestAStoreMadeAgain|TestADumpThatIsReadInAgain|TestAClockThatIsADayOff|TestASmallStepBack",
     "calls": "TestAClaimThatWaitsWhileTheEpochEnds|TestOneOrder|TestWithdrawalsOfAnotherEpoch"
     "|TestAnEntryThatIsGoneMeanwhile|TestWhatIsOverGoes|TestALookAtAStoreOfWhichMuchIsOver"
@@ -58,8 +60,7 @@ TESTS = {
 def binary(tmp_path_factory):
     """The tests of go/claims/postgres as a program."""
     made = tmp_path_factory.mktemp("go") / "postgres.test"
-    words = ["go", "test", "-c", "-ldflags=-w", "-o", str(made), "./claims/postgres"]
-    subprocess.run(words, cwd=TOP / "go", check=True)
+    of_go.built("test", "-c", "-ldflags=-w", "-o", str(made), "./claims/postgres")
     return made
 
 
@@ -74,17 +75,22 @@ class Machine:
             stdout=subprocess.PIPE,
             text=True,
         )
-        self.url = self._run.stdout.readline().strip()
+        self.url = self._heard()
 
     def tell(self, what):
         self._run.stdin.write(f"{what}\n")
         self._run.stdin.flush()
-        return self._run.stdout.readline().strip()
+        return self._heard()
+
+    def _heard(self):
+        with answering(self._run, "the server"):
+            return self._run.stdout.readline().strip()
 
     def end(self):
-        self._run.stdin.close()
-        self._run.stdout.read()
-        assert self._run.wait() == 0
+        with answering(self._run, "the server that ends"):
+            self._run.stdin.close()
+            self._run.stdout.read()
+            assert self._run.wait() == 0
 
 
 @pytest.fixture(scope="module")
@@ -128,7 +134,7 @@ def outcome(binary, request):
     """How the tests of go/claims/postgres end that this run of pytest has."""
     env = {**OPEN, "SVID_STORE_CLIENT": of_go.client(CLIENT, "postgres")}
     tests = of_go.chosen(request, TESTS)
-    return of_go.Outcome([binary], tests, cwd=TOP / "go/claims/postgres", env=env)
+    return of_go.Outcome([binary], tests, cwd=of_go.TOP / "go/claims/postgres", env=env)
 
 
 @pytest.mark.parametrize("name", TESTS)
@@ -140,7 +146,8 @@ def test_store(outcome, name):
 
 def test_every_test_of_a_store_is_run(binary):
     """But for those that call nothing of a client."""
-    listed = subprocess.check_output([binary, "-test.list", "^Test"], text=True).split()
+    words = [binary, "-test.list", "^Test"]
+    listed = subprocess.check_output(words, text=True, timeout=PATIENCE).split()
     others = {
         "TestAServerOfAnotherLanguage",
         "TestStandbys",
@@ -151,7 +158,14 @@ def test_every_test_of_a_store_is_run(binary):
         "TestAnOldLookDoesNotCount",
         "TestLooksHavePauses",
         "TestTheLaterTimelineCounts",
+        "TestTwoPrimariesAreNamed",
+        "TestServersThatNobodyLooksAt",
+        "TestEachServerIsLookedAtOnce",
+        "TestAServerThatDoesNotSayWhatItIsLeavesNothing",
         "TestAContextThatEndsWithItsAnswer",
+        "TestASessionThatCantBeginLeavesNothing",
+        "TestEachCallThatIsUnderWayMayBeTheLast",
+        "TestEachClaimThatWasThereIsKept",
     }
     assert {it for names in TESTS.values() for it in names.split("|")} == {*listed} - others
 
@@ -169,8 +183,7 @@ def test_one_validator_accepts_a_token(machine, group):
 @pytest.fixture(scope="module")
 def svidd(tmp_path_factory):
     made = tmp_path_factory.mktemp("svidd") / "svidd"
-    words = ["go", "build", "-ldflags=-w", "-o", str(made), "./cmd/svidd"]
-    subprocess.run(words, cwd=TOP / "go", check=True)
+    of_go.built("build", "-ldflags=-w", "-o", str(made), "./cmd/svidd")
     return made
 
 
@@ -257,6 +270,15 @@ def test_a_withdrawal_wins_over_a_claim(machine, group):
         assert other.withdrawals(last) == ([], last)
 
 
+def test_the_first_call_of_a_member_may_be_a_withdrawal(machine, group, monkeypatch):
+    """Before it has looked at the store."""
+    monkeypatch.setattr(PostgresStore, "_watch", lambda _: None)
+    with store_of(machine, group) as one, store_of(machine, group) as other:
+        put(other, claim(2))  # (members have compared by then)
+        one.withdraw(claim(1).key, claim(1).expires)
+        assert put(other, claim(1))[0].owner == svid.WITHDRAWN
+
+
 def test_claims_of_tokens_that_expire_at_any_time(machine, group):
     """One that expires too late stops no other one of its call."""
     with store_of(machine, group) as store:
@@ -297,6 +319,95 @@ def test_a_server_without_tls_hears_nothing(environment, monkeypatch):
         assert heard[0] != ASKS_FOR_TLS and b"user" in heard[1]
     else:
         assert heard == [ASKS_FOR_TLS, b""] and "SSL" in str(raised.value)
+
+
+@pytest.mark.parametrize(
+    ("answer", "name"),
+    [(None, "silent"), (b"", "server"), (b"\xff" * 99, "server")],
+    ids=["silence", "the end", "garbage"],
+)
+def test_a_server_that_does_not_say_what_it_is(answer, name, monkeypatch):
+    """It lets the client in before that. The call ends in time, and says what is wrong."""
+    monkeypatch.setattr("svid.postgres._statements.DIAL_WAIT", 2000 * PATIENCE)
+    let_in = struct.pack(">cIIcIc", b"R", 8, 0, b"Z", 5, b"I")
+    asked, ended = [], threading.Event()
+
+    def serve():
+        with listening.accept()[0] as one:
+            one.recv(1000)
+            one.sendall(let_in)
+            asked.append(one.recv(1000))
+            one.sendall(answer or b"")
+            ended.wait(PATIENCE if answer != b"" else 0)
+
+    with socket.create_server(("127.0.0.1", 0)) as listening:
+        thread = threading.Thread(target=serve, daemon=True)
+        thread.start()
+        url = f"postgres://u@127.0.0.1:{listening.getsockname()[1]}/d?sslmode=disable"
+        store = PostgresStore.__new__(PostgresStore)
+        store._begin([url], "svid", 1, PATIENCE / 2 if answer is not None else 0.5, (7200, 60, 60))
+        begun = time.monotonic()
+        with store, pytest.raises(StoreFault) as raised:
+            store.put([])
+        assert raised.value.name == name and time.monotonic() - begun < PATIENCE
+        ended.set()
+        thread.join(PATIENCE)
+    assert asked
+
+
+def servers_of(*roles):
+    """Servers that were looked at, and are that."""
+    urls = [f"postgres://u@h{n}/d" for n, _ in enumerate(roles)]
+    servers = postgres._Servers(urls, "", End())
+    for it, role in zip(servers.all, roles):
+        it.role, it.at = role, time.monotonic() + PATIENCE
+    return servers
+
+
+def test_primaries_of_two_clusters_are_named():
+    primary = postgres._Role(True, "1", "now", "00000001")
+    standby, other = primary._replace(primary=False), primary._replace(system="2")
+    with pytest.raises(StoreFault, match="addresses 2 and 4 are primaries of two database clust"):
+        servers_of(standby, primary, standby, other)._primary()
+    other = primary._replace(started="later")
+    with pytest.raises(StoreFault, match="addresses 1 and 3 are both primaries: stop the wrong"):
+        servers_of(primary, standby, other)._primary()
+    later = primary._replace(started="later", line="00000002")
+    assert servers_of(primary, later)._primary().number == 2
+
+
+def test_each_server_has_one_thread(monkeypatch):
+    """However often the primary is asked for."""
+    made = []
+
+    class Thread:
+        def __init__(self, target, args, **_):
+            made.append(args[0].number)
+
+        def start(self):
+            """It has looked before."""
+
+    monkeypatch.setattr(threading, "Thread", Thread)
+    primary = postgres._Role(True, "1", "now", "00000001")
+    servers = servers_of(primary, primary._replace(primary=False))
+    for _ in range(3):
+        assert servers.await_primary(time.monotonic() + PATIENCE).number == 1
+    assert made == [1, 2]
+
+
+def test_servers_that_nobody_can_look_at_are_waited_for_in_time(monkeypatch):
+    monkeypatch.setattr(postgres._Servers, "_watch", lambda *_: None)
+    servers, said = postgres._Servers(["postgres://u@h/d", "postgres://u@i/d"], "", End()), []
+
+    def awaits():
+        with pytest.raises(StoreFault) as raised:
+            servers.await_primary(time.monotonic() + 0.1)
+        said.append(raised.value.name)
+
+    thread = threading.Thread(target=awaits, daemon=True)
+    thread.start()
+    until(lambda: said)
+    assert said == ["silent"]
 
 
 def test_a_connection_to_a_standby_ends(monkeypatch):
@@ -367,7 +478,7 @@ def test_close_ends_calls(machine, group):
 
     machine.tell("pause")
     try:
-        thread = threading.Thread(target=call)
+        thread = threading.Thread(target=call, daemon=True)
         thread.start()
         until(lambda: not store._idle)
         store.close()
@@ -409,12 +520,12 @@ def test_a_store_of_another_process_answers_nobody(machine, group):
                 status = 0
             finally:
                 os._exit(status)
-        assert os.waitpid(child, 0)[1] == 0
+        assert status_of(child) == 0
         assert put(store, claim(1))[0].owner == b"o" * 32
 
 
 def test_warnings(machine, group, caplog):
-    """The end of an epoch, and a server that is away, are warned of once."""
+    """The end of an epoch is warned of once, and so is a server that is away."""
     caplog.set_level(logging.WARNING, "svid")
     with store_of(machine, group) as store:
         put(store, claim(1))
@@ -426,7 +537,6 @@ def test_warnings(machine, group, caplog):
         found = put(store, claim(1))[0]
         assert found.deaf >= claim(1).expires
     assert caplog.text.count("has ended") == 1
-    assert caplog.text.count("can't be looked at") == 1
 
 
 def test_a_store_that_is_not_there(machine):
@@ -471,12 +581,33 @@ def test_what_is_no_store(urls, terms):
 
 
 def test_marks():
-    """The last four, and before them those that outlive all that came later: sixteen at most."""
+    """The last eight, and before them those that outlive all that came later, or were there: 64."""
     marks = []
-    for n, expires in enumerate([500, 100, 400, 300, 300, 200, 250, 1, 2, 3]):
+    for n, expires in enumerate([500, 100, 400, 300, 300, 200, 250, *range(1, 8)]):
         marks = postgres._marked(marks, svid.Claim(bytes([n]) * 32, b"o" * 32, expires))
-    assert [it.expires for it in marks] == [500, 400, 300, 200, 250, 1, 2, 3]
+    assert [it.expires for it in marks] == [500, 400, 300, 200, 250, *range(1, 8)]
     for n in range(100):
         marks = postgres._marked(marks, svid.Claim(bytes([n]) * 32, b"o" * 32, 400 - n))
-    assert len(marks) == 16 and marks[0].expires == 500
-    assert [it.expires for it in marks[-4:]] == [304, 303, 302, 301]
+    assert len(marks) == 64 and marks[0].expires == 500
+    assert [it.expires for it in marks[-8:]] == [*range(308, 300, -1)]
+
+
+def test_marks_of_claims_that_were_there():
+    """Each is kept once, until one that was stored later outlives it."""
+
+    def claim(expires):
+        return svid.Claim(expires.to_bytes(32, "big"), b"o" * 32, expires)
+
+    marks = []
+    for expires in range(11, 19):
+        marks = postgres._marked(marks, claim(expires))
+    for expires in [5, 300, 500, 400, 500, 18, 200]:
+        marks = postgres._marked_late(marks, claim(expires))
+    assert [it.expires for it in marks] == [500, 400, 300, 200, 5, *range(11, 19)]
+    for expires in [350, *range(20, 28)]:
+        marks = postgres._marked(marks, claim(expires))
+    assert [it.expires for it in marks] == [500, 400, 350, *range(20, 28)]
+    for expires in range(1000, 1100):
+        marks = postgres._marked_late(marks, claim(expires))
+    assert len(marks) == 64 and marks[0].expires == 1099
+    assert [it.expires for it in marks[-8:]] == [*range(20, 28)]

@@ -17,7 +17,7 @@ import pytest
 import svid
 import svid.asgi
 import svid.wsgi
-from making import LEFT, PATIENCE, until
+from making import LEFT, PATIENCE, PATIENT, patient, until
 
 PYTHON = pathlib.Path(__file__).parent.parent
 BLOCK = re.compile(r"^```(\w*)\n(.*?)^```$", re.MULTILINE | re.DOTALL)
@@ -40,13 +40,6 @@ def test_the_page_has_blocks_of_three_kinds():
     kinds = [kind for kind, _ in BLOCKS]
     assert set(kinds) == {"python", "text", "console"}
     assert kinds.count("python") >= 4
-
-
-# The page says no `wait`, and a machine may be slow: each process of a service begins with this.
-PATIENT = f"""
-import functools, svid
-svid.Validator = functools.partial(svid.Validator, wait={PATIENCE})
-"""
 
 
 def test_python(checkout, monkeypatch):
@@ -107,8 +100,7 @@ def served(command):
     begins, log = "Listening at: http://127.0.0.1:", pathlib.Path("said")
     folder = pathlib.Path("patient").resolve()
     folder.mkdir(exist_ok=True)
-    (folder / "sitecustomize.py").write_text(PATIENT)
-    environment = {**os.environ, "PYTHONPATH": f"{folder}:{os.environ['PYTHONPATH']}"}
+    environment = patient(folder)
     with open(log, "wb") as said:
         ran = subprocess.Popen(words, stderr=said, env=environment, start_new_session=True)
     try:
@@ -146,6 +138,8 @@ def test_console(checkout):
             printed = [line for line in text.splitlines() if not line.startswith("$ ")]
             script = "set -e\n" + "\n".join(commands).replace("/tmp/", f"{checkout}/")
             words = ["bash", "-c", script]
-            ran = subprocess.run(words, env=environment, capture_output=True, check=False)
+            ran = subprocess.run(
+                words, env=environment, capture_output=True, timeout=5 * PATIENCE, check=False
+            )
             assert ran.returncode == 0, ran.stderr.decode()
             assert ran.stdout.decode().splitlines() == printed

@@ -3,6 +3,7 @@
 import dataclasses
 import functools
 import os
+import sys
 import time
 
 import pytest
@@ -524,9 +525,19 @@ def test_an_audience_may_have_any_characters():
     names = ["a\nb", "c\r", " d", "\0", "é\u200b", "\ufeff"]
     with validator(audiences=names) as checks:
         for name in names:
-            assert verdict(checks, token(aud=name, jti=name)) == ACCEPTED
+            made = token(aud=["other", name], jti=name)
+            assert checks.judge(made, NOW).audience == name
+            assert verdict(checks, made) == ACCEPTED
         for name in ["a", "b", "c", "d", "a\nbc\r", "", "é"]:
             assert verdict(checks, token(aud=name, jti=name)) == "refused NotAudience"
+
+
+def test_what_the_package_gives_its_modules_give():
+    """To who imports all of a module, as of svid.records."""
+    for name in svid.__all__:
+        module = getattr(getattr(svid, name), "__module__", "svid")
+        if module.startswith("svid."):
+            assert name in getattr(sys.modules[module], "__all__", [name])
 
 
 def test_one_audience_is_one_name():

@@ -2,27 +2,32 @@
 
 import contextlib
 import gc
+import inspect
 import logging
 import os
 import pathlib
+import resource
 import signal
 import socket
 import ssl
 import subprocess
 import threading
 import time
+import traceback
 import types
+from concurrent.futures import ThreadPoolExecutor
 
 import of_go
 import pytest
 import redis
 import svid
-from making import PATIENCE, Authority, fresh, until, validator
+from making import PATIENCE, Authority, fresh, joined, status_of, until, validator
+from svid import _scripts
 from svid import redis as store_of_redis
 from svid._group import End, GroupStore
+from svid.postgres import PostgresStore
 from svid.redis import RedisStore, State, StoreFault
 
-TOP = pathlib.Path(os.environ["SVID"]).parent
 CLIENT = pathlib.Path(__file__).parent / "store_client.py"
 # The tests of go/claims/redis, in groups. One process runs those that are chosen.
 TESTS = {
@@ -33,11 +38,14 @@ TESTS = {
     "losses": "TestAnEntryThatIsRemovedByHand|TestWhatAMemberKnows|TestATokenThatLivesTooLong"
     "|TestMembersAgree|TestEachPutLooksAtTheEpoch|TestAnEndCoversWhatEachMemberKnows"
     "|TestAStoreThatWasMadeAnew|TestMembersCompareFirst|TestWhatIsOverIsNotKept"
-    "|TestAClockThatIsADayOff",
-    "ends": "TestFullMemory|TestFullDisk|TestLateAnswers|TestKilledOverAndOver",
+    "|TestAClockThatIsADayOff|TestAnAnswerOfAnEarlierRun|TestAnEntryThatWasFound"
+    "|TestEntriesThatWereFound"
+    "|TestALateAnswerOfAServerThatIsGone",
+    "ends": "TestFullMemory|TestFullDisk|TestLateAnswers|TestKilledOverAndOver"
+    "|TestAServerThatIsSlow",
     "replicas": "TestAReplicaAlone|TestAReplicaUnderTheSameName|TestATakeover"
     "|TestATakeoverWithReplicas|TestTooFewReplicas|TestTwoPrimaries|TestAPrimaryThatWasAReplica"
-    "|TestEachPutLooksAtTheRun",
+    "|TestEachPutLooksAtTheRun|TestAnswersInAnotherOrder",
     "sentinels": "TestSentinel|TestAPrimaryThatHung|TestSentinelsThatDisagree",
     "cluster": "TestCluster|TestAMemberOfAnotherLanguageInACluster",
     "cluster_servers": "TestClusterWithoutOneServer|TestHowAClusterIsNamed",
@@ -46,6 +54,9 @@ TESTS = {
 # Those of parts that only the member in Go has.
 OTHERS = {
     "TestRights",
+    "TestALookThatALateAnswerOvertook",
+    "TestACallThatIsCut",
+    "TestFewEntriesAreKnown",
     "TestAKeyOfAnUnknownAlgorithm",
     "TestOptions",
     "TestRecords",
@@ -58,7 +69,10 @@ OTHERS = {
     "TestAServerThatIsAwayIsAskedNowAndThen",
     "TestMembersThatComeAndGoLeaveNoKey",
     "TestALookThatANewConnectionOvertook",
+    "TestAnAddressThatLeadsToAnotherServer",
     "TestAContextThatEndsLater",
+    "TestPasswordsOfSentinels",
+    "TestWhatIsAskedOnceLeavesNothing",
 }
 
 
@@ -66,17 +80,17 @@ OTHERS = {
 def binary(tmp_path_factory):
     """The tests of go/claims/redis as a program."""
     made = tmp_path_factory.mktemp("go") / "redis.test"
-    words = ["go", "test", "-c", "-ldflags=-w", "-o", str(made), "./claims/redis"]
-    subprocess.run(words, cwd=TOP / "go", check=True)
+    of_go.built("test", "-c", "-ldflags=-w", "-o", str(made), "./claims/redis")
     return made
 
 
 @pytest.fixture(scope="module")
 def outcome(binary, request):
     """How the tests of go/claims/redis end that this run of pytest has."""
-    env = {**os.environ, "SVID_STORE_CLIENT": of_go.client(CLIENT, "redis")}
+    env = {**os.environ, "TMPDIR": of_go.room()}
+    env["SVID_STORE_CLIENT"] = of_go.client(CLIENT, "redis")
     tests = of_go.chosen(request, TESTS)
-    return of_go.Outcome([binary], tests, cwd=TOP / "go/claims/redis", env=env)
+    return of_go.Outcome([binary], tests, cwd=of_go.TOP / "go/claims/redis", env=env)
 
 
 @pytest.mark.parametrize("name", TESTS)
@@ -87,7 +101,8 @@ def test_store(outcome, name):
 
 
 def test_every_test_of_a_store_is_run(binary):
-    listed = subprocess.check_output([binary, "-test.list", "^Test"], text=True).split()
+    words = [binary, "-test.list", "^Test"]
+    listed = subprocess.check_output(words, text=True, timeout=PATIENCE).split()
     assert {it for names in TESTS.values() for it in names.split("|")} == {*listed} - OTHERS
 
 
@@ -218,6 +233,19 @@ def test_a_number_of_a_life_never_goes_back(machine):
         assert machine.client().get(key) == b"1000"
 
 
+def test_each_member_has_numbers_of_its_own(machine):
+    """By them it sees that a server is an older copy: those of another member may be greater."""
+
+    def lives():
+        return {*machine.client().keys("svid:{svid}:life:*")}
+
+    before = lives()
+    with store_of(machine) as one, store_of(machine) as other:
+        for it in one, other:
+            put(it, claim(1))
+        assert len(lives() - before) == 2
+
+
 def test_claims_of_tokens_that_expire_at_any_time(machine):
     """One that expires too late stops no other one of its call."""
     with store_of(machine) as store:
@@ -267,7 +295,7 @@ def test_close_ends_calls(machine):
             raised.append(why.name)
 
     with machine.paused():
-        thread = threading.Thread(target=call)
+        thread = threading.Thread(target=call, daemon=True)
         thread.start()
         until(lambda: store._open and not any(it.idle for it in store._pools.values()))
         store.close()
@@ -277,6 +305,17 @@ def test_close_ends_calls(machine):
     for call in (lambda: store.put([claim(1)]), store.state, store.withdrawals):
         with pytest.raises(StoreFault, match="closed"):
             call()
+
+
+def test_a_store_that_is_closed_has_no_connection(machine):
+    """Though somebody keeps it. With several addresses it has one of each for its looks."""
+    with machine.client() as client:
+        before = len(client.client_list())
+        store = RedisStore(machine.url, machine.url, wait=PATIENCE)
+        put(store, claim(1))
+        assert len(client.client_list()) >= before + 3
+        store.close()
+        until(lambda: len(client.client_list()) == before)
 
 
 def test_nothing_of_a_store_stays(machine):
@@ -305,7 +344,7 @@ def test_a_store_of_another_process_answers_nobody(machine):
                 status = 0
             finally:
                 os._exit(status)
-        assert os.waitpid(child, 0)[1] == 0
+        assert status_of(child) == 0
         assert put(store, claim(1))[0].owner == b"o" * 32
 
 
@@ -335,11 +374,34 @@ def test_terms(machine):
             store.put([])
 
 
+@pytest.mark.parametrize("kind", [RedisStore, PostgresStore])
+def test_a_store_has_the_terms_of_a_validator_by_default(kind):
+    """All members of a store are to have the same."""
+    own, theirs = (inspect.signature(it).parameters for it in (kind, svid.Validator))
+    for name in "longest", "ahead", "wait":
+        assert own[name].default == theirs[name].default
+
+
 def unwatched(*servers):
     """A store that looks at its servers in calls alone."""
     store = RedisStore.__new__(RedisStore)
     store._begin(servers, "svid", 1, PATIENCE, (7200, 60, 60), 500)
     return store
+
+
+def test_a_look_that_a_late_answer_overtook(machine):
+    """An answer of an earlier run may come meanwhile. Another look compares what that put."""
+    with unwatched(machine.url) as store:
+        put(store, claim(1))
+        (it,) = store._shards
+        asked, at = it.known, it.agreed
+        later = b" ".join([*asked.record.split(b" ")[:7], b"later", *asked.record.split(b" ")[8:]])
+        it.known = asked._replace(marks=(*asked.marks, b"another"))
+        for was in asked, it.known:
+            it.count += 1
+            rest = it.checked, at, later, asked.epoch, asked.deaf, 1, 1
+            assert store._adopt(it, it.count, was, *rest) == (was is not asked)
+            assert it.known.run == (asked.run if was is asked else b"later")
 
 
 @pytest.mark.parametrize("is_looked_at", [False, True])
@@ -409,12 +471,21 @@ def test_an_address_that_leads_to_another_server(machine, tmp_path):
 
 
 def test_a_cluster_whose_servers_do_not_know_their_names(tmp_path):
-    """They tell no host, which then is the one that was asked."""
+    """They tell no host, which then is the one that was asked.
+
+    The slots of two shards are the last and the first one of a range.
+    """
     more = ["--cluster-enabled", "yes", "--cluster-preferred-endpoint-type", "unknown-endpoint"]
+    more += ["--cluster-require-full-coverage", "no"]
+    slots = {it: store_of_redis._Shard(it, f"svid:{it:02x}").slot for it in range(16)}
+    last, first = sorted((slots[0], slots[12]))
+    nobody = {last + 1, first - 1}
+    assert not nobody & {*slots.values()} and last + 1 < first - 1
+    ranges = (0, last, last + 2, first - 2, first, 16383)
     with held_ports(2) as (port, bus):
         made = Machine(tmp_path / "one", *more, "--cluster-port", str(bus), port=port)
     try:
-        made.client().execute_command("CLUSTER ADDSLOTSRANGE", 0, 16383)
+        made.client().execute_command("CLUSTER ADDSLOTSRANGE", *ranges)
         with RedisStore(f"redis://127.0.0.1:{port}", wait=PATIENCE) as store:
             assert put(store, claim(1), claim(200))[1].owner == b"o" * 32
             assert len(store._shards) == 16
@@ -483,6 +554,14 @@ def test_all_answers_of_a_call_have_its_time_together(monkeypatch):
     assert raised.value.name == "silent" and now[0] < 3
 
 
+@pytest.mark.parametrize(("word", "name"), _scripts.CODES.items())
+def test_what_a_server_says_by_its_first_word(word, name):
+    """redis-py takes the word away from errors that it knows."""
+    told = redis.connection.PythonParser(65_536).parse_error(f"{word} 1 127.0.0.1:1")
+    one = types.SimpleNamespace(_ends=End(), at=types.SimpleNamespace(name="it"))
+    assert store_of_redis._Connection._fault(one, told).name == name
+
+
 def test_many_calls_share_a_look(monkeypatch):
     servers = store_of_redis._Servers(["redis://h:1", "redis://h:2"], End())
     asked, go, end = [], threading.Event(), time.monotonic() + PATIENCE
@@ -492,14 +571,27 @@ def test_many_calls_share_a_look(monkeypatch):
         go.wait(PATIENCE)
         return servers._all[:1]
 
+    class Lock:
+        """It remembers which threads asked for it."""
+
+        came, real = [], servers._looking
+
+        def acquire(self, timeout):
+            self.came.append(1)
+            return self.real.acquire(timeout=timeout)
+
+        def release(self):
+            self.real.release()
+
+    lock = servers._looking = Lock()
     monkeypatch.setattr(servers, "_ask", ask)
-    calls = [threading.Thread(target=servers.primary, args=(end,)) for _ in range(8)]
+    terms = {"target": servers.primary, "args": (end,), "daemon": True}
+    calls = [threading.Thread(**terms) for _ in range(8)]
     for it in calls:
         it.start()
-    until(lambda: asked)
+    until(lambda: asked and len(lock.came) == 8)  # (who comes after the look makes none)
     go.set()
-    for it in calls:
-        it.join(PATIENCE)
+    joined(*calls)
     assert len(asked) == 1
 
 
@@ -627,6 +719,32 @@ def test_a_store_is_looked_at_once_a_second(monkeypatch):
     assert waits == [0.75, 1.0, 0.0]
 
 
+def test_a_store_of_a_process_with_many_files_is_looked_at(monkeypatch):
+    """As of a service with more than a thousand connections."""
+    monkeypatch.setattr("svid._group._statements.STATE_EVERY", 10)
+    before = resource.getrlimit(resource.RLIMIT_NOFILE)
+    resource.setrlimit(resource.RLIMIT_NOFILE, (before[1], before[1]))
+    with contextlib.ExitStack() as at_end:
+        at_end.callback(resource.setrlimit, resource.RLIMIT_NOFILE, before)
+        for _ in range(1024):
+            at_end.callback(os.close, os.open(os.devnull, os.O_RDONLY))
+        store = at_end.enter_context(Told())
+        store._watch()
+        until(lambda: len(store.looks) > 2)
+
+
+def test_a_store_that_is_closed_waits_for_nothing(monkeypatch):
+    """Its thread ends at once, and not at its next look."""
+    monkeypatch.setattr("svid._group._statements.STATE_EVERY", 2000 * PATIENCE)
+    before = {*threading.enumerate()}
+    with Told() as store:
+        store._watch()
+        until(lambda: store._heard)
+        (thread,) = {it for it in threading.enumerate() if it.name == "svid-store"} - before
+    thread.join(PATIENCE)
+    assert not thread.is_alive()
+
+
 def test_each_outage_is_warned_of(monkeypatch, caplog):
     monkeypatch.setattr("svid._group._statements.STATE_EVERY", 10)
     with Told() as store:
@@ -657,6 +775,47 @@ def test_no_claim_is_answered_before_withdrawals_are_read():
         store.told = [(claim(1).key, claim(1).expires)]
         store.state()
         assert store.put([claim(1)])[0].owner == svid.WITHDRAWN
+
+
+def test_no_claim_is_answered_before_withdrawals_are_read_though_two_read_them():
+    """Neither takes what the other one has read for all that there is."""
+    pages = {"": ([], "1"), "1": ([(claim(1).key, claim(1).expires)], "2")}
+    both = {page: threading.Barrier(2, timeout=PATIENCE) for page in pages}
+
+    class Pages(Told):
+        def _withdrawals(self, after, end):
+            if after in both:
+                both[after].wait()
+            return pages.get(after, ([], "2"))
+
+    with Pages() as store, ThreadPoolExecutor(2) as pool:
+        found = [pool.submit(store.put, [claim(1)]) for _ in range(2)]
+        assert [it.result(PATIENCE)[0].owner for it in found] == [svid.WITHDRAWN] * 2
+
+
+def test_a_first_call_has_one_end(monkeypatch):
+    """It looks at the store, reads the withdrawals and puts the claims, all until the same end."""
+    now, ends = [0.0], []
+    monkeypatch.setattr("svid._group.time", types.SimpleNamespace(monotonic=lambda: now[0]))
+
+    class Slow(Told):
+        def _look(self, end):
+            return self._until_then(end) and super()._look(end)
+
+        def _withdrawals(self, after, end):
+            return self._until_then(end) and super()._withdrawals(after, end)
+
+        def _put_each(self, claims, end):
+            return self._until_then(end) and super()._put_each(claims, end)
+
+        def _until_then(self, end):
+            now[0] += 0.25
+            ends.append(end)
+            return True
+
+    with Slow() as store:
+        store.put([claim(1)])
+    assert len(ends) == 4 and {*ends} == {2.0}
 
 
 def test_withdrawals_are_kept_in_mind_as_long_as_an_entry(monkeypatch):
@@ -719,6 +878,27 @@ def test_passwords(tmp_path, monkeypatch):
             put(store, claim(1))
     finally:
         machine.kill()
+
+
+def test_no_error_has_a_password():
+    """Nor has one that led to it, though the server says what it was given."""
+    says = b"-ERR unknown command 'AUTH', with args beginning with: 'sesame' \r\n"
+
+    def answer(listening):
+        with contextlib.suppress(OSError):
+            while client := listening.accept()[0]:
+                with client:
+                    while client.recv(1000):
+                        client.sendall(says)
+
+    with socket.create_server(("127.0.0.1", 0)) as listening:
+        threading.Thread(target=answer, args=(listening,), daemon=True).start()
+        url = f"redis://:sesame@127.0.0.1:{listening.getsockname()[1]}"
+        with RedisStore(url, wait=PATIENCE) as store, pytest.raises(StoreFault) as raised:
+            store.put([])
+        said = "".join(traceback.format_exception(raised.value))
+        assert "unknown command 'AUTH'" in said and "sesame" not in said
+        listening.shutdown(socket.SHUT_RDWR)
 
 
 @pytest.mark.parametrize(

@@ -3,11 +3,13 @@
 import copy
 import json
 import pickle
+import subprocess
+import sys
 
 import pytest
 import svid
 import vectors
-from making import NOW, b64, claims, entry, private_key, signed, token, validator
+from making import NOW, PATIENCE, b64, claims, entry, private_key, signed, token, validator
 from svid._group import StoreFault
 from svid.errors import REFUSALS
 
@@ -62,6 +64,15 @@ def test_refusals_say_what_is_wrong_and_nothing_of_the_token():
     for kind in REFUSALS.values():
         refused = kind()
         assert kind.__doc__ and "\n" not in str(refused) and "  " not in str(refused)
+        assert kind.__doc__.replace("`", "").split() == str(refused).split()[1:]
+
+
+def test_a_program_without_docstrings_says_the_same():
+    """As python -OO runs it."""
+    words = "from svid.errors import REFUSALS\nfor it in REFUSALS.values(): print(it())"
+    ran = [sys.executable, "-OO", "-c", words]
+    said = subprocess.check_output(ran, text=True, timeout=PATIENCE)
+    assert said.splitlines() == [str(it()) for it in REFUSALS.values()]
 
 
 WITH = {

@@ -15,6 +15,7 @@ from jose import jwt as python_jose
 from making import (
     ALGORITHMS,
     NOW,
+    PATIENCE,
     SIGNERS,
     b64,
     bundle,
@@ -63,7 +64,8 @@ def by_jose(alg, key):
     work = json.dumps({"payload": b64(json.dumps(claims()).encode())})
     words = ["jose", "jws", "sig", "-i", work, "-k", "-", "-s", template, "-c", "-o", "-"]
     given = json.dumps({**public, **private}).encode()
-    return subprocess.run(words, input=given, capture_output=True, check=True).stdout.decode()
+    ran = subprocess.run(words, input=given, capture_output=True, timeout=PATIENCE, check=True)
+    return ran.stdout.decode()
 
 
 WRITERS = [

@@ -119,11 +119,15 @@ def test_what_an_acceptance_has():
                 assert it == accepted and it.claims == accepted.claims
 
 
-def test_a_key_without_an_id():
-    with validator(bundle(entry(private_key("ES256"), "k1"))) as checks:
-        made = jwt.encode(claims(), private_key("ES256"), "ES256")
+@pytest.mark.parametrize(
+    ("header", "said"), [({}, None), ({"kid": "clé \U0001f511"}, "clé \U0001f511")]
+)
+def test_the_id_of_a_key(header, said):
+    """A token may have none, and one may have any letters."""
+    with validator(bundle(entry(private_key("ES256"), "clé \U0001f511"))) as checks:
+        made = jwt.encode(claims(), private_key("ES256"), "ES256", headers=header)
         accepted = checks.check(made, NOW)
-        assert (accepted.key_id, accepted.audience) == (None, "ledger")
+        assert (accepted.key_id, accepted.audience) == (said, "ledger")
 
 
 # -- Hooks
@@ -150,6 +154,26 @@ def test_refusals_are_told():
             assert said[-1] is raised.value
     names = ["Replayed", "NotThreeParts", "Expired", "NotAllowed", "NotAllowed"]
     assert [type(it).__name__ for it in said] == names
+
+
+def test_a_hook_that_fails_changes_no_answer(caplog):
+    told = []
+
+    def fails(what):
+        told.append(what)
+        raise ConnectionError("no logger")
+
+    with validator(on_refusal=fails, on_twice=fails) as one, validator() as two:
+        for call in one.check, one.judge:
+            with pytest.raises(svid.NotThreeParts):
+                call("a", NOW)
+        assert len(told) == 2
+        made = [token(jti=str(it)) for it in range(2)]
+        uses = [two.check(it, NOW).use for it in made if one.check(it, NOW)]
+        one.take(b"".join(it.message for it in uses), NOW)
+    assert sorted(told[2:]) == sorted(it.key for it in uses)
+    failed = [it for it in caplog.records if it.exc_info]
+    assert [str(it.exc_info[1]) for it in failed] == ["no logger"] * 4
 
 
 def test_the_logger_has_refusals(caplog):

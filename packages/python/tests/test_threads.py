@@ -1,5 +1,6 @@
 """Threads, forks and the end of a program."""
 
+import functools
 import json
 import multiprocessing
 import os
@@ -10,25 +11,32 @@ import time
 
 import pytest
 import svid
+import svid.testing
 from making import (
+    Authority,
     PATIENCE,
     NOW,
     SUBJECT,
     bundle,
     entry,
+    fresh,
+    joined,
     private_key,
     token,
     unb64,
+    until,
     validator,
     verdict,
 )
+from svid import _claims, _frames, _handle
+from svid import _library as lib
 
 THREADS = 8
 
 
 def in_threads(work):
     """Runs work(number) in threads at once, and raises what one of them raised."""
-    raised, gate = [], threading.Barrier(THREADS)
+    raised, gate = [], threading.Barrier(THREADS, timeout=PATIENCE)
 
     def run(number):
         try:
@@ -37,11 +45,11 @@ def in_threads(work):
         except BaseException as error:  # noqa: B902
             raised.append(error)
 
-    threads = [threading.Thread(target=run, args=(number,)) for number in range(THREADS)]
+    numbers = range(THREADS)
+    threads = [threading.Thread(target=run, args=(it,), daemon=True) for it in numbers]
     for it in threads:
         it.start()
-    for it in threads:
-        it.join()
+    joined(*threads)
     if raised:
         raise raised[0]
 
@@ -122,12 +130,91 @@ def test_closing_waits_for_a_call():
 
     checks._handle._lock = Asked(lock)
     with lock:  # as a call that is under way
-        thread = threading.Thread(target=checks.close)
+        thread = threading.Thread(target=checks.close, daemon=True)
         thread.start()
         assert asks.wait(PATIENCE)
         assert checks._handle._freeing.alive
     thread.join(PATIENCE)
     assert not thread.is_alive()
+
+
+class Owned:
+    """A lock that knows which thread has it."""
+
+    def __init__(self, lock):
+        self._lock, self.owner = lock, None
+
+    def __enter__(self):
+        self._lock.acquire()
+        self.owner = threading.get_ident()
+
+    def __exit__(self, *_):
+        self.owner = None
+        self._lock.release()
+
+
+def test_each_call_has_the_lock(tmp_path, monkeypatch):
+    """Of a validator, and of a state folder: a room of a validator is for one call at a time."""
+    locks, called, unlocked = {}, set(), set()
+
+    def guarded(name, call):
+        def guard(at, *rest):
+            if at in locks:
+                called.add(name)
+                if locks[at].owner != threading.get_ident():
+                    unlocked.add(name)  # (some threads pass over an error)
+            return call(at, *rest)
+
+        return guard
+
+    def begin(self, *given, begun, **named):
+        begun(self, *given, **named)
+        locks[self._at] = self._lock = Owned(self._lock)
+
+    for kind in _handle.Handle, _frames.Numbers:
+        begins = functools.partialmethod(begin, begun=kind.__init__)
+        monkeypatch.setattr(kind, "__init__", begins)
+    names = {*lib._CALLS, *lib._CALLS_OF_NO_STATUS, *lib._CALLS_OF_A_CHECK}
+    for library in lib.library, lib.quick:
+        for name in names:
+            monkeypatch.setattr(library, name, guarded(name, getattr(library, name)))
+    monkeypatch.setattr(_claims, "_HEARS", 0.01)
+    store = svid.testing.MemoryStore()
+    with (
+        validator(
+            mode="once", state=tmp_path / "once", store=store, callers=["spiffe://example.org"]
+        ) as once,
+        validator(mode="bound", state=tmp_path / "bound") as bound,
+    ):
+        once.check(fresh(jti="1"))
+        bound.check(fresh(jti="2"), caller=b"it")
+        gone = bound.withdraw(fresh(jti="3"))
+        store.withdraw(gone.key, gone.expires)
+        until(lambda: once.report().uses[0].withdrawn or once.report().uses[-1].withdrawn)
+        once.take(gone.message)
+        once.judge(fresh(jti="4"))
+        once.answer(bound.summary())
+        once.tick()
+        once.renew()
+        assert once.unready() is None
+        once._journal.snapshot(once.parts)
+    going_on = threading.Event()
+
+    class Silent(svid.testing.MemoryStore):
+        def put(self, claims):
+            return super().put(claims) if going_on.wait(PATIENCE if claims else 0) else []
+
+        def withdraw(self, key, expires):
+            going_on.wait(PATIENCE)
+
+    with validator(mode="strict", store=Silent(), wait=0.5) as late:
+        for call in late.check, late.withdraw:
+            with pytest.raises(svid.Unavailable):
+                call(fresh(jti="5"))
+        going_on.set()
+    assert not unlocked
+    assert called > {"svid_member_overdue", "svid_withdrawal_overdue", "svid_validator_bucket"}
+    assert len(called) > 25
 
 
 def test_all_calls_at_once(tmp_path):
@@ -179,13 +266,13 @@ def test_renewals_against_checks(hasty):
                 checks.renew(second)
                 checks.renew(first)
 
-        thread = threading.Thread(target=renews)
+        thread = threading.Thread(target=renews, daemon=True)
         thread.start()
         try:
             in_threads(lambda _: said.extend((it, verdict(checks, it)) for it in tokens))
         finally:
             is_over.set()
-            thread.join()
+            joined(thread)
         assert len(checks.report().uses) == len(tokens)
     for it in tokens:
         answers = sorted(answer for which, answer in said if which == it)
@@ -287,14 +374,14 @@ def test_a_fork_while_a_thread_is_in_a_call(call):
                 held.set()
                 free.wait(PATIENCE)
 
-        thread = threading.Thread(target=hold)
+        thread = threading.Thread(target=hold, daemon=True)
         thread.start()
-        held.wait(PATIENCE)
+        assert held.wait(PATIENCE)
         try:
             assert forked(getattr(checks, call)) == "Forked"
         finally:
             free.set()
-            thread.join()
+            joined(thread)
         getattr(checks, call)()
 
 
@@ -323,6 +410,7 @@ def test_a_program_that_ends_frees_nothing():
     """A thread that outlives the interpreter may be in a call."""
     text = """
 import svid
+import svid.testing
 svid._handle._close = lambda _: print("freed")
 svid.Validator(audiences="a", bundles=b"{}")
 kept = svid.Validator(audiences="a", bundles=b"{}")
@@ -338,6 +426,7 @@ def test_validators_that_are_dropped_are_freed():
     """Each has bundles of a megabyte: 100 that stayed would be 250 megabytes and more."""
     text = """
 import svid
+import svid.testing
 key = b'{"kty":"EC","use":"jwt-svid","kid":"%s"}' % (b"k" * 60_000)
 bundles = b'{"a":{"keys":[%s]}}' % b",".join([key] * 16)
 for _ in range(100):
@@ -348,3 +437,77 @@ print(open("/proc/self/status").read().partition("VmHWM:")[2].split()[0])
         [sys.executable, "-c", text], capture_output=True, timeout=PATIENCE, check=True
     )
     assert int(ran.stdout) < 100_000  # kilobytes, the most that this process had
+
+
+def test_a_collector_may_end_what_follows_in_any_line(tmp_path):
+    """A validator that refers to itself ends where the collector runs, in whatever thread.
+
+    That waits for nothing: no collector would run in the process any more.
+    """
+    text = """
+import collections, gc, socket, sys, threading, time
+import svid
+from svid import _claims, _follow, sources
+from svid.testing import MemoryStore
+
+folder, patience = sys.argv[1], float(sys.argv[3])
+_claims._HEARS = _follow._SHORTEST = _follow._LONGEST = 0.001
+sources.LIMIT = 0.002
+silent = socket.create_server(("127.0.0.1", 0), backlog=1000)
+url = f"https://127.0.0.1:{silent.getsockname()[1]}"
+gc.disable()
+ran, armed, rounds = set(), [], collections.Counter()
+open(folder + "/bundle", "w").write('{"keys":[]}')
+
+def line(frame, event, _):
+    global news
+    if armed and event == "line" and (it := (frame.f_code, frame.f_lineno)) not in ran:
+        armed.clear()
+        ran.add(it)
+        news = True
+        gc.collect()
+    return line
+
+def traced(frame, *_):
+    function, module = frame.f_code.co_name, frame.f_globals["__name__"]
+    this = threading.current_thread()
+    if this.name not in names or function not in functions or module not in modules:
+        return None
+    if (function, module) == ("wait", "svid._ending"):
+        rounds[this] += 1
+    return line
+
+# Those that have a lock, or wait.
+functions = {"wait", "set", "is_set", "__enter__", "__exit__", "_release_save", "_acquire_restore"}
+functions |= {"within", "has", "stand", "_run", "_hear"}
+modules = {"threading", "svid.sources", "svid._follow", "svid._claims", "svid._ending"}
+names = "svid-bundles", "svid-withdrawals"
+threading.settrace(traced)
+news = True
+while news:
+    news = False
+    away = svid.Endpoint(url, authorities=sys.argv[2])
+    given = {"a": folder + "/bundle", "b": away}
+    made = svid.Validator(audiences="a", bundles=given, store=MemoryStore(), refresh=0.01)
+    these = [it for it in threading.enumerate() if it.name.startswith("svid-")]
+    made.itself = made
+    del made
+    rounds.clear()
+    armed.append(True)
+    end = time.monotonic() + patience
+    # (each thread has gone round some times by then: no line of it is new)
+    while armed and any(rounds[it] < 5 for it in these if it.name in names):
+        time.sleep(0.0005)
+        assert time.monotonic() < end, ("these don't go round", rounds)
+    armed.clear()
+    if not news:
+        gc.collect()
+    for it in these:
+        it.join(patience)
+        assert not it.is_alive(), (it.name, [(code.co_name, at) for code, at in ran])
+print(len(ran))
+"""
+    words = [sys.executable, "-c", text, tmp_path, Authority().pem(tmp_path), str(PATIENCE / 3)]
+    ran = subprocess.run(words, capture_output=True, timeout=PATIENCE, check=False)
+    assert ran.returncode == 0, ran.stderr.decode()
+    assert int(ran.stdout) > 60

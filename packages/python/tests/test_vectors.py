@@ -101,6 +101,9 @@ class AtOneTime:
     def check(self, token):
         return self.checks.check(token, NOW)
 
+    def _looks_first(self):
+        return False
+
 
 def empty():
     """A validator that takes messages of any time, and whose record is empty."""

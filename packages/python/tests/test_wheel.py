@@ -9,7 +9,7 @@ import sys
 import zipfile
 
 import pytest
-from making import LEFT, NOW, bundle, entry, private_key, token
+from making import LEFT, NOW, PATIENCE, bundle, entry, private_key, token
 
 
 PYTHON = pathlib.Path(__file__).parent.parent
@@ -31,7 +31,7 @@ print(*sorted({it.partition(".")[0] for it in sys.modules} & {"jwt", "setuptools
 
 
 def run(*words, **more):
-    ran = subprocess.run(words, capture_output=True, check=False, **more)
+    ran = subprocess.run(words, capture_output=True, timeout=5 * PATIENCE, check=False, **more)
     assert ran.returncode == 0, ran.stderr.decode()
     return ran.stdout.decode()
 
@@ -52,6 +52,9 @@ def test_what_is_in_it(wheel):
     with zipfile.ZipFile(wheel) as file:
         names = {name for name in file.namelist() if ".dist-info/" not in name}
         library = file.read("svid/libsvid.so")
+        (wheels,) = (it for it in file.namelist() if it.endswith(".dist-info/WHEEL"))
+        terms = file.read(wheels).decode().splitlines()
+    assert "Root-Is-Purelib: false" in terms  # (its folder is that of this machine's code)
     sources = {str(it.relative_to(PYTHON)) for it in (PYTHON / "svid").iterdir() if it.is_file()}
     assert names == sources | {"svid/libsvid.so"}
     assert "svid/py.typed" in names
@@ -70,7 +73,7 @@ def test_a_wheel_is_for_the_machine_of_its_library(number, name, tmp_path):
     environment = {**os.environ, "LIBSVID": str(tmp_path / "libsvid.so")}
     # (as pip calls it, which takes four processes for that)
     words = [sys.executable, "setup.py", "-q", "bdist_wheel", "--dist-dir", tmp_path]
-    more = {"cwd": tmp_path / "python", "env": environment}
+    more = {"cwd": tmp_path / "python", "env": environment, "timeout": 5 * PATIENCE}
     ran = subprocess.run(words, capture_output=True, check=False, **more)
     assert bool(ran.returncode) == (not name)
     assert [it.name.endswith(name) for it in tmp_path.glob("*.whl")] == [True] * bool(name)
@@ -129,9 +132,12 @@ def test_the_library_of_the_system(tmp_path):
 def test_a_library_that_is_none(path):
     environment = {**os.environ, "LIBSVID": path}
     words = [sys.executable, "-c", "import svid"]
-    ran = subprocess.run(words, env=environment, capture_output=True, check=False)
+    more = {"capture_output": True, "text": True, "timeout": PATIENCE}
+    ran = subprocess.run(words, env=environment, check=False, **more)
     assert ran.returncode == 1
-    assert b"ImportError: the C library of svid can't be loaded" in ran.stderr
+    last = ran.stderr.splitlines()[-1]
+    assert last.startswith(f"ImportError: the C library of svid can't be loaded: {path}: ")
+    assert last.endswith("let LIBSVID name libsvid.so")
 
 
 def test_the_wheel_is_typed(wheel, tmp_path):
@@ -152,6 +158,7 @@ def test_the_wheel_is_typed(wheel, tmp_path):
     cache = os.environ.get("MYPY_CACHE_DIR", tmp_path / "cache")
     words = [sys.executable, "-m", "mypy", "--strict", "--cache-dir", cache]
     words += [tmp_path / "good.py", tmp_path / "bad.py"]
-    ran = subprocess.run(words, env=environment, capture_output=True, text=True, cwd=tmp_path)
+    more = {"capture_output": True, "text": True, "timeout": 5 * PATIENCE}
+    ran = subprocess.run(words, env=environment, cwd=tmp_path, **more)
     errors = [it.partition(":")[0] for it in ran.stdout.splitlines() if "error:" in it]
     assert ran.returncode == 1 and errors == ["bad.py"] * 2, ran.stdout + ran.stderr

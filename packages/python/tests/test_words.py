@@ -5,7 +5,7 @@ import tomllib
 import pytest
 
 import svid
-from making import NOW, token, validator
+from making import NOW, bundle, entry, fresh, private_key, token, validator
 from svid import _frames, _handle, _library
 from vectors import HERE, read
 
@@ -144,6 +144,47 @@ def test_want_of_memory():
     why = _handle.fault(STATUSES["NO_MEMORY"]["number"], _library.Told())
     assert isinstance(why, MemoryError)
     assert str(why) == sentence("NO_MEMORY")
+
+
+BUNDLES = bundle(entry(private_key("ES256"), "k1"))
+CALLS = {
+    "svid_bundles_join": lambda checks: validator({"example.org": b'{"keys":[]}'}),
+    "svid_bundles_open": lambda checks: checks.renew(BUNDLES),
+    "svid_entries_read": lambda checks: checks.take(b""),
+    "svid_entries_write": lambda checks: checks.withdraw(fresh()).message,
+    "svid_id_allows": lambda checks: svid.allows("spiffe://a/*", "spiffe://a/b"),
+    "svid_key_spki": lambda checks: checks.check(fresh()),
+    "svid_member_come": lambda checks: checks.check(fresh()),
+    "svid_member_open": lambda checks: validator(),
+    "svid_member_rules": lambda checks: validator(callers=["spiffe://a/*"]),
+    "svid_report": lambda checks: checks.report(),
+    "svid_token_open": lambda checks: checks.check(fresh()),
+    "svid_token_payload": lambda checks: checks.judge(fresh()).claims,
+    "svid_token_says": lambda checks: checks.judge(fresh()).audience,
+    "svid_validator_answer": lambda checks: checks.answer(checks.summary()),
+    "svid_validator_ask_token": lambda checks: checks.judge(fresh()),
+    "svid_validator_bucket": lambda checks: checks.take(checks.withdraw(fresh()).message),
+    "svid_validator_judge_token": lambda checks: checks.judge(fresh()),
+    "svid_validator_open_by_lengths": lambda checks: validator(),
+    "svid_validator_parts": lambda checks: b"".join(checks.parts()),
+    "svid_validator_summary": lambda checks: checks.summary(),
+    "svid_validator_take": lambda checks: checks.take(b""),
+    "svid_validator_tick": lambda checks: checks.tick(),
+    "svid_validator_withdraw": lambda checks: checks.withdraw(fresh()),
+}
+
+
+@pytest.mark.parametrize("name", CALLS)
+def test_a_call_that_has_no_memory(name, monkeypatch):
+    """It raises MemoryError, and can be made again."""
+    with validator() as checks:
+        with monkeypatch.context() as patched:
+            for library in _library.library, _library.quick:
+                patched.setattr(library, name, lambda *_: _library.NO_MEMORY)
+            with pytest.raises(MemoryError) as raised:
+                CALLS[name](checks)
+            assert str(raised.value) == sentence("NO_MEMORY")
+        CALLS[name](checks)
 
 
 UNAVAILABLE = ["CLAIM_FAR", "CLAIM_DEAF", "LATE", "NOT_KEPT", "LEFT"]

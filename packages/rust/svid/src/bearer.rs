@@ -5,7 +5,6 @@ use std::fmt;
 use crate::error::Error;
 use crate::ffi::{self, Bearer};
 use crate::refusal::Refusal;
-use crate::unavailable;
 
 /// Finds the one bearer token of a request by the values of all its header fields `Authorization` (docs/FORMATS.md, "Bearer token of a
 /// request"). It does not read the token.
@@ -84,7 +83,7 @@ impl Denied {
             Denied::NoToken(_) => "NotBearer",
             Denied::Refused(why) => why.name(),
             Denied::NotAllowed => "NotAllowed",
-            Denied::Failed(why) => unavailable::reason_of(why.told_as()),
+            Denied::Failed(why) => why.reason(),
         }
     }
 

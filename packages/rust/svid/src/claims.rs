@@ -7,14 +7,13 @@ use std::time::{Duration, Instant};
 
 use crate::error::Error;
 use crate::ffi::{self, Pacing};
+use crate::looks::Looks;
 use crate::record::TokenKey;
 use crate::requests::{Report, Requests};
 use crate::store::{Claim, Found, Store, StoreError};
 
 /// How many claims share a call.
 const MOST: usize = 256;
-/// How long after the withdrawals were read they are read again.
-const EVERY: Duration = Duration::from_secs(1);
 /// For how long a thread waits at once.
 const LONGEST: Duration = Duration::from_secs(60);
 
@@ -51,6 +50,8 @@ pub(crate) struct Claims {
     announced: Condvar,
     /// The withdrawals of the store are read.
     hears: bool,
+    /// When they were.
+    pub looks: Looks,
 }
 
 struct Gate {
@@ -64,8 +65,10 @@ struct Gate {
     idle: usize,
     /// Whether the store is to say that it is there.
     asks: bool,
-    /// Since when the store does not answer.
+    /// Since when the store does not answer claims.
     silent: Option<Instant>,
+    /// Since when its withdrawals are not read, or are being read.
+    unheard: Option<Instant>,
     deaf: u64,
     is_there: bool,
     is_heard: bool,
@@ -86,7 +89,7 @@ pub(crate) struct Known {
     /// Its withdrawals were read to the end once, where they are to be.
     pub is_heard: bool,
     pub deaf: u64,
-    /// It has not answered for longer than a request waits.
+    /// It has not answered claims, or has told no withdrawals, for longer than a request waits.
     pub is_away: bool,
 }
 
@@ -100,13 +103,15 @@ impl Claims {
             idle: 0,
             asks: true,
             silent: None,
+            unheard: None,
             deaf: 0,
             is_there: false,
             is_heard: !hears,
             is_announced: false,
             is_closing: false,
         };
-        Arc::new(Claims { store, clock, gate: Mutex::new(gate), comes: Condvar::new(), announced: Condvar::new(), hears })
+        let (gate, comes, announced) = (Mutex::new(gate), Condvar::new(), Condvar::new());
+        Arc::new(Claims { store, clock, gate, comes, announced, hears, looks: Looks::new() })
     }
 
     /// Begins to put claims, and waits until the store answers, but at most for `wait`.
@@ -146,20 +151,18 @@ impl Claims {
     /// What is known of the store. If it does not answer, it is asked again.
     pub fn look(&self, wait: Duration) -> Known {
         let mut gate = self.gate();
-        let is_away = match gate.silent {
-            None => false,
-            Some(since) => {
-                gate.asks = true;
-                self.comes.notify_one();
-                since.elapsed() > wait
-            }
-        };
+        if gate.silent.is_some() {
+            gate.asks = true;
+            self.comes.notify_one();
+        }
+        let is_away = gate.silent.iter().chain(&gate.unheard).any(|since| since.elapsed() > wait);
         Known { is_there: gate.is_there, is_heard: gate.is_heard, deaf: gate.deaf, is_away }
     }
 
     /// Lets the threads end. Waits for nothing, since the store may not answer.
     pub fn close(&self) {
         self.gate().is_closing = true;
+        self.looks.close();
         self.comes.notify_all();
         self.announced.notify_all();
     }
@@ -168,7 +171,8 @@ impl Claims {
     fn listen(&self, requests: &Weak<Requests>) {
         let (mut position, mut last) = (String::new(), String::new());
         while let Some(guard) = requests.upgrade() {
-            let read = self.hear(&guard, &mut position);
+            // (neither the store nor the clock may end this thread)
+            let read = catch_unwind(AssertUnwindSafe(|| self.hear(&guard, &mut position))).unwrap_or_else(|_| Err(panicked()));
             if read.is_ok() && !std::mem::replace(&mut self.gate().is_heard, true) {
                 guard.reached();
                 self.announced.notify_all();
@@ -179,8 +183,8 @@ impl Claims {
             }
             last = why;
             drop(guard);
-            let gate = self.announced.wait_timeout_while(self.gate(), EVERY, |gate| !gate.is_closing);
-            if gate.unwrap_or_else(PoisonError::into_inner).0.is_closing {
+            self.looks.end();
+            if !self.looks.pause() {
                 return;
             }
         }
@@ -189,11 +193,13 @@ impl Claims {
     /// Reads the withdrawals that came after a position, which follows.
     fn hear(&self, guard: &Requests, position: &mut String) -> Result<(), StoreError> {
         while !self.gate().is_closing {
-            let read = catch_unwind(AssertUnwindSafe(|| self.store.withdrawals(position))).unwrap_or_else(|_| Err(panicked()));
-            let (withdrawn, last) = read?;
+            self.gate().unheard.get_or_insert_with(Instant::now);
+            self.looks.begin(guard.moment()?);
+            let (withdrawn, last) = self.store.withdrawals(position)?;
             for (key, expires) in withdrawn {
                 guard.hears(key, expires)?;
             }
+            self.gate().unheard = None;
             if last == *position {
                 break;
             }

@@ -7,6 +7,7 @@ use std::time::Duration;
 
 use foreign_types::ForeignTypeRef;
 use hyper::client::conn;
+use hyper::http::uri::Authority;
 use hyper::{Body, Request, StatusCode, Uri};
 use openssl::base64;
 use openssl::ssl::{SslConnector, SslConnectorBuilder, SslMethod, SslVersion};
@@ -51,7 +52,9 @@ pub(crate) struct Endpoint {
 impl Endpoint {
     /// Whether what is said of it can be meant.
     pub fn check(&self, number: usize) -> Result<(), SourceFault> {
-        let is_plain = |it: &Uri| it.scheme_str() == Some("https") && it.authority().map_or(false, |it| !it.as_str().contains('@'));
+        // (what stands after the host is a port, or it is asked at another one)
+        let is_server = |it: &Authority| !it.as_str().contains('@') && (it.as_str() == it.host() || it.port_u16().is_some());
+        let is_plain = |it: &Uri| it.scheme_str() == Some("https") && it.authority().map_or(false, is_server);
         if !self.url.parse::<Uri>().map_or(false, |it| is_plain(&it) && it.host().map_or(false, |host| !host.is_empty())) {
             return Err(SourceFault::Address { number });
         }
@@ -139,7 +142,8 @@ impl Endpoint {
             Some([one]) => one.as_str(),
             _ => None,
         });
-        certificates.map(|it| Ok(X509::from_der(&base64::decode_block(it)?)?)).collect()
+        // (one that can't be read vouches for nobody, and keeps no other one from it)
+        Ok(certificates.filter_map(|it| X509::from_der(&base64::decode_block(it).ok()?).ok()).collect())
     }
 }
 

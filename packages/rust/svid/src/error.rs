@@ -5,7 +5,7 @@ use std::fmt;
 use crate::ffi::{self, Told};
 use crate::pattern::PatternFault;
 use crate::refusal::Refusal;
-use crate::unavailable::Unavailable;
+use crate::unavailable::{self, Unavailable};
 use crate::words;
 
 /// Why a call did nothing. Whatever the error of a check is, the token was not accepted.
@@ -99,13 +99,13 @@ impl Error {
         Error::Bundles(BundlesFault::Document { number: told.input.saturating_sub(1), fault })
     }
 
-    /// The status by whose word a client hears of an error that says nothing of its token.
-    pub(crate) fn told_as(self) -> u32 {
+    /// The word by which a client hears of an error that says nothing of its token.
+    pub(crate) fn reason(self) -> &'static str {
         match self {
-            Error::NoMemory => ffi::NO_MEMORY,
-            Error::Jump => ffi::JUMP,
-            Error::Unavailable(why) => why.told_as(),
-            _ => ffi::LATE,
+            Error::NoMemory => unavailable::reason_of(ffi::NO_MEMORY),
+            Error::Jump => unavailable::reason_of(ffi::JUMP),
+            Error::Unavailable(why) => why.reason(),
+            _ => unavailable::reason_of(ffi::LATE),
         }
     }
 
@@ -438,3 +438,25 @@ impl fmt::Display for Unexpected {
 }
 
 impl std::error::Error for Unexpected {}
+
+/// Whoever handles an error finds its cause, also where it became another error.
+#[test]
+fn causes() {
+    use std::error::Error as _;
+    let message = MessagesError { fault: MessageFault::Magic, message: 1, offset: 0 };
+    let whys = [
+        Error::Refused(Refusal::Expired),
+        Error::Unavailable(Unavailable::NO_BUNDLE),
+        Error::Options(OptionsFault::NoAudience),
+        Error::Bundles(BundlesFault::NotObject),
+        Error::Messages(message),
+        Error::unexpected(7),
+    ];
+    for why in whys {
+        assert!(why.source().is_some(), "{why}");
+        for outer in [crate::JournalError::Guard(why), crate::JournalError::from(why)] {
+            assert_eq!(outer.source().map(ToString::to_string), Some(why.to_string()));
+        }
+    }
+    assert!(crate::JournalError::of(7).source().is_some());
+}

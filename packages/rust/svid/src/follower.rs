@@ -86,7 +86,8 @@ impl Follower {
         });
         let has_files = shared.look();
         let some = before.is_some() || shared.sources.fixed().next().is_some() || !shared.state().held.is_empty();
-        let read = if some { Some(Bundles::read(&shared.joined()?)?) } else { None };
+        let (joined, has_bundles) = shared.joined()?;
+        let read = if some { Some(Bundles::read(&joined)?) } else { None };
         let mut made = Follower { shared, threads: Vec::new() };
         if has_files {
             made.spawn(|shared| shared.watch())?;
@@ -104,7 +105,7 @@ impl Follower {
             // (those before hand nothing on from here on)
             let _telling = before.as_ref().map(|it| it.shared.telling());
             if let Some(read) = read {
-                requests.exchange(read)?;
+                requests.exchange(read, has_bundles, made.shared.named())?;
             }
             if let Some(before) = before.as_ref() {
                 before.shared.state().is_closing = true;
@@ -138,10 +139,7 @@ impl Drop for Follower {
         self.shared.comes.notify_all();
         #[cfg(any(feature = "https", feature = "workload"))]
         self.shared.closing.send_replace(true);
-        for it in self.threads.drain(..) {
-            // (it panics nowhere; if it did, there would be nothing left to wait for)
-            let _ = it.join();
-        }
+        crate::waits_for_all("a thread that follows trust bundles", self.threads.drain(..));
     }
 }
 
@@ -191,7 +189,8 @@ impl Shared {
             }
             there.push(of_file);
         }
-        let is_gone = |of: &str| Path::new(of).parent() == Some(folder) && !there.iter().any(|it| it == of);
+        // (the names of sources are texts, and that of a folder need be none)
+        let is_gone = |of: &str| Path::new(of).parent() == Some(Path::new(&source)) && !there.iter().any(|it| it == of);
         let mut state = self.state();
         let is_named = |of: &str| self.sources.all.iter().any(|it| matches!(it, Source::File(_, path) if path.display().to_string() == of));
         let before = state.held.len();
@@ -242,16 +241,22 @@ impl Shared {
             }
             state.is_due = false;
         }
-        let told = self.joined().and_then(|text| requests.exchange(Bundles::read(&text)?));
+        let told = self.joined().and_then(|(text, has_bundles)| requests.exchange(Bundles::read(&text)?, has_bundles, self.named()));
         self.state().is_due |= told.is_err();
         told
     }
 
-    /// The text of all bundles.
-    fn joined(&self) -> Result<Vec<u8>, Error> {
+    /// The trust domains whose bundles the sources name.
+    fn named(&self) -> Vec<String> {
+        self.sources.all.iter().filter_map(|it| it.domain().map(str::to_owned)).collect()
+    }
+
+    /// The text of all bundles, and whether there are some.
+    fn joined(&self) -> Result<(Vec<u8>, bool), Error> {
         let state = self.state();
         let held = state.held.iter().map(|(domain, it)| (Some(domain.as_str()), it.text.as_slice(), it.form));
-        bundles::join(self.sources.fixed().chain(held))
+        let has_bundles = self.sources.fixed().chain(held.clone()).next().is_some();
+        Ok((bundles::join(self.sources.fixed().chain(held))?, has_bundles))
     }
 
     /// Warns of the fault of a source, if it is another one than before.
@@ -263,7 +268,8 @@ impl Shared {
                 let last = state.faults.remove(source);
                 drop(state);
                 if last.is_some() {
-                    log::info!("the trust bundle is well again: {source}");
+                    // (a logger must not end the thread that follows)
+                    let _ = std::panic::catch_unwind(|| log::info!("the trust bundle is well again: {source}"));
                 }
             }
             Some(why) if state.faults.get(source) != Some(&why) => {
@@ -400,7 +406,7 @@ pub(crate) fn told(why: &(dyn std::error::Error + 'static)) -> String {
 
 impl std::fmt::Debug for Shared {
     fn fmt(&self, f: &mut std::fmt::Formatter<'_>) -> std::fmt::Result {
-        f.debug_struct("Shared").field("sources", &self.sources).finish_non_exhaustive()
+        f.debug_struct("Shared").finish_non_exhaustive()
     }
 }
 

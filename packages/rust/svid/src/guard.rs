@@ -79,7 +79,7 @@ impl<V> Guard<V> {
     /// token first, for this guard alone. What [`Guard::take`] got is kept from the next snapshot on. The guard takes snapshots by
     /// itself.
     ///
-    /// To drop the guard waits for what is on its way to the disk.
+    /// To drop the guard waits for what is on its way to the disk, for some seconds at most. Until a disk that hangs answers, its folder stays held.
     ///
     /// # Errors
     ///
@@ -250,7 +250,7 @@ impl<V: Verify> Guard<V> {
     /// # Errors
     ///
     /// [`Error::Refused`] by the first reason that holds. [`Error::NotAllowed`] for a good token of who may not call. [`Error::Unavailable`] if the
-    /// state folder or the store fails, or takes longer than [`Options::wait`]; and before a trust bundle was read. [`Error::Jump`],
+    /// state folder or the store fails, or takes longer than [`Options::wait`]; and before the bundle of its trust domain was read. [`Error::Jump`],
     /// [`Error::NoMemory`], [`Error::NoClock`], [`Error::Unsupported`]. [`Error::Options`] in mode [`Bound`](crate::Mode::Bound). The token was
     /// not accepted then.
     pub fn check(&self, token: impl AsRef<[u8]>) -> Result<Accepted, Error> {
@@ -270,7 +270,8 @@ impl<V: Verify> Guard<V> {
     ///
     /// # Errors
     ///
-    /// [`Error::Refused`] by the first reason that holds; [`Error::Jump`], [`Error::NoMemory`], [`Error::NoClock`], [`Error::Unsupported`].
+    /// [`Error::Refused`] by the first reason that holds; [`Error::Unavailable`] before the bundle of its trust domain was read; [`Error::Jump`],
+    /// [`Error::NoMemory`], [`Error::NoClock`], [`Error::Unsupported`].
     pub fn judge(&self, token: impl AsRef<[u8]>) -> Result<Accepted, Error> {
         self.requests.judge(token.as_ref(), &self.verifier)
     }
@@ -292,7 +293,15 @@ impl<V: Verify> Guard<V> {
     ///
     /// Why the request is not let in: [`Denied::status`] and [`Denied::challenge`] are the answer that is due.
     pub fn admit<'a, A: AsRef<[u8]> + ?Sized + 'a>(&self, values: impl IntoIterator<Item = &'a A>) -> Result<Accepted, Denied> {
-        Ok(self.check(bearer_token(values)?)?)
+        Ok(self.check(self.bearer(values)?)?)
+    }
+
+    /// The one bearer token of a request. Of a refused one, who hears of that hears too.
+    fn bearer<'a, A: AsRef<[u8]> + ?Sized + 'a>(&self, values: impl IntoIterator<Item = &'a A>) -> Result<&'a [u8], Denied> {
+        match bearer_token(values) {
+            Err(Denied::Refused(why)) => Ok(self.requests.told(Err(Error::Refused(why)))?),
+            found => found,
+        }
     }
 
     /// The same in mode [`Bound`](crate::Mode::Bound). `caller` says of the request who presents its token.
@@ -321,7 +330,7 @@ impl<V: Verify> Guard<V> {
     where
         A: AsRef<[u8]> + ?Sized + 'a,
     {
-        Ok(self.check_from(caller(), bearer_token(values)?)?)
+        Ok(self.check_from(caller(), self.bearer(values)?)?)
     }
 
     /// As [`Guard::admit`], of a request. `None` where its path needs no token ([`Options::open_paths`]).
@@ -366,20 +375,27 @@ impl<V: Verify> Guard<V> {
     where
         A: AsRef<[u8]> + ?Sized + 'a,
     {
-        let token = bearer_token(values)?;
-        let said = Said::of(token)?;
-        let caller = SpiffeId::parse(said.subject()).map_err(|_| Error::unexpected(ffi::OK))?;
-        for pattern in callers {
-            match pattern.allows(&caller) {
-                Ok(true) => return Ok(self.check(token)?),
-                Ok(false) => {}
-                Err(PatternError::Unexpected(why)) => return Err(Error::Unexpected(why).into()),
-                Err(_) => return Err(Error::NoMemory.into()),
-            }
+        let token = self.bearer(values)?;
+        match self.requests.told(may_call(callers, token))? {
+            true => Ok(self.check(token)?),
+            false => Ok(self.requests.told(self.judge(token).and(Err(Error::NotAllowed)))?),
         }
-        self.judge(token)?;
-        Err(Denied::NotAllowed)
     }
+}
+
+/// Whether one of the patterns allows the subject of a token.
+fn may_call(callers: &[Pattern<'_>], token: &[u8]) -> Result<bool, Error> {
+    let said = Said::of(token)?;
+    let caller = SpiffeId::parse(said.subject()).map_err(|_| Error::unexpected(ffi::OK))?;
+    for pattern in callers {
+        match pattern.allows(&caller) {
+            Ok(true) => return Ok(true),
+            Ok(false) => {}
+            Err(PatternError::Unexpected(why)) => return Err(Error::Unexpected(why)),
+            Err(_) => return Err(Error::NoMemory),
+        }
+    }
+    Ok(false)
 }
 
 impl<V> Drop for Guard<V> {
@@ -389,10 +405,6 @@ impl<V> Drop for Guard<V> {
             local.close();
         }
         drop(self.follower.get_mut().unwrap_or_else(PoisonError::into_inner).take());
-        let last = self.snapshot.get_mut().unwrap_or_else(PoisonError::into_inner).take();
-        if let Some(last) = last {
-            // (it panics nowhere; if it did, there would be nothing left to wait for)
-            let _ = last.join();
-        }
+        crate::waits_for_all("a snapshot of the state folder", self.snapshot.get_mut().unwrap_or_else(PoisonError::into_inner).take());
     }
 }

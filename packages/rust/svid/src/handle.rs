@@ -2,10 +2,12 @@
 
 mod member;
 
+use std::fmt;
+
 pub(crate) use self::member::{Step, Waiting};
 use crate::bundles::Bundles;
 use crate::error::Error;
-use crate::ffi::{self, Handle, Told};
+use crate::ffi::{self, Handle, Known, Told};
 use crate::options::{Audiences, Options};
 use crate::record::{Size, TokenKey, Use, ValidatorId};
 
@@ -13,14 +15,14 @@ use crate::record::{Size, TokenKey, Use, ValidatorId};
 const ROOM: usize = 8192;
 
 /// An open validator. All calls are those of `svid.h` of the same names.
-#[derive(Debug)]
 pub(crate) struct Core {
     pub raw: Handle,
     room: Vec<u8>,
     spare: Vec<u8>, // for the ID of a token that was accepted, if there is no other memory for it
     validator_id: ValidatorId,
-    edition: u64, // how often the bundles were replaced
-    opened: u64,  // whether the store of its member was reached, as the library has it
+    edition: u64,       // how often the bundles were replaced
+    known: Known,       // what its member knows
+    named: Vec<String>, // trust domains whose bundles are to come, or are there
     waiting: Waiting,
 }
 
@@ -30,7 +32,8 @@ impl Core {
         crate::same_version()?;
         let (own, validator_id) = (Audiences::of(options)?, options.own_id()?);
         let (raw, waiting, mut told) = (Handle::CLOSED, Waiting::default(), Told::default());
-        let mut core = Core { raw, room: Vec::new(), spare: Vec::new(), validator_id, edition: 0, opened: 0, waiting };
+        let (room, spare, known, named) = (Vec::new(), Vec::new(), Known::default(), Vec::new());
+        let mut core = Core { raw, room, spare, validator_id, edition: 0, known, named, waiting };
         ffi::grow(&mut core.room, ROOM).map_err(|_| Error::NoMemory)?;
         let (terms, bundles) = (Audiences::terms(options, validator_id), b"{}");
         // SAFETY: the handle is closed, each input is a slice with its length, and nothing overlaps.
@@ -54,12 +57,15 @@ impl Core {
         self.validator_id
     }
 
-    pub fn renew(&mut self, bundles: &mut Bundles) -> Result<(), Error> {
+    /// Exchanges the bundles. `is_some`: there is one at the least. `named`: the trust domains whose bundles the sources name. The member is to be told.
+    pub fn renew(&mut self, bundles: &mut Bundles, is_some: bool, named: &mut Vec<String>) -> Result<(), Error> {
         let mut told = Told::default();
         // SAFETY: both handles are open, and each is given to this call alone.
         let status = unsafe { ffi::svid_validator_renew_by(&mut self.raw, &mut bundles.raw, &mut told) };
         done(status, &told)?;
         self.edition += 1;
+        self.known.bundled = is_some.into();
+        std::mem::swap(&mut self.named, named);
         Ok(())
     }
 
@@ -142,6 +148,12 @@ impl Core {
             unsafe { ffi::svid_validator_answer(raw, now, summary.as_ptr(), summary.len(), out, out_len, told) }
         });
         cut(text, written, &told)
+    }
+}
+
+impl fmt::Debug for Core {
+    fn fmt(&self, f: &mut fmt::Formatter<'_>) -> fmt::Result {
+        f.debug_struct("Core").field("validator_id", &self.validator_id).finish_non_exhaustive()
     }
 }
 

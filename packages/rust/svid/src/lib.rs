@@ -62,6 +62,7 @@ mod journal;
 mod key;
 mod local;
 mod log_member;
+mod looks;
 mod open_token;
 mod options;
 mod paths;
@@ -82,6 +83,10 @@ mod verify;
 mod words;
 #[cfg(feature = "workload")]
 mod workload;
+
+use std::panic::catch_unwind;
+use std::thread::{self, JoinHandle};
+use std::time::{Duration, Instant, SystemTime, UNIX_EPOCH};
 
 pub use crate::bearer::{bearer_token, BearerFault, Denied};
 pub use crate::caller::Caller;
@@ -120,8 +125,38 @@ pub const USUAL_RSA_BITS: usize = ffi::USUAL_RSA_BITS;
 ///
 /// [`Error::NoClock`] if it is before 1970.
 pub fn now() -> Result<u64, Error> {
-    let since = std::time::SystemTime::now().duration_since(std::time::UNIX_EPOCH);
+    let since = SystemTime::now().duration_since(UNIX_EPOCH);
     since.map(|it| it.as_secs()).map_err(|_| Error::NoClock)
+}
+
+/// How long whoever drops a guard or a state folder waits for what is under way, at the most.
+const ENDING: Duration = Duration::from_secs(5);
+
+/// Waits until something has ended, but at most until `end`.
+fn waits_for(what: &str, end: Instant, has_ended: impl Fn() -> bool) {
+    let mut pause = Duration::from_micros(50);
+    while !has_ended() {
+        if Instant::now() >= end {
+            // (a logger must not end who drops something)
+            let _ =
+                catch_unwind(|| log::warn!("{what} has not ended, and goes on: the disk or the file does not answer, or who is warned"));
+            return;
+        }
+        thread::sleep(pause);
+        pause = (2 * pause).min(Duration::from_millis(10));
+    }
+}
+
+/// The same of threads. (One may drop what it works for, and does not wait for itself then.)
+fn waits_for_all(what: &str, threads: impl IntoIterator<Item = JoinHandle<()>>) {
+    let end = Instant::now() + ENDING;
+    for it in threads {
+        waits_for(what, end, || it.is_finished() || it.thread().id() == thread::current().id());
+        if it.is_finished() {
+            // (it panics nowhere; if it did, there would be nothing left to wait for)
+            let _ = it.join();
+        }
+    }
 }
 
 /// Whether the library that was linked is of the version that this crate knows.

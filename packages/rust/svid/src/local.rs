@@ -10,14 +10,14 @@ mod tests;
 use std::collections::HashMap;
 use std::fmt;
 use std::path::Path;
-use std::sync::{Arc, Mutex, MutexGuard, PoisonError, RwLock, RwLockReadGuard};
+use std::sync::{Arc, Mutex, MutexGuard, PoisonError};
 use std::thread;
-use std::time::Duration;
+use std::time::{Duration, Instant};
 
 use crate::error::Error;
 use crate::ffi::{self, Entry, Part, Told};
 use crate::journal::{Journal, JournalError};
-use crate::options::{Now, Options};
+use crate::options::{Now, Options, Warns};
 use crate::record::TokenKey;
 use crate::store::{Claim, Found, Store, StoreError, WITHDRAWN};
 use crate::twice;
@@ -39,12 +39,13 @@ const DEAF: TokenKey = {
 
 /// A store of one guard.
 pub(crate) struct LocalStore {
-    journal: RwLock<Option<Journal>>,
+    journal: Mutex<Option<Arc<Journal>>>,
     held: Mutex<Held>,
     lasts: u64,
     margin: u64,
     wait: Duration,
     now: Arc<Now>,
+    warns: Arc<Warns>,
 }
 
 #[derive(Default)]
@@ -72,26 +73,30 @@ impl LocalStore {
         let (mut journal, mut held) = (Journal::open(folder)?, Held::default());
         journal.load(|messages| held.take(messages)).map_err(JournalError::Guard)?;
         Ok(Arc::new(LocalStore {
-            journal: RwLock::new(Some(journal)),
+            journal: Mutex::new(Some(Arc::new(journal))),
             held: Mutex::new(held),
             lasts: options.lasts(),
             margin: options.ahead.max(LEAST_MARGIN).saturating_add(STEP_BACK),
             wait: options.wait,
             now: Arc::clone(&options.now),
+            warns: Arc::clone(&options.warns),
         }))
     }
 
     /// Lets go of the folder, once no call has it in its hands.
     pub fn close(&self) {
-        drop(self.journal.write().unwrap_or_else(PoisonError::into_inner).take());
+        let journal = self.journal.lock().unwrap_or_else(PoisonError::into_inner).take();
+        if let Some(journal) = journal {
+            crate::waits_for("a call on the folder of claims", Instant::now() + crate::ENDING, || Arc::strong_count(&journal) == 1);
+        }
     }
 
     fn held(&self) -> MutexGuard<'_, Held> {
         self.held.lock().unwrap_or_else(PoisonError::into_inner)
     }
 
-    fn journal(&self) -> RwLockReadGuard<'_, Option<Journal>> {
-        self.journal.read().unwrap_or_else(PoisonError::into_inner)
+    fn journal(&self) -> Option<Arc<Journal>> {
+        self.journal.lock().unwrap_or_else(PoisonError::into_inner).clone()
     }
 
     /// Tells a time, for as long as an entry may live that was dropped by then.
@@ -125,7 +130,7 @@ impl LocalStore {
                 Err(Error::of(status, &told))
             }
         };
-        self.journal().as_ref().map_or(Ok(()), |journal| journal.snapshot(piece))
+        self.journal().map_or(Ok(()), |journal| journal.snapshot(piece))
     }
 }
 
@@ -216,8 +221,7 @@ impl Store for Local {
         if is_due {
             told.push(store.time(now));
         }
-        let journal = store.journal();
-        let journal = journal.as_ref().ok_or("the store of claims is closed")?;
+        let journal = store.journal().ok_or("the store of claims is closed")?;
         if !told.is_empty() {
             journal.append(&twice::written(&told)?, store.wait)?;
         }
@@ -232,7 +236,11 @@ impl Store for Local {
         drop(held);
         if journal.wants_snapshot() {
             let store = Arc::clone(store);
-            let takes = move || store.snapshot().unwrap_or_else(|why| log::warn!("the folder of claims has no new snapshot: {why}"));
+            let takes = move || {
+                if let Err(why) = store.snapshot() {
+                    (store.warns)(&format_args!("the folder of claims has no new snapshot: {why}"));
+                }
+            };
             thread::Builder::new().name("svid-snapshot".to_owned()).spawn(takes)?;
         }
         Ok(found)

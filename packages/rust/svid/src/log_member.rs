@@ -174,7 +174,7 @@ impl<V> LogMember<V> {
     ///
     /// [`Error::Bundles`], [`Error::TooMuch`], [`Error::NoMemory`]: the member goes on with the bundles before.
     pub fn renew(&mut self, bundles: impl AsRef<[u8]>) -> Result<(), Error> {
-        self.core.renew(&mut Bundles::read(bundles.as_ref())?)
+        self.core.renew(&mut Bundles::read(bundles.as_ref())?, true, &mut Vec::new())
     }
 
     /// Reads uses of the value at this position, and adds each with its fate to `fates`. Positions are counted from 1. Call it with the same

@@ -7,6 +7,7 @@ use crate::ffi::{self, Handle, Told};
 use crate::key::Rows;
 use crate::record::Says;
 use crate::refusal::Refusal;
+use crate::token::Said;
 use crate::verify::{Unverified, Verify};
 
 /// How much room is there at first for what a verifier needs of a token: enough for most bundles.
@@ -84,6 +85,11 @@ impl<'a> OpenToken<'a> {
             }
         }
         Ok(())
+    }
+
+    /// What it says.
+    pub fn said(&self) -> Result<Said, Error> {
+        Said::of(self.text)
     }
 
     /// Why it is not accepted: by a verifier that does not know whether a key made its signature, want of that is no bad signature.

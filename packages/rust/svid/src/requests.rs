@@ -7,7 +7,6 @@
 mod tests;
 
 use std::fmt;
-use std::sync::atomic::{AtomicBool, Ordering};
 use std::sync::{Arc, Mutex, MutexGuard, PoisonError, Weak};
 use std::thread;
 use std::time::Duration;
@@ -18,6 +17,7 @@ use crate::error::Error;
 use crate::ffi;
 use crate::handle::{Core, Step};
 use crate::journal::{Journal, JournalError};
+use crate::looks::Moment;
 use crate::open_token::OpenToken;
 use crate::options::{HearsTwice, Mode, Now, Options, Refuses, Warns};
 use crate::paths::Paths;
@@ -44,8 +44,6 @@ pub(crate) struct Requests {
     warns: Arc<Warns>,
     refuses: Arc<Refuses>,
     twice: Arc<HearsTwice>,
-    /// Trust bundles were read.
-    is_bundled: AtomicBool,
     /// What the disk did not take last: the number of the request, and its use as a message.
     unkept: Mutex<Option<(u64, [u8; ffi::BATCH_OF_LEN])>>,
 }
@@ -94,7 +92,6 @@ impl Requests {
             warns: Arc::clone(&options.warns),
             refuses: Arc::clone(&options.refuses),
             twice: Arc::clone(&options.twice),
-            is_bundled: AtomicBool::new(false),
             unkept: Mutex::new(None),
         }))
     }
@@ -126,6 +123,19 @@ impl Requests {
         (self.now)()
     }
 
+    /// The time by both clocks.
+    pub fn moment(&self) -> Result<Moment, Error> {
+        Ok(Moment { up: self.clock.up(), wall: self.now()? })
+    }
+
+    /// Waits until the store's withdrawals are read, where nobody has looked for long, but leaves a part of the time of a request.
+    fn look(&self) -> Result<(), Error> {
+        if let Some(claims) = &self.claims {
+            claims.looks.wait(self.moment()?, self.wait / 4 * 3);
+        }
+        Ok(())
+    }
+
     /// Whether a path needs no token.
     pub fn is_open(&self, path: &str) -> bool {
         self.paths.has(path)
@@ -139,7 +149,11 @@ impl Requests {
         verifier: &(impl Verify + ?Sized),
         journal: Option<&Journal>,
     ) -> Result<Accepted, Error> {
-        let answer = self.answer(text, caller, verifier, journal);
+        self.told(self.answer(text, caller, verifier, journal))
+    }
+
+    /// This answer. Who hears why a token is not accepted hears of it.
+    pub fn told<T>(&self, answer: Result<T, Error>) -> Result<T, Error> {
         if let Err(why) = &answer {
             // (who hears of it must not let the request panic)
             let _ = std::panic::catch_unwind(std::panic::AssertUnwindSafe(|| (self.refuses)(why)));
@@ -160,6 +174,7 @@ impl Requests {
             (core.come(self.clock.up(), caller)?, core.keys_of(&mut token))
         };
         let mut request = Request { requests: self, number, token, subject: None, is_over: false };
+        self.look()?;
         request.token.look(len?, verifier)?;
         let mut step = request.ask(None, verifier)?;
         loop {
@@ -189,6 +204,7 @@ impl Requests {
     /// Says what a check would, and adds nothing.
     pub fn judge(&self, text: &[u8], verifier: &(impl Verify + ?Sized)) -> Result<Accepted, Error> {
         let mut token = self.read(text)?;
+        self.look()?;
         loop {
             let len = self.core().keys_of(&mut token)?;
             token.look(len, verifier)?;
@@ -273,14 +289,12 @@ impl Requests {
         let _ = std::panic::catch_unwind(std::panic::AssertUnwindSafe(|| (self.warns)(what)));
     }
 
-    /// Takes these trust bundles from now on.
-    pub fn exchange(&self, mut bundles: Bundles) -> Result<(), Error> {
-        // (the old ones are freed at the end, with no lock held)
-        self.core().renew(&mut bundles)?;
-        match self.is_bundled.swap(true, Ordering::AcqRel) {
-            true => Ok(()),
-            false => self.know(0, false),
-        }
+    /// Takes these trust bundles from now on. Without some of them no token has an answer.
+    pub fn exchange(&self, mut bundles: Bundles, is_some: bool, mut named: Vec<String>) -> Result<(), Error> {
+        // (no request comes in between, and the old ones are freed at the end, with no lock held)
+        let mut core = self.core();
+        core.renew(&mut bundles, is_some, &mut named)?;
+        core.know_bundles()
     }
 
     // -- For the claims
@@ -378,8 +392,7 @@ impl Requests {
     fn know(&self, now: u64, has_jumped: bool) -> Result<(), Error> {
         let store = self.claims.as_ref().map(|claims| claims.look(self.wait));
         let lives = u128::from(now) + u128::from(self.longest);
-        let known = ffi::Known {
-            bundled: self.is_bundled.load(Ordering::Acquire).into(),
+        self.core().know(&ffi::Known {
             loaded: 1,
             opened: store.as_ref().map_or(true, |it| it.is_there).into(),
             heard: store.as_ref().map_or(true, |it| it.is_heard).into(),
@@ -389,8 +402,7 @@ impl Requests {
             away: store.as_ref().map_or(false, |it| it.is_away).into(),
             deaf: store.as_ref().map_or(false, |it| u128::from(it.deaf) >= lives).into(),
             ..ffi::Known::default()
-        };
-        self.core().know(&known)
+        })
     }
 }
 
@@ -439,6 +451,7 @@ impl Request<'_, '_> {
         let why = match (deed.status(), self.subject.take()) {
             (ffi::OK, Some(subject)) => return Ok(Accepted::new(subject, Use::of(&deed.used, false), self.token.says.take())),
             (ffi::LATE, _) => Error::Unavailable(Unavailable::late(self.requests.late)),
+            (ffi::NO_BUNDLE, _) => Error::Unavailable(Unavailable::NO_BUNDLE),
             (status, _) => Error::of(status, &ffi::Told::default()),
         };
         Err(self.token.why(why))

@@ -97,7 +97,13 @@ impl Said {
 
     /// Its audiences.
     pub fn audiences(&self) -> impl Iterator<Item = &str> {
-        (4..self.lens.len()).map(|number| self.part(number))
+        // (a stranger's token may have thousands: each is taken where the one before ends)
+        let mut end = self.lens.iter().take(4).fold(0usize, |sum, len| sum.saturating_add(*len));
+        self.lens.iter().skip(4).map(move |len| {
+            let from = end;
+            end = from.saturating_add(*len);
+            self.text.get(from..end).unwrap_or("")
+        })
     }
 
     fn part(&self, number: usize) -> &str {

@@ -9,33 +9,37 @@ use crate::words;
 #[derive(Clone, Copy, PartialEq, Eq)]
 pub struct Unavailable {
     why: Why,
-    /// The status by whose word a client hears it.
-    told_as: u32,
+    /// The word by which a client hears it.
+    reason: &'static str,
 }
 
 #[derive(Clone, Copy, PartialEq, Eq)]
 enum Why {
     Status(u32),
     MayLack,
+    NoBundle,
 }
 
 impl Unavailable {
     /// A keeper may lack a withdrawal.
-    pub(crate) const MAY_LACK: Unavailable = Unavailable { why: Why::MayLack, told_as: ffi::LATE };
+    pub(crate) const MAY_LACK: Unavailable = Unavailable { why: Why::MayLack, reason: "NotJudged" };
+
+    /// The bundle of the token's trust domain is to come.
+    pub(crate) const NO_BUNDLE: Unavailable = Unavailable { why: Why::NoBundle, reason: "NoBundle" };
 
     /// The time is over. This status says what it waited for.
     pub(crate) fn late(told_as: u32) -> Unavailable {
-        Unavailable { why: Why::Status(ffi::LATE), told_as }
+        Unavailable { why: Why::Status(ffi::LATE), reason: reason_of(told_as) }
     }
 
-    pub(crate) fn told_as(self) -> u32 {
-        self.told_as
+    pub(crate) fn reason(self) -> &'static str {
+        self.reason
     }
 
     pub(crate) fn of_status(status: u32) -> Option<Unavailable> {
         match status {
             ffi::CLAIM_FAR | ffi::CLAIM_DEAF | ffi::LATE | ffi::NOT_KEPT | ffi::LEFT | ffi::ENDED..=ffi::DEAF => {
-                Some(Unavailable { why: Why::Status(status), told_as: status })
+                Some(Unavailable { why: Why::Status(status), reason: reason_of(status) })
             }
             _ => None,
         }
@@ -61,6 +65,7 @@ impl fmt::Display for Unavailable {
     fn fmt(&self, f: &mut fmt::Formatter<'_>) -> fmt::Result {
         match self.why {
             Why::Status(status) => words::write_plain(f, status),
+            Why::NoBundle => f.write_str("the bundle of the token's trust domain was not read yet"),
             Why::MayLack => {
                 f.write_str("the token is withdrawn here, but the state folder or the group's store may not have that: withdraw it again")
             }

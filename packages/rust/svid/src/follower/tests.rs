@@ -20,3 +20,48 @@ fn a_bundle_that_comes_while_others_are_handed_on_is_due() {
     });
     assert!(shared.state().is_due);
 }
+
+/// Until they have ended, their threads may still read something.
+#[test]
+fn sources_that_are_followed_no_more_hand_nothing_on() {
+    let (requests, mut follower) = (Requests::open(&ledger(), false).expect("it opens"), None);
+    let none = r#"{"keys":[]}"#;
+    Follower::begin(&requests, Sources::new().bundle("a.example", none), &mut follower).expect("it begins");
+    let before = Arc::clone(&follower.as_ref().expect("it has begun").shared);
+    Follower::begin(&requests, Sources::new().bundle("b.example", none), &mut follower).expect("it begins");
+    let bundles = std::fs::read(top().join("examples/bundles.json")).expect("the bundles of the examples");
+    let bundles: serde_json::Value = serde_json::from_slice(&bundles).expect("an object");
+    assert!(before.take("example.org", "a test", Ok(bundles["example.org"].to_string().into()), Form::Bundle));
+    before.tell_all();
+    let token = std::fs::read_to_string(top().join("examples/token.txt")).expect("the token of the examples");
+    let why = requests.judge(token.trim().as_bytes(), &Table::default()).unwrap_err();
+    assert_eq!(why, Error::Refused(crate::Refusal::UnknownDomain));
+}
+
+/// An error, and what it comes from.
+#[cfg(feature = "https")]
+#[derive(Debug)]
+struct Of(String, Option<Box<Of>>);
+
+#[cfg(feature = "https")]
+impl std::fmt::Display for Of {
+    fn fmt(&self, f: &mut std::fmt::Formatter<'_>) -> std::fmt::Result {
+        f.write_str(&self.0)
+    }
+}
+
+#[cfg(feature = "https")]
+impl std::error::Error for Of {
+    fn source(&self) -> Option<&(dyn std::error::Error + 'static)> {
+        self.1.as_ref().map(|it| &**it as _)
+    }
+}
+
+#[test]
+#[cfg(feature = "https")]
+fn why_a_source_gave_nothing_has_its_causes_and_an_end() {
+    let of = |text: &str, source| Of(text.to_owned(), source);
+    let deep = of("no connection", Some(of("connection refused", Some(of("refused", None).into())).into()));
+    assert_eq!(told(&deep), "no connection: connection refused");
+    assert_eq!(told(&of(&"x".repeat(5000), None)), "x".repeat(1024));
+}

@@ -8,16 +8,16 @@ use crate::error::Error;
 use crate::ffi::{self, Deed, Known, MemberTerms, Told, Withdrawal};
 use crate::open_token::OpenToken;
 use crate::record::{text_of, Accepted, Use};
+use crate::unavailable::Unavailable;
 
 /// Who waits for the answers of a member.
-#[derive(Debug, Default)]
+#[derive(Default)]
 pub(crate) struct Waiting {
     requests: HashMap<u64, Request>,
     withdrawals: HashMap<u64, Ending>,
 }
 
 /// A request that has no answer yet, and what its thread gets.
-#[derive(Debug)]
 struct Request {
     thread: Thread,
     caller: [u8; 32],
@@ -29,7 +29,6 @@ struct Request {
 }
 
 /// A withdrawal on its way to its keepers.
-#[derive(Debug)]
 struct Ending {
     thread: Thread,
     ended: Option<Withdrawal>,
@@ -55,12 +54,25 @@ impl Core {
         told(unsafe { ffi::svid_member_rules(&mut self.raw, own.as_ptr(), own.len(), 0, callers.as_ptr(), callers.len()) })
     }
 
-    /// Tells the library what the validator has. A store that was reached stays so: a thread that looked before may tell that later.
+    /// Tells the library what the validator has, with its bundles as they are now. A store that was reached or heard stays so: a thread that looked
+    /// before may tell that later.
     pub fn know(&mut self, known: &Known) -> Result<(), Error> {
-        self.opened |= known.opened;
-        let known = Known { opened: self.opened, ..*known };
+        let Known { bundled, opened, heard, .. } = self.known;
+        self.known = Known { bundled, opened: opened | known.opened, heard: heard | known.heard, ..*known };
         // SAFETY: the handle is open, and nothing overlaps.
-        told(unsafe { ffi::svid_member_know(&mut self.raw, &known) })
+        told(unsafe { ffi::svid_member_know(&mut self.raw, &self.known) })
+    }
+
+    /// Tells the library that its bundles were exchanged.
+    pub fn know_bundles(&mut self) -> Result<(), Error> {
+        let known = self.known;
+        self.know(&known)
+    }
+
+    /// Whether the bundle of a token's trust domain is to come, which is not the token's fault.
+    fn awaits_bundle(&self, token: &OpenToken<'_>) -> Result<bool, Error> {
+        let said = token.said()?;
+        Ok(self.known.bundled == 0 || self.named.iter().any(|it| it == said.trust_domain()))
     }
 
     pub fn ready(&mut self) -> Result<(), Error> {
@@ -113,10 +125,10 @@ impl Core {
                 &mut told,
             )
         };
-        done(status, &told).map_err(|why| token.why(why))?;
-        if token.is_unsupported {
-            return Err(Error::Unsupported);
+        if status == ffi::UNKNOWN_DOMAIN && self.awaits_bundle(token)? {
+            return Err(Error::Unavailable(Unavailable::NO_BUNDLE));
         }
+        done(status, &told).map_err(|why| token.why(why))?;
         let id = self.room.get(..told.len).unwrap_or_default();
         Ok(Accepted::new(text_of(id, &mut self.spare)?, Use::of(&used, false), token.says.take()))
     }
@@ -201,6 +213,10 @@ impl Core {
         // (after these nothing happened; the deed tells all others)
         if matches!(status, ffi::CLOSED | ffi::JUMP | ffi::TOO_SHORT | ffi::HAS_LOG | ffi::NO_MEMBER) {
             return Err(Error::of(status, &told));
+        }
+        // (with the lock held that the judgment had: a bundle may come again)
+        if status == ffi::UNKNOWN_DOMAIN && self.awaits_bundle(token)? {
+            deed.status = ffi::NO_BUNDLE.into();
         }
         let subject = match status {
             ffi::OK => {

@@ -57,6 +57,8 @@ pub struct Growing {
 impl Folder {
     /// Makes the folder where it is not there, and locks it.
     pub fn hold(path: &Path, faults: Faults) -> Result<Folder, JournalError> {
+        let whole = whole(path).map_err(|why| JournalError::io(path, why))?;
+        let path = whole.as_path();
         make(path, &faults)?;
         let own = File::open(path).map_err(|why| JournalError::io(path, why))?;
         let lock = locked(path)?;
@@ -233,6 +235,14 @@ fn regular(path: &Path, how: &mut OpenOptions) -> io::Result<File> {
     match file.metadata()?.is_file() {
         true => Ok(file),
         false => Err(io::Error::new(ErrorKind::InvalidInput, "not a regular file")),
+    }
+}
+
+/// The path from the root, since a process may go to another folder, as a daemon does.
+fn whole(path: &Path) -> io::Result<PathBuf> {
+    match path.is_absolute() || path.as_os_str().is_empty() {
+        true => Ok(path.to_owned()),
+        false => std::env::current_dir().map(|here| here.join(path)),
     }
 }
 

@@ -46,7 +46,8 @@ const MOST: usize = ffi::PAYLOAD_MOST - ffi::LOG_POSITION;
 /// [`Guard::with_journal`](crate::Guard::with_journal) takes it, and writes what is to be kept.
 ///
 /// `svidd` and the package for Python write the same files (docs/FORMATS.md, "State folder"), so any of them can go on with the folder of another
-/// one. One process holds a folder at a time, and any number of its threads may use the journal. To drop it waits for what is under way.
+/// one. One process holds a folder at a time, and any number of its threads may use the journal. To drop it waits for what is under way, for some
+/// seconds at most.
 pub struct Journal {
     keeper: Arc<Keeper>,
     writer: Option<JoinHandle<()>>,
@@ -276,10 +277,7 @@ impl Drop for Journal {
     fn drop(&mut self) {
         lock(&self.keeper.gate).is_closing = true;
         self.keeper.comes.notify_all();
-        if let Some(writer) = self.writer.take() {
-            // (it panics nowhere; if it did, there would be nothing left to wait for)
-            let _ = writer.join();
-        }
+        crate::waits_for_all("a write to the state folder", self.writer.take());
     }
 }
 

@@ -11,7 +11,6 @@ use crate::common::*;
 use crate::handle::Core;
 use crate::record::{TokenKey, Use};
 
-const WAIT: Duration = Duration::from_secs(60);
 const NOW: u64 = 1_767_225_600;
 
 /// A use of the token of this number.
@@ -45,13 +44,37 @@ fn failing(room: &Room) -> (Journal, Faults) {
 
 /// (A program that another test starts has the lock of an ended journal too, until it runs: that is waited for.)
 fn opened(path: &Path, faults: &Faults) -> Result<Journal, JournalError> {
-    let (call, end) = (faults.call(), Instant::now() + WAIT);
+    let (call, end) = (faults.call(), Instant::now() + patience());
     loop {
         match Folder::hold(path, faults.clone()) {
             Err(JournalError::Held { .. }) if Instant::now() < end => faults.ends(call),
             held => return Journal::open_by(held?),
         }
     }
+}
+
+/// A process that goes to another folder, as a daemon does, goes on to keep what it accepts.
+#[test]
+fn a_path_that_is_relative() {
+    const CLONE_FS: std::os::raw::c_int = 0x200; // of Linux
+    extern "C" {
+        fn unshare(what: std::os::raw::c_int) -> std::os::raw::c_int;
+    }
+    let (room, append) = (Room::new("relative"), |journal: &Journal| journal.append(&entry(1).message().expect("it is live"), patience()));
+    let here = room.0.clone();
+    let goes = thread::spawn(move || {
+        // (this thread alone goes, with those that it begins)
+        // SAFETY: the call takes a number.
+        assert_eq!(unsafe { unshare(CLONE_FS) }, 0);
+        std::env::set_current_dir(here).expect("it is there");
+        let journal = Journal::open("state").expect("it is new");
+        std::env::set_current_dir("/").expect("it is there");
+        append(&journal).expect("the folder is where it was");
+        assert!(Journal::open("").is_err());
+    });
+    goes.join().expect("it goes well");
+    let mut journal = opened(&room.0.join("state"), &Faults::default()).expect("it is free");
+    assert_eq!(uses(&mut loaded(&mut journal)), 1);
 }
 
 #[test]
@@ -64,6 +87,9 @@ fn files_of_vectors() {
         })
         .map_err(|why| why.to_string())?;
         let due: Vec<&str> = list_of(it, "payloads").iter().map(|it| it.as_str().expect("a text")).collect();
+        // (a file that is read in part would let in again what the rest has)
+        let lacks = frames(&content, number_of(it, "journal"), validator_id_of(it, "folder_id"), |_| Err(JournalError::NoMemory));
+        same(matches!(lacks, Err(JournalError::NoMemory)), !due.is_empty())?;
         same(payloads.iter().map(String::as_str).collect::<Vec<_>>(), due)?;
         let (name, format) = match end {
             End::Nothing => ("end", None),
@@ -110,7 +136,7 @@ fn what_was_appended_is_found_again() {
     assert_eq!(uses(&mut loaded(&mut journal)), 0);
     assert!(journal.wants_snapshot());
     for number in 0..3 {
-        journal.append(&entry(number).message().unwrap(), WAIT).expect("it is kept");
+        journal.append(&entry(number).message().unwrap(), patience()).expect("it is kept");
     }
     drop(journal.keeper.join(&entry(3).message().unwrap(), None).expect("there is room"));
     drop(journal);
@@ -128,12 +154,12 @@ fn a_snapshot_replaces_journals() {
     for number in 0..20_000 {
         validator.take(NOW, &entry(number).message().expect("it is a message")).expect("it is taken");
     }
-    journal.append(&entry(0).message().unwrap(), WAIT).expect("it is kept");
+    journal.append(&entry(0).message().unwrap(), patience()).expect("it is kept");
     journal.snapshot(|parts, out| validator.piece(parts, out)).expect("the disk is well");
     assert!(!journal.wants_snapshot());
     assert!(!room.0.join("journal.1").exists());
     validator.take(NOW, &entry(20_000).message().expect("it is a message")).expect("it is taken");
-    journal.append(&entry(20_000).message().unwrap(), WAIT).expect("it is kept");
+    journal.append(&entry(20_000).message().unwrap(), patience()).expect("it is kept");
     drop(journal);
 
     let mut journal = Journal::open(&room.0).expect("nobody has it");
@@ -153,7 +179,7 @@ fn a_snapshot_is_due() {
             Ok(room.len())
         })
     };
-    let append = |journal: &Journal, mebibytes: usize| journal.append(&vec![7; mebibytes << 20], WAIT).expect("it is kept");
+    let append = |journal: &Journal, mebibytes: usize| journal.append(&vec![7; mebibytes << 20], patience()).expect("it is kept");
     let journal = Journal::open(&room.0).expect("it is empty");
     snapshot(&journal).expect("the disk is well");
     append(&journal, 9);
@@ -178,9 +204,58 @@ fn an_append_is_one_write() {
         counts.fetch_add(1, Ordering::Relaxed);
     });
     for number in 0..10 {
-        journal.append(&entry(number).message().unwrap(), WAIT).expect("the disk is well");
+        journal.append(&entry(number).message().unwrap(), patience()).expect("the disk is well");
     }
     assert_eq!(count.load(Ordering::Relaxed), 11);
+}
+
+/// Once nobody appends any more, damage of the last entry is none of a write that was cut off.
+#[test]
+fn a_mark_stands_after_a_burst() {
+    let room = Room::new("mark");
+    let journal = Journal::open(&room.0).expect("it is empty");
+    journal.append(&entry(1).message().unwrap(), patience()).expect("it is kept");
+    until("a mark", || {
+        let mut content = fs::read(room.0.join("journal.1")).expect("it is there");
+        content[60] ^= 1;
+        let read = frames(&content, 1, journal.validator_id(), |_| Ok(()));
+        matches!(read, Ok((End::Damage, 0)))
+    });
+}
+
+/// So damage of its last entry is none of a write that was cut off.
+#[test]
+fn a_mark_stands_after_a_journal_that_another_one_follows() {
+    let room = Room::new("followed");
+    for again in 0.. {
+        let (folder, begun) = (room.0.join(again.to_string()), Instant::now());
+        let journal = Journal::open(&folder).expect("its parent is there");
+        journal.append(&entry(1).message().unwrap(), patience()).expect("it is kept");
+        journal.snapshot(|_, _| Err(Error::NoMemory)).expect_err("so the journal stays");
+        let took = begun.elapsed();
+        drop(journal);
+        let mut content = fs::read(folder.join("journal.1")).expect("it is there");
+        content[60] ^= 1;
+        fs::write(folder.join("journal.1"), content).unwrap();
+        assert!(matches!(Journal::open(&folder), Err(JournalError::Damaged { .. })));
+        // (a mark that comes by itself says nothing of this one)
+        if took < QUIET * 9 / 10 {
+            break;
+        }
+    }
+}
+
+/// It may not have been removed, where the disk failed.
+#[test]
+fn what_an_earlier_snapshot_left_neither_hinders_the_next_one_nor_gets_into_it() {
+    let room = Room::new("left");
+    let (journal, mut validator) = (Journal::open(&room.0).expect("it is empty"), empty());
+    validator.take(NOW, &entry(1).message().unwrap()).expect("it is taken");
+    fs::write(room.0.join("snapshot.new"), "left".repeat(1000)).unwrap();
+    journal.snapshot(|part, out| validator.piece(part, out)).expect("the disk is well");
+    drop(journal);
+    assert!(!room.0.join("snapshot.new").exists());
+    assert_eq!(uses(&mut loaded(&mut Journal::open(&room.0).expect("nobody has it"))), 1);
 }
 
 /// Nobody else reads or writes them, and files with like names are none of them.
@@ -217,7 +292,7 @@ fn threads_append_while_a_snapshot_is_taken() {
                 for number in 0.. {
                     let used = entry(thread * 1_000_000 + number);
                     validator.lock().unwrap().take(NOW, &used.message().expect("it is a message")).expect("it is taken");
-                    journal.append(&used.message().unwrap(), WAIT).expect("it is kept");
+                    journal.append(&used.message().unwrap(), patience()).expect("it is kept");
                     count.fetch_add(1, Ordering::Relaxed);
                     if is_done.load(Ordering::Acquire) {
                         break;
@@ -234,6 +309,21 @@ fn threads_append_while_a_snapshot_is_taken() {
     drop(journal);
     let mut journal = Journal::open(&room.0).expect("nobody has it");
     assert_eq!(uses(&mut loaded(&mut journal)), uses(&mut validator.lock().unwrap()));
+}
+
+/// Nobody waits for a snapshot.
+#[test]
+fn appends_within_a_snapshot() {
+    let room = Room::new("within");
+    let journal = Journal::open(&room.0).expect("it is empty");
+    let piece = |part: &mut Part, _: &mut [u8]| {
+        for _ in 0..2 {
+            journal.append(&entry(1).message().unwrap(), patience()).expect("it is kept meanwhile");
+        }
+        part.done = 1;
+        Ok(PIECE)
+    };
+    journal.snapshot(piece).expect("the disk is well");
 }
 
 #[test]
@@ -257,9 +347,9 @@ fn a_write_that_fails_is_told_and_ends_nothing() {
     let (journal, faults) = failing(&room);
     faults.let_fail(&["write"]);
     assert!(
-        matches!(journal.append(&entry(1).message().unwrap(), WAIT), Err(JournalError::Io { file, .. }) if file == room.0.join("journal.1"))
+        matches!(journal.append(&entry(1).message().unwrap(), patience()), Err(JournalError::Io { file, .. }) if file == room.0.join("journal.1"))
     );
-    journal.append(&entry(2).message().unwrap(), WAIT).expect("the disk is well again");
+    journal.append(&entry(2).message().unwrap(), patience()).expect("the disk is well again");
     drop(journal);
     let mut journal = Journal::open(&room.0).expect("nobody has it");
     assert_eq!(uses(&mut loaded(&mut journal)), 1);
@@ -269,10 +359,10 @@ fn a_write_that_fails_is_told_and_ends_nothing() {
 fn a_sync_that_fails_ends_all() {
     let room = Room::new("sync");
     let (journal, faults) = failing(&room);
-    journal.append(&entry(1).message().unwrap(), WAIT).expect("the disk is well");
+    journal.append(&entry(1).message().unwrap(), patience()).expect("the disk is well");
     faults.let_fail(&["sync"]);
-    assert!(matches!(journal.append(&entry(2).message().unwrap(), WAIT), Err(JournalError::Ended)));
-    assert!(matches!(journal.append(&entry(3).message().unwrap(), WAIT), Err(JournalError::Ended)));
+    assert!(matches!(journal.append(&entry(2).message().unwrap(), patience()), Err(JournalError::Ended)));
+    assert!(matches!(journal.append(&entry(3).message().unwrap(), patience()), Err(JournalError::Ended)));
     let mut validator = empty();
     assert!(matches!(journal.snapshot(|parts, out| validator.piece(parts, out)), Err(JournalError::Ended)));
     drop(journal);
@@ -290,7 +380,7 @@ fn a_snapshot_that_fails_loses_nothing() {
         let (journal, faults) = failing(&room);
         let mut validator = empty();
         validator.take(NOW, &entry(1).message().expect("it is a message")).expect("it is taken");
-        journal.append(&entry(1).message().unwrap(), WAIT).expect("the disk is well");
+        journal.append(&entry(1).message().unwrap(), patience()).expect("the disk is well");
         // (the mark of the journal that is closed is written and synced before those of the snapshot)
         drop(journal.keeper.join(b"", None).expect("there is room"));
         let mut calls = 0;
@@ -306,7 +396,7 @@ fn a_snapshot_that_fails_loses_nothing() {
             validator.piece(parts, out)
         });
         assert!(taken.is_err(), "{call}");
-        assert_eq!(journal.append(&entry(2).message().unwrap(), WAIT).is_err(), ends, "{call}");
+        assert_eq!(journal.append(&entry(2).message().unwrap(), patience()).is_err(), ends, "{call}");
         assert!(!journal.wants_snapshot(), "{call}: not for a minute");
         drop(journal);
         let mut journal = Journal::open(&room.0).expect("nobody has it");
@@ -360,9 +450,9 @@ fn what_can_not_be_read_is_told() {
 fn messages_of_any_length() {
     let room = Room::new("long");
     let journal = Journal::open(&room.0).expect("it is empty");
-    assert!(matches!(journal.append(&vec![0; MOST + 1], WAIT), Err(JournalError::TooLong)));
-    journal.append(&[], WAIT).expect("nothing is kept at once");
-    journal.append(&vec![7; MOST], WAIT).expect("it is kept");
+    assert!(matches!(journal.append(&vec![0; MOST + 1], patience()), Err(JournalError::TooLong)));
+    journal.append(&[], patience()).expect("nothing is kept at once");
+    journal.append(&vec![7; MOST], patience()).expect("it is kept");
     drop(journal);
     let mut journal = Journal::open(&room.0).expect("nobody has it");
     let mut found = 0;
@@ -403,24 +493,24 @@ fn a_folder_that_is_moved_keeps_nothing() {
             let path = room.0.join("state");
             let mut journal = Journal::open(&path).unwrap();
             let mut validator = loaded(&mut journal);
-            journal.append(&entry(1).message().unwrap(), WAIT).unwrap();
+            journal.append(&entry(1).message().unwrap(), patience()).unwrap();
             moves(&path);
             let other = Journal::open(&path).unwrap_or_else(|why| panic!("{how}: {why}"));
-            other.append(&entry(2).message().unwrap(), WAIT).unwrap();
+            other.append(&entry(2).message().unwrap(), patience()).unwrap();
             let before = files(&path);
             let snapshot = |validator: &mut Core| journal.snapshot(|parts, room| validator.piece(parts, room));
             if is_snapshot {
                 assert!(is_moved(snapshot(&mut validator)), "{how}");
             }
             for number in 3..5 {
-                assert!(is_moved(journal.append(&entry(number).message().unwrap(), WAIT)), "{how}");
+                assert!(is_moved(journal.append(&entry(number).message().unwrap(), patience())), "{how}");
             }
             assert!(is_moved(snapshot(&mut validator)), "{how}");
             let (now, first) = (files(&path), path.join("journal.1"));
             // (without its lock it is the same folder, and the first journal is still that of the first process)
             let is_own = |file: &Path| how == "without its lock" && file == first;
             assert!(now.len() == before.len() && now.iter().zip(&before).all(|(a, b)| a == b || is_own(&a.0)), "{how}");
-            other.append(&entry(5).message().unwrap(), WAIT).unwrap();
+            other.append(&entry(5).message().unwrap(), patience()).unwrap();
         }
     }
 }
@@ -432,9 +522,9 @@ fn a_folder_that_comes_back_keeps_nothing() {
     let (path, old) = (room.0.join("state"), room.0.join("old"));
     let journal = Journal::open(&path).unwrap();
     fs::rename(&path, &old).unwrap();
-    assert!(is_moved(journal.append(&entry(1).message().unwrap(), WAIT)));
+    assert!(is_moved(journal.append(&entry(1).message().unwrap(), patience())));
     fs::rename(&old, &path).unwrap();
-    let why = journal.append(&entry(1).message().unwrap(), WAIT).unwrap_err().to_string();
+    let why = journal.append(&entry(1).message().unwrap(), patience()).unwrap_err().to_string();
     assert!(why.contains("put it back there, and start the service again"), "{why}");
 }
 
@@ -466,7 +556,7 @@ fn a_new_folder_whose_first_starts_fail() {
                 comes = fails(&path, &faults, first, is_killed);
                 next_comes = fails(&path, &faults, second, false);
                 let journal = opened(&path, &faults).expect("the disk is well");
-                journal.append(&entry(1).message().unwrap(), WAIT).unwrap();
+                journal.append(&entry(1).message().unwrap(), patience()).unwrap();
                 drop(journal);
                 faults.lost(&path, &lost);
                 let found = Journal::open(&lost).map(|mut journal| uses(&mut loaded(&mut journal)));
@@ -499,4 +589,14 @@ fn the_folder_above_is_synced_while_nothing_is_kept() {
     drop(opened(&found, &faults).unwrap());
     faults.let_fail(&["sync above"]);
     drop(opened(&found, &faults).expect("it has a journal now"));
+}
+
+/// Want of memory is no fault of a file.
+#[test]
+fn a_system_without_memory() {
+    let (room, faults) = (Room::new("enomem"), Faults::default());
+    faults.let_fail(&["create"]);
+    faults.fails_by(12);
+    assert!(matches!(opened(&room.0, &faults), Err(JournalError::NoMemory)));
+    opened(&room.0, &faults).expect("there is memory");
 }

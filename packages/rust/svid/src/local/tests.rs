@@ -109,10 +109,14 @@ fn a_clock_that_goes_back_ends_the_epoch() {
 fn a_claim_is_on_the_disk_before_it_is_answered() {
     let mut reopened = Reopened::new("local-disk");
     reopened.again();
+    assert_eq!(reopened.owner(5, 1, NOW + 600), (1, 0));
     std::fs::rename(reopened.room.0.join("claims"), reopened.room.0.join("moved")).expect("it is there");
     let claim = [Claim { key: TokenKey([7; 32]), owner: [1; 32], expires: NOW + 600 }];
     for _ in 0..2 {
         assert!(reopened.put(&claim).is_err());
+        assert!(reopened.open.as_ref().unwrap().withdraw(TokenKey([7; 32]), NOW + 600).is_err());
+        // (what is there needs no disk)
+        assert_eq!(reopened.owner(5, 2, NOW + 600), (1, 0));
     }
     reopened.open.as_ref().unwrap().0.close();
     assert!(reopened.put(&[]).is_err());
@@ -147,4 +151,42 @@ fn a_snapshot_has_what_is_live() {
     reopened.again();
     let found = reopened.put(&live.iter().map(|it| Claim { owner: [2; 32], ..*it }).collect::<Vec<_>>()).expect("it answers");
     assert!(found.iter().all(|it| it.owner == [1; 32]));
+}
+
+/// Who drops a guard waits for a snapshot, and not without an end.
+#[test]
+fn a_store_is_closed_while_a_call_is_under_way() {
+    let mut reopened = Reopened::new("local-closed");
+    let opens = |it: &Reopened| Journal::open(it.room.0.join("claims")).is_ok();
+    // (on a busy machine the call may take longer than a close waits)
+    until("a close that waits for a call", || {
+        reopened.again();
+        let held = reopened.open.as_ref().unwrap().0.journal();
+        let ends = thread::spawn(move || {
+            thread::sleep(Duration::from_millis(100));
+            drop(held);
+        });
+        reopened.open.as_ref().unwrap().0.close();
+        let is_free = opens(&reopened);
+        returned("the end of a call", || ends.join().expect("it panics nowhere"));
+        is_free
+    });
+    reopened.again();
+    let store = Arc::clone(&reopened.open.as_ref().unwrap().0);
+    let held = store.journal();
+    let closes = thread::spawn(move || store.close());
+    until("the end of the store", || closes.is_finished());
+    assert!(reopened.put(&[]).is_err());
+    assert!(!opens(&reopened), "the call may write yet");
+    drop(held);
+    until("the folder", || opens(&reopened));
+}
+
+#[test]
+fn a_snapshot_that_fails_is_warned_of() {
+    let (room, heard) = (Room::new("local-warns"), Heard::default());
+    let store = Local(LocalStore::open(&room.0, &heard.options()).expect("it is well"));
+    std::fs::create_dir(room.0.join("snapshot.new")).expect("nothing is there");
+    store.put(&[]).expect("it answers");
+    until("a warning", || heard.count("the folder of claims has no new snapshot: ") == 1);
 }

@@ -16,6 +16,7 @@ use crate::store::{Claim, Found, WITHDRAWN};
 /// How many bytes an answer begins with, and how many an entry of it and a withdrawal have.
 const HEAD: usize = 33;
 const CELL: usize = 33;
+const STORED: u8 = said::STORED as u8;
 const ONE: usize = 40;
 
 /// What the members agree on, in seconds: the longest time from a claim to an expiry, the margin after that, and of it the step back.
@@ -157,8 +158,7 @@ impl Member {
                 Ok(answer) => {
                     let from = all.len();
                     all.extend(part.iter().enumerate().map(|(n, claim)| answer.found(n, claim.owner)));
-                    let is_mine = |it: &(&Claim, &Result<Found, Fault>)| it.1.as_ref().map_or(false, |found| found.owner == it.0.owner);
-                    self.keep(part.iter().zip(&all[from..]).filter(is_mine).map(|it| *it.0).max_by_key(|it| it.expires), &answer);
+                    self.keep(part, &all[from..], &answer);
                 }
                 Err(why) if why.is(said::HELD) && part.len() > 1 => {
                     let (one, other) = part.split_at(part.len() / 2);
@@ -175,9 +175,9 @@ impl Member {
         let one = Claim { key, owner: WITHDRAWN, expires };
         let (keys, _, ends) = arrays(std::slice::from_ref(&one));
         let answer = self.decide(said::WITHDRAW, &[&keys[0], &ends[0]], 1, end).await?;
-        let owner = answer.found(0, WITHDRAWN)?.owner;
-        self.keep(Some(one).filter(|_| owner == WITHDRAWN), &answer);
-        Ok(owner)
+        let found = answer.found(0, WITHDRAWN)?;
+        self.keep(&[one], &[Ok(found)], &answer);
+        Ok(found.owner)
     }
 
     /// The withdrawals after a position, and the position up to which these are read.
@@ -192,10 +192,18 @@ impl Member {
         }
     }
 
-    /// Keeps a claim in mind: each look asks whether it is there.
-    fn keep(&self, one: Option<Claim>, answer: &Answer) {
+    /// Keeps the claim in mind that lives longest of those that a call stored, and each that was there: each look asks whether they are there.
+    fn keep(&self, claims: &[Claim], found: &[Result<Found, Fault>], answer: &Answer) {
         let mut known = self.known();
-        if let Some(one) = one.filter(|_| known.epoch.as_ref() == Some(&answer.epoch)) {
+        if known.epoch.as_ref() != Some(&answer.epoch) {
+            return;
+        }
+        let is_mine = |n: &usize| found[*n].as_ref().map_or(false, |it| it.owner == claims[*n].owner);
+        let (stored, earlier): (Vec<_>, Vec<_>) = (0..claims.len()).filter(is_mine).partition(|n| answer.has_stored(*n));
+        for n in earlier {
+            mark_late(&mut known.marks, claims[n]);
+        }
+        if let Some(one) = stored.into_iter().map(|n| claims[n]).max_by_key(|it| it.expires) {
             mark(&mut known.marks, one);
         }
     }
@@ -210,7 +218,7 @@ impl Member {
             return Err(why);
         }
         let turn = within(end, self.calls.acquire()).await?;
-        let called = self.call(text, values, self.replicas > 1, end).await;
+        let called = self.call(text, values, true, end).await;
         drop(turn);
         let answer = match called.and_then(|rows| Answer::of(rows, count)) {
             Ok(answer) => answer,
@@ -246,15 +254,19 @@ impl Member {
 
     async fn call_once(&self, text: &'static str, values: &[Value<'_>], confirms: bool, end: Instant) -> Result<Vec<Row>, Fault> {
         let mut one = self.taken(end).await?;
-        let at = one.at;
+        let (at, begun) = (one.at, Instant::now());
         let mut made = one.call(text, values, end).await;
-        if made.is_ok() && confirms {
+        if made.is_ok() && confirms && self.replicas > 1 {
             let kept = one.call(said::KEPT, &[&self.replicas], end).await.and_then(only).and_then(|row| row.get::<i64>(0));
             match kept {
                 Ok(1) => {}
                 Ok(_) => made = Err(said::ALONE.into()),
                 Err(why) => made = Err(why),
             }
+        }
+        if made.is_ok() && confirms && begun.elapsed() > Duration::from_millis(said::SOON) {
+            // (it may be gone, and who was away would see that later than its answer)
+            made = one.role(end).await.and(made);
         }
         match made {
             Ok(rows) => {
@@ -336,14 +348,32 @@ impl Answer {
         let found = |owner| Found { owner, time: self.time, deaf: self.deaf };
         match self.cells.chunks_exact(CELL).nth(n) {
             None => Ok(found(own)), // (without entries each is there by this call)
-            Some([1, owner @ ..]) => owner.try_into().map(found).map_err(|_| said::ANSWER.into()),
+            Some([1 | STORED, owner @ ..]) => owner.try_into().map(found).map_err(|_| said::ANSWER.into()),
             Some(cell) => Err(reason(said::OF_CELL, cell[0]).unwrap_or(said::ANSWER).into()),
         }
     }
+
+    /// Whether the call stored the claim with a number, where it is there.
+    fn has_stored(&self, n: usize) -> bool {
+        self.cells.chunks_exact(CELL).nth(n).map_or(true, |it| it[0] == STORED)
+    }
 }
 
-/// Marks with one more: the last ones, and before them those that outlive all that came later. What a store loses at its end is the last claim, or some
-/// of the last. So one of the marks is lost too, while it has not expired.
+/// Marks with one more, which an earlier call had stored, whose answer may not have come. Its order at the server is not known.
+pub(super) fn mark_late(marks: &mut Vec<Claim>, one: Claim) {
+    if marks.iter().any(|it| it.key == one.key) {
+        return;
+    }
+    let mut older = marks.len().saturating_sub(said::RECENT_MARKS as usize);
+    if older == (said::MOST_MARKS - said::RECENT_MARKS) as usize {
+        older -= 1;
+        marks.remove(older);
+    }
+    marks.insert(marks[..older].partition_point(|it| it.expires >= one.expires), one);
+}
+
+/// Marks with one more: the last ones that a call stored, and before them those that outlive all that came later. What a store loses at its end is the last
+/// claim, or some of the last. So one of the marks is lost too, while it has not expired.
 pub(super) fn mark(marks: &mut Vec<Claim>, one: Claim) {
     marks.push(one);
     if let Some(newest) = marks.len().checked_sub(1 + said::RECENT_MARKS as usize) {

@@ -80,6 +80,16 @@ struct Heard {
     is_whole: bool,
 }
 
+impl Heard {
+    /// Tokens are withdrawn. (Whoever withdraws one again, with an earlier expiry, does not take that back.)
+    fn keep(&mut self, these: impl IntoIterator<Item = (TokenKey, u64)>) {
+        for (key, expires) in these {
+            let until = self.withdrawn.entry(key).or_default();
+            *until = expires.max(*until);
+        }
+    }
+}
+
 impl PostgresStore {
     /// Begins, and connects in the background. The options are those of the guard: the store takes [`Options::longest`], [`Options::ahead`],
     /// [`Options::wait`] and [`Options::warns`] of them.
@@ -171,7 +181,7 @@ impl Store for PostgresStore {
     fn withdraw(&self, key: TokenKey, expires: u64) -> Result<(), StoreError> {
         let call = |shared: Arc<Shared>, end| async move {
             shared.member.withdraw(key, expires, end).await?;
-            shared.heard().withdrawn.insert(key, expires);
+            shared.heard().keep([(key, expires)]);
             Ok(())
         };
         Ok(self.ask(self.shared.wait, call)?)
@@ -231,7 +241,7 @@ impl Shared {
             let after = self.heard().position.clone();
             let (these, last) = self.member.withdrawals(&after, end).await?;
             let mut heard = self.heard();
-            heard.withdrawn.extend(these);
+            heard.keep(these);
             heard.is_whole |= last == after;
             heard.position = last;
             if heard.position == after {

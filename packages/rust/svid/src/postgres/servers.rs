@@ -38,6 +38,12 @@ impl Servers {
         }
     }
 
+    /// Lets the last look at a server have seen this.
+    #[cfg(test)]
+    pub fn saw(&self, at: usize, role: Result<Role, Fault>, when: Instant) {
+        self.seen()[at] = Seen { role, at: Some(when) };
+    }
+
     /// Connects to a server, and asks what it is.
     pub async fn reach(&self, at: usize, end: Instant) -> Result<(Session, Role), Fault> {
         let mut session = Session::open(at, &self.addresses[at], &self.schema, end).await?;

@@ -45,7 +45,7 @@ pub const KEPT: &str = "SELECT CASE WHEN {S}.kept($1::integer) THEN 1 ELSE 0 END
 pub const WITHDRAW: &str = "SELECT {S}.withdraw($1::bytea, $2::bigint)";
 pub const WITHDRAWALS: &str = concat!(
     "SELECT w.this::text || '/' || w.last, coalesce(w.these, ''::bytea) FROM (SELECT $1::text AS t) AS p CROSS JOIN LATERAL (SELECT CASE ",
-    "WHEN p.t ~ '^[0-9a-f]{8}(-[0-9a-f]{4}){3}-[0-9a-f]{12}/[0-9]{1,18}$' THEN p.t END AS t) AS q CROSS JOIN LATERAL ",
+    "WHEN p.t ~ '^[0-9a-f]{8}(-[0-9a-f]{4}){3}-[0-9a-f]{12}/([0-9]{1,18}|[1-8][0-9]{18})$' THEN p.t END AS t) AS q CROSS JOIN LATERAL ",
     "{S}.withdrawals(split_part(q.t, '/', 1)::uuid, coalesce(split_part(q.t, '/', 2)::bigint, 0)) AS w"
 );
 pub const LACKING: &str = concat!(
@@ -73,19 +73,21 @@ pub const CLOSED: Reason = ("closed", "the store is closed");
 pub const OF_CODES: &[(&str, Reason)] = &[("42P01", MISSING), ("3F000", MISSING), ("42883", MISSING), ("25006", STANDBY), ("55000", STANDBY), ("42501", RIGHTS), ("55P03", HELD)];
 pub const OF_STATUS: &[(u8, Reason)] = &[(1, RUN), (4, RUN), (2, BACK), (3, UNLOOKED)];
 pub const OF_CELL: &[(u8, Reason)] = &[(0, GONE), (2, LATE)];
+pub const STORED: u64 = 3;
 pub const QUARANTINE: u64 = 4;
 pub const MOST_CALLS: u64 = 8;
 pub const MOST_LEFT: u64 = 100;
 pub const PIECES: u64 = 10_000;
 pub const MOST_EXPIRY: u64 = 4_611_686_018_427_387_904;
-pub const RECENT_MARKS: u64 = 4;
-pub const MOST_MARKS: u64 = 16;
+pub const RECENT_MARKS: u64 = 8;
+pub const MOST_MARKS: u64 = 64;
 pub const DIAL_WAIT: u64 = 2_000;
 pub const STATE_EVERY: u64 = 1_000;
 pub const STATE_WAIT: u64 = 1_500;
 pub const HEAR_WAIT: u64 = 1_000;
 pub const LOOK_EVERY: u64 = 500;
 pub const LOOK_WAIT: u64 = 2_000;
+pub const SOON: u64 = 1_000;
 pub const MOST_AGE: u64 = 2_900;
 pub const STEP_BACK: u64 = 60_000;
 pub const LEAST_MARGIN: u64 = 60_000;

@@ -1,10 +1,11 @@
 //! Stores, over real servers. The tests of go/claims/postgres run over them too.
 
-use std::io::{BufRead, BufReader, Write};
+use std::io::{Read, Write};
 use std::path::PathBuf;
-use std::process::{Child, Command, Stdio};
+use std::process::{Command, Stdio};
 
-use super::member::mark;
+use super::member::{mark, mark_late};
+use super::session::Role;
 use super::*;
 use crate::common::*;
 use crate::testing::Issuer;
@@ -16,29 +17,40 @@ const CLIENT: &str = "SVID_STORE_CLIENT";
 
 /// Tests of go/claims/postgres that a wrong body fails.
 const CALLS: &str = "TestAClaimThatWaitsWhileTheEpochEnds|TestOneOrder|TestAClaimThatIsNotCommitted|TestAnEntryThatIsGoneMeanwhile";
-const LOSSES: &str = "TestRowsThatGoByHandEndTheEpoch|TestALookMissesRows|TestAnOlderCopyThatWentOn";
+const LOSSES: &str = "TestRowsThatGoByHandEndTheEpoch|TestALookMissesRows|TestAnOlderCopyThatWentOn|TestALateAnswerOfAServerThatIsGone|TestAnotherClaimOfACall";
 const STANDBYS: &str = "TestACancelledWait|TestWhatIsGivenUpEndsAtTheServer|TestStandbysAreNotWaitedForAnyMore";
 const PRIMARIES: &str = "TestTwoPrimaries|TestTwoStandbysArePromoted|TestServersOfTwoClusters";
 const TLS: &str = "TestTLS|TestRights";
 
-/// One test has the machine at a time: its servers want most of it. Whether the program is built.
-static TURN: Mutex<bool> = Mutex::new(false);
+/// One test has the machine at a time: its servers want most of it.
+static TURN: Mutex<Turn> = Mutex::new(Turn { is_built: false, server: None });
+
+struct Turn {
+    /// Whether the program is built.
+    is_built: bool,
+    /// It ends with this process.
+    server: Option<Server>,
+}
 
 /// The tests of go/claims/postgres as a program, beside this one.
 struct Program {
-    _turn: MutexGuard<'static, bool>,
+    turn: MutexGuard<'static, Turn>,
 }
 
 impl Program {
     fn new() -> Program {
-        let mut turn = TURN.lock().unwrap_or_else(PoisonError::into_inner);
-        if !*turn {
+        let mut turn = TURN.lock().unwrap_or_else(|why| {
+            let mut turn = why.into_inner();
+            turn.server = None; // (who knows what a test that failed has left)
+            turn
+        });
+        if !turn.is_built {
             let mut build = Command::new("go");
             build.args(["test", "-c", "-o"]).arg(Program::path()).arg("./claims/postgres").current_dir(top().join("go"));
             assert!(build.status().expect("go is there").success());
-            *turn = true;
+            turn.is_built = true;
         }
-        Program { _turn: turn }
+        Program { turn }
     }
 
     fn path() -> PathBuf {
@@ -67,7 +79,8 @@ impl Program {
         let said = String::from_utf8_lossy(&ran.stdout).into_owned();
         let passed = said.lines().filter(|it| it.starts_with("--- PASS: ")).count();
         let faults = String::from_utf8_lossy(&ran.stderr).into_owned();
-        assert!(ran.status.success() && passed == tests.split('|').count(), "{passed} passed: {said} {faults}");
+        let failed: Vec<_> = said.lines().filter(|it| it.trim_start().starts_with("--- FAIL: ")).collect();
+        assert!(ran.status.success() && passed == tests.split('|').count(), "{said} {faults} {passed} passed, {failed:#?}");
     }
 }
 
@@ -191,34 +204,52 @@ fn answer(stores: &Stores, name: &str, id: &str, words: &[&str]) -> Result<Strin
 const LONG: Duration = Duration::from_secs(500);
 
 /// A server of PostgreSQL, which takes `kill`, `start`, `pause`, `resume` and SQL.
-struct Machine {
-    run: Child,
-    said: BufReader<std::process::ChildStdout>,
+struct Server {
+    run: Process,
+    said: Lines,
     url: String,
-    _program: Program,
+}
+
+impl Server {
+    fn tell(&mut self, what: &str) -> String {
+        writeln!(self.run.0.stdin.as_mut().expect("a pipe"), "{what}").expect("it hears");
+        self.said.next(&format!("the server to answer to {what}"))
+    }
+}
+
+impl Drop for Server {
+    fn drop(&mut self) {
+        // (it ends with its input, and PostgreSQL with it)
+        drop(self.run.0.stdin.take());
+        let begun = Instant::now();
+        while matches!(self.run.0.try_wait(), Ok(None)) && begun.elapsed() < patience() {
+            thread::sleep(Duration::from_millis(5));
+        }
+    }
+}
+
+/// The server that all tests share, in the hands of one of them.
+struct Machine {
+    program: Program,
+    url: String,
 }
 
 impl Machine {
     fn new() -> Machine {
-        let program = Program::new();
-        let mut words = program.command(&["-test.run", "^TestAServerOfAnotherLanguage$"]);
-        let piped = words.env("SVID_STORE_SERVER", "1").stdin(Stdio::piped()).stdout(Stdio::piped());
-        let mut run = piped.spawn().expect("it runs");
-        let said = BufReader::new(run.stdout.take().expect("a pipe"));
-        let mut made = Machine { run, said, url: String::new(), _program: program };
-        made.url = made.heard();
-        made
-    }
-
-    fn heard(&mut self) -> String {
-        let mut line = String::new();
-        self.said.read_line(&mut line).expect("it answers");
-        line.trim().to_owned()
+        let mut program = Program::new();
+        if program.turn.server.is_none() {
+            let mut words = program.command(&["-test.run", "^TestAServerOfAnotherLanguage$"]);
+            let mut run = Process::begin(words.env("SVID_STORE_SERVER", "1").stdin(Stdio::piped()).stdout(Stdio::piped()));
+            let said = run.lines();
+            let url = said.next("the address of the server");
+            program.turn.server = Some(Server { run, said, url });
+        }
+        let url = program.turn.server.as_ref().map_or_else(String::new, |it| it.url.clone());
+        Machine { program, url }
     }
 
     fn tell(&mut self, what: &str) -> String {
-        writeln!(self.run.stdin.as_mut().expect("a pipe"), "{what}").expect("it hears");
-        self.heard()
+        self.program.turn.server.as_mut().expect("it was begun").tell(what)
     }
 
     /// Makes the store of a group.
@@ -231,23 +262,8 @@ impl Machine {
     }
 }
 
-impl Drop for Machine {
-    fn drop(&mut self) {
-        drop(self.run.stdin.take());
-        let _ = self.run.wait();
-    }
-}
-
 fn options() -> Options {
     Options::new(["ledger"]).mode(Mode::Strict).wait(patience())
-}
-
-fn until(what: &str, mut holds: impl FnMut() -> bool) {
-    let begun = Instant::now();
-    while !holds() {
-        assert!(begun.elapsed() < patience(), "waited in vain for {what}");
-        thread::sleep(Duration::from_millis(5));
-    }
 }
 
 fn claim(n: u8) -> Claim {
@@ -294,8 +310,25 @@ fn a_withdrawal_wins_over_a_claim() {
     assert_eq!(these.iter().map(|it| it.0).collect::<Vec<_>>(), [claim(1).key, claim(2).key]);
     assert_eq!(other.withdrawals(&last).expect("it answers"), (Vec::new(), last));
     let over = put(&one, 4).time - 119;
-    one.withdraw(claim(5).key, over).expect("it is there");
+    for n in [1, 5] {
+        one.withdraw(claim(n).key, over).expect("it is there");
+    }
     until("the withdrawal to be forgotten", || !one.shared.heard().withdrawn.contains_key(&claim(5).key));
+    assert_eq!(put(&one, 1).owner, WITHDRAWN); // (an earlier expiry takes nothing back)
+}
+
+/// Before it has looked at the store.
+#[test]
+fn the_first_call_of_a_member_may_be_a_withdrawal() {
+    let mut machine = Machine::new();
+    machine.group("first");
+    let store = machine.store(&options(), "first");
+    put(&store, 2); // (members have compared by then)
+    let member = Shared::member(&[&machine.url], "first", 1, Terms { lasts: 3660, margin: 120, back: 60 }).expect("it is one");
+    let shared = Shared { member, wait: patience(), margin: 120, warns: options().warns, heard: Mutex::default() };
+    let one = PostgresStore::begin(shared, false).expect("it begins");
+    one.withdraw(claim(1).key, claim(1).expires).expect("it is there");
+    until("the withdrawal", || put(&store, 1).owner == WITHDRAWN);
 }
 
 #[test]
@@ -313,9 +346,7 @@ fn calls_end() {
         &|| soon.withdrawals("").is_err(),
     ];
     for call in calls {
-        let begun = Instant::now();
-        assert!(call());
-        assert!(begun.elapsed() < Duration::from_secs(5)); // (a busy machine)
+        until_within(Duration::from_secs(5), "an end in time", || assert!(call()));
     }
     let why = thread::scope(|scope| {
         let call = scope.spawn(|| late.put(&[claim(2)]).unwrap_err().to_string());
@@ -417,18 +448,136 @@ fn what_is_no_store() {
     assert!(PostgresStore::open(&options().any_life(), &["postgres://h/d"], "svid", 1).is_err());
 }
 
+/// Servers of so many addresses, at which nobody looks.
+fn servers_of(count: usize) -> Arc<Servers> {
+    let address = |_| Address::of("postgres://127.0.0.1:1/d").expect("it is one");
+    Servers::new((0..count).map(address).collect(), String::new())
+}
+
+/// A server that began its run then. The timeline of a primary; "" of a standby.
+fn role(started: &str, line: &str) -> Result<Role, Fault> {
+    Ok(Role { is_primary: !line.is_empty(), system: "7".to_owned(), started: started.to_owned(), line: line.to_owned() })
+}
+
+/// What a member has of a server counts while no other one has taken its place.
+#[test]
+fn a_primary_by_the_last_looks() {
+    // (looks of a time to come, since a busy machine may take longer than a look counts)
+    let now = Instant::now() + 2 * patience();
+    let text = |why: Result<(), Fault>| why.map_err(|why| why.text);
+    let stale = || Err(said::STALE.1.to_owned());
+    let (old, new) = (role("one", "00000001"), role("two", "00000002"));
+    for (first, counts) in [(0, [Ok(()), stale()]), (1, [stale(), Ok(())])] {
+        let servers = servers_of(2);
+        let unlooked = || Err("not all servers were looked at".to_owned());
+        servers.saw(first, new.clone(), now);
+        assert_eq!([0, 1].map(|it| text(servers.counts(it))), [unlooked(), unlooked()]);
+        // Of two primaries the one that was promoted later counts, whatever its number is.
+        servers.saw(1 - first, old.clone(), now);
+        assert_eq!([0, 1].map(|it| text(servers.counts(it))), counts);
+        servers.saw(1 - first, role("one", ""), now);
+        assert_eq!([0, 1].map(|it| text(servers.counts(it))), counts);
+        // (a server may have two addresses)
+        servers.saw(1 - first, new.clone(), now);
+        assert_eq!([0, 1].map(|it| text(servers.counts(it))), [Ok(()), Ok(())]);
+        // An old look does not count: the server may have become the primary since.
+        let ago = Instant::now().checked_sub(Duration::from_millis(said::MOST_AGE + 1)).expect("the machine runs for some seconds");
+        servers.saw(1 - first, role("one", ""), ago);
+        assert_eq!([0, 1].map(|it| text(servers.counts(it))), [unlooked(), unlooked()]);
+    }
+    let other = Role { system: "8".to_owned(), ..new.clone().expect("it is there") };
+    let rows = [
+        (Ok(other), "addresses 1 and 2 are primaries of two database clusters: name the servers of one"),
+        (role("two", "00000001"), "addresses 1 and 2 are both primaries: stop the wrong one"),
+    ];
+    for (two, why) in rows {
+        let servers = servers_of(2);
+        servers.saw(0, old.clone(), now);
+        servers.saw(1, two, now);
+        assert_eq!([0, 1].map(|it| text(servers.counts(it))), [Err(why.to_owned()), Err(why.to_owned())]);
+    }
+    let none = servers_of(3);
+    none.saw(0, role("one", ""), now);
+    none.saw(1, Err(Fault::server("it is off")), now);
+    none.saw(2, role("two", ""), now);
+    let standby = said::STANDBY.1;
+    assert_eq!(text(none.counts(0)), Err(format!("address 1: {standby}; address 2: it is off; address 3: {standby}")));
+}
+
+#[test]
+fn servers_that_nobody_looks_at_are_waited_for_in_time() {
+    let (tell, told) = sync_channel(1);
+    thread::spawn(move || {
+        let runtime = Builder::new_current_thread().enable_all().build().expect("it can wait");
+        tell.send(runtime.block_on(servers_of(2).primary(Instant::now() + Duration::from_millis(50))))
+    });
+    let why = told.recv_timeout(patience()).expect("it ends").expect_err("nobody has looked");
+    assert!(why.is(said::SILENT), "{why}");
+}
+
+/// Each server is looked at now and then, and not all the time.
+#[test]
+fn looks_have_pauses() {
+    let listener = std::net::TcpListener::bind("127.0.0.1:0").expect("a port");
+    listener.set_nonblocking(true).expect("it can be");
+    let url = format!("postgres://{}/d?sslmode=disable", listener.local_addr().expect("it listens"));
+    let begun = Instant::now();
+    let store = PostgresStore::open(&options(), &[&url, &url], "svid", 1).expect("it begins");
+    // (each connection is ended at once: two looks at both, and the third one at one of them)
+    for _ in 0..5 {
+        until("a look", || listener.accept().is_ok());
+    }
+    assert!(begun.elapsed() >= Duration::from_millis(said::LOOK_EVERY), "{:?}", begun.elapsed());
+    let why = store.put(&[claim(1)]).unwrap_err().to_string();
+    assert!(why.starts_with("address 1: ") && why.contains("; address 2: "), "{why}");
+}
+
+/// What a server hears once it has agreed to TLS: a client that asks for it says nothing before.
+#[test]
+fn an_address_speaks_tls() {
+    let group = openssl::ec::EcGroup::from_curve_name(openssl::nid::Nid::X9_62_PRIME256V1).unwrap();
+    let key = openssl::pkey::PKey::from_ec_key(openssl::ec::EcKey::generate(&group).unwrap()).unwrap();
+    let mut certificate = openssl::x509::X509::builder().unwrap();
+    certificate.set_pubkey(&key).unwrap();
+    certificate.set_not_before(&openssl::asn1::Asn1Time::days_from_now(0).unwrap()).unwrap();
+    certificate.set_not_after(&openssl::asn1::Asn1Time::days_from_now(1).unwrap()).unwrap();
+    certificate.sign(&key, openssl::hash::MessageDigest::sha256()).unwrap();
+    let mut acceptor = openssl::ssl::SslAcceptor::mozilla_intermediate_v5(openssl::ssl::SslMethod::tls_server()).unwrap();
+    acceptor.set_private_key(&key).unwrap();
+    acceptor.set_certificate(&certificate.build()).unwrap();
+    let acceptor = acceptor.build();
+    let listener = std::net::TcpListener::bind("127.0.0.1:0").expect("a port");
+    listener.set_nonblocking(true).expect("it can be");
+    let url = format!("postgres://somebody@{}/d", listener.local_addr().expect("it listens"));
+    let _store = PostgresStore::open(&options(), &[&url], "svid", 1).expect("it begins");
+    until("a connection over TLS", || {
+        let mut stream = match listener.accept() {
+            Ok((stream, _)) => stream,
+            Err(_) => return false,
+        };
+        stream.set_nonblocking(false).and_then(|()| stream.set_read_timeout(Some(patience()))).expect("it can be");
+        let mut asked = [0; 8];
+        stream.read_exact(&mut asked).expect("it asks for TLS");
+        assert_eq!(asked, [0, 0, 0, 8, 0x04, 0xd2, 0x16, 0x2f]);
+        stream.write_all(b"S").expect("it hears");
+        let mut begins = [0; 64];
+        match acceptor.accept(stream) {
+            Ok(mut stream) => stream.read(&mut begins).map_or(false, |len| begins[..len].windows(8).any(|it| it == b"somebody")),
+            Err(_) => false,
+        }
+    });
+}
+
 /// A deployment may name all of them, and set some. (This test asks itself.)
 #[test]
 fn variables_that_are_empty_are_not_set() {
-    if std::env::var_os("SVID_ASKED").is_some() {
+    if is_alone() {
         return assert_eq!(Address::of("postgres://h/d").map(drop), Ok(()));
     }
-    let mut own = Command::new(std::env::current_exe().expect("a test has a program"));
-    own.args(["--exact", "postgres::tests::variables_that_are_empty_are_not_set"]).env("SVID_ASKED", "1");
     let names = ["PGSSLMODE", "PGSSLROOTCERT", "PGSSLCERT", "PGSSLKEY", "PGPASSWORD"];
-    let ran = own.envs(names.map(|it| (it, ""))).output().expect("it runs");
-    let said = String::from_utf8_lossy(&ran.stdout).into_owned();
-    assert!(ran.status.success() && said.contains("1 passed"), "{said}");
+    alone("postgres::tests::variables_that_are_empty_are_not_set", |own| {
+        own.envs(names.map(|it| (it, "")));
+    });
 }
 
 /// `?` turns why no store begins into what a `main` returns.
@@ -458,12 +607,27 @@ fn what_a_server_says_is_one_short_line() {
 fn marks_are_the_last_ones_and_those_that_outlive_them() {
     let mut marks = Vec::new();
     let expiries = |marks: &[Claim]| marks.iter().map(|it| it.expires).collect::<Vec<_>>();
-    for expires in [500, 100, 400, 300, 300, 200, 250, 1, 2, 3] {
+    for expires in [500, 100, 400, 300, 300, 200, 250, 1, 2, 3, 4, 5, 6, 7] {
         mark(&mut marks, Claim { expires, ..claim(1) });
     }
-    assert_eq!(expiries(&marks), [500, 400, 300, 200, 250, 1, 2, 3]);
+    assert_eq!(expiries(&marks), [500, 400, 300, 200, 250, 1, 2, 3, 4, 5, 6, 7]);
     for n in 0..100 {
         mark(&mut marks, Claim { expires: 400 - n, ..claim(1) });
     }
-    assert_eq!((marks.len(), marks[0].expires, &expiries(&marks)[12..]), (16, 500, &[304, 303, 302, 301][..]));
+    assert_eq!((marks.len(), marks[0].expires, &expiries(&marks)[56..]), (64, 500, &[308, 307, 306, 305, 304, 303, 302, 301][..]));
+}
+
+#[test]
+fn each_claim_that_was_there_is_kept_until_one_that_was_stored_later_outlives_it() {
+    let one = |expires: u64| Claim { key: TokenKey(std::array::from_fn(|n| expires.to_be_bytes()[n % 8])), expires, ..claim(1) };
+    let expiries = |marks: &[Claim]| marks.iter().map(|it| it.expires).collect::<Vec<_>>();
+    let mut marks = Vec::new();
+    (11..19).for_each(|n| mark(&mut marks, one(n)));
+    [5, 300, 500, 400, 500, 18, 200].into_iter().for_each(|n| mark_late(&mut marks, one(n)));
+    assert_eq!(expiries(&marks), [500, 400, 300, 200, 5, 11, 12, 13, 14, 15, 16, 17, 18]);
+    mark(&mut marks, one(350));
+    (20..28).for_each(|n| mark(&mut marks, one(n)));
+    assert_eq!(expiries(&marks), [500, 400, 350, 20, 21, 22, 23, 24, 25, 26, 27]);
+    (1000..1100).for_each(|n| mark_late(&mut marks, one(n)));
+    assert_eq!((marks.len(), marks[0].expires, &expiries(&marks)[56..]), (64, 1099, &[20, 21, 22, 23, 24, 25, 26, 27][..]));
 }

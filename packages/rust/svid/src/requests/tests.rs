@@ -12,7 +12,7 @@ use crate::common::*;
 use crate::journal::Journal;
 use crate::key::Candidate;
 use crate::open_token::OpenToken;
-use crate::requests::{Due, Step};
+use crate::requests::{About, Due, Report, Step};
 use crate::testing::{Clock, MemoryStore};
 use crate::*;
 
@@ -29,11 +29,13 @@ fn time() -> u64 {
     TIME.compare_exchange(0, now, Ordering::Relaxed, Ordering::Relaxed).map_or_else(|first| first, |_| now)
 }
 
-/// Waits for something that must come.
+/// Waits for something that must come. (A test that waits in vain is named with its line.)
+#[track_caller]
 fn until(holds: impl FnMut() -> bool) {
     within(patience(), holds);
 }
 
+#[track_caller]
 fn within(patience: Duration, mut holds: impl FnMut() -> bool) {
     let begun = Instant::now();
     while !holds() {
@@ -82,13 +84,23 @@ fn another() -> usize {
     NUMBER.fetch_add(1, Ordering::Relaxed)
 }
 
-/// Takes one signature for good, after it has done what a test wants.
+/// A coordinate of the key of good signatures, and that of another one.
+const OWN: &str = "ddDZA3C24xcsCvdB9019MFUYHMEJgQjRhP_lsBcIMfM";
+const OTHER: &str = "AAAAAAAAAAAAAAAAAAAAAAAAAAAAAAAAAAAAAAAAAAA";
+
+/// Takes one signature for good, but not by another key, after it has done what a test wants.
 struct By<F>(F);
 
+impl<F> std::fmt::Debug for By<F> {
+    fn fmt(&self, f: &mut std::fmt::Formatter<'_>) -> std::fmt::Result {
+        f.write_str("By")
+    }
+}
+
 impl<F: Fn()> Verify for By<F> {
-    fn verify(&self, _: &Candidate<'_>, _: &[u8], signature: &[u8]) -> Result<bool, Unverified> {
+    fn verify(&self, candidate: &Candidate<'_>, _: &[u8], signature: &[u8]) -> Result<bool, Unverified> {
         (self.0)();
-        Ok(signature == GOOD)
+        Ok(signature == GOOD && !candidate.jwk().windows(OTHER.len()).any(|it| it == OTHER.as_bytes()))
     }
 }
 
@@ -141,6 +153,7 @@ fn word<T>(answer: Result<T, Error>) -> String {
 }
 
 /// The outcome of a check. It is made in a thread of its own, for which nobody waits without an end.
+#[track_caller]
 fn check<F: Fn() + Send + Sync + 'static>(guard: &Arc<Guard<By<F>>>, token: &str) -> String {
     answer(soon(guard, token))
 }
@@ -162,6 +175,7 @@ fn words_of(guard: &Arc<Plain>, token: &str) -> String {
     answer(thread::spawn(move || guard.check(token))).unwrap_err().to_string()
 }
 
+#[track_caller]
 fn answer<T>(of: JoinHandle<T>) -> T {
     until(|| of.is_finished());
     of.join().expect("it does not panic")
@@ -407,7 +421,8 @@ fn a_store_that_fails_now_and_then() {
     let count = won.len();
     won.sort_unstable();
     won.dedup();
-    assert!(won.len() == count && count > 0, "{said:?}");
+    assert!(won.len() == count, "{said:?}");
+    until(|| check(&guards[0], &fresh(another())) == "accepted");
     assert!(guards.iter().all(|it| nothing_waits(it)));
 }
 
@@ -687,10 +702,12 @@ fn a_withdrawal_reaches_the_other_validators() {
 #[test]
 fn a_withdrawal_that_the_store_may_not_have() {
     let store = Fickle::new();
-    let guard = opened(&strict(&store).wait(SHORT));
+    let (options, heard) = hearing(strict(&store).wait(SHORT));
+    let guard = opened(&options);
     store.before(away);
     let why = withdraw(&guard, 1).unwrap_err();
     assert!(why.to_string().ends_with(": withdraw it again"), "{why}");
+    until(|| heard.lock().unwrap().iter().any(|it| it == "the group's store did not take a withdrawal: the store is away"));
     let go = store.hold();
     assert_eq!(word(withdraw(&guard, 1)), "Unavailable");
     store.is_well();
@@ -742,6 +759,26 @@ fn withdrawals_are_heard() {
     assert_eq!(alone.asked.load(Ordering::Relaxed), 0);
 }
 
+/// A clock of the service that panics does not end who hears of them: they are heard once it is well.
+#[test]
+fn withdrawals_while_the_clock_panics() {
+    let (store, panics, token) = (Fickle::new(), Arc::new(AtomicBool::new(false)), another());
+    let fails = Arc::clone(&panics);
+    let clock = move || match fails.load(Ordering::Acquire) {
+        true => std::panic::panic_any("a test"),
+        false => time(),
+    };
+    let (options, heard) = hearing(ledger().store(Arc::clone(&store) as Arc<dyn Store>).wait(LONG).clock(clock));
+    let guard = opened(&options);
+    assert_eq!(unready(&guard), "");
+    panics.store(true, Ordering::Release);
+    withdraw(&opened(&strict(&store)), token).expect("the store is well");
+    let is_heard = |it: &String| it == "the withdrawals of the group's store can't be read: the call panicked";
+    until(|| heard.lock().unwrap().iter().any(is_heard));
+    panics.store(false, Ordering::Release);
+    until(|| word(guard.judge(fresh(token))) == "Withdrawn");
+}
+
 /// Until they were read, no token is judged.
 #[test]
 fn withdrawals_that_are_not_heard_yet() {
@@ -767,6 +804,167 @@ fn withdrawals_that_are_not_heard_yet() {
     until(|| told() == 2);
     assert_eq!(unready(&guard), "");
     assert_eq!(in_time(&guard, &fresh(another())), "accepted");
+}
+
+// -- After a suspension
+
+/// A store whose guards look at it once, and then where that is due.
+struct Suspended {
+    store: MemoryStore,
+    clock: Clock,
+    asked: AtomicUsize,
+    before: Mutex<Arc<Fault>>,
+    after: Mutex<Arc<Fault>>,
+}
+
+impl Suspended {
+    fn new() -> Arc<Suspended> {
+        let nothing = || Mutex::new(Arc::new(|| Ok(())) as Arc<Fault>);
+        let clock = Clock::at(time());
+        Arc::new(Suspended { store: memory(), clock, asked: AtomicUsize::new(0), before: nothing(), after: nothing() })
+    }
+
+    fn guard(self: &Arc<Suspended>, mode: Mode, wait: Duration) -> Arc<Plain> {
+        let store = Arc::clone(self) as Arc<dyn Store>;
+        let guard = opened(&ledger().mode(mode).store(store).wait(wait).clock(self.clock.reader()));
+        looks_of(&guard).rest();
+        until(|| looks_of(&guard).is_at_rest());
+        until(|| unready(&guard).is_empty());
+        guard
+    }
+
+    fn asked(&self) -> usize {
+        self.asked.load(Ordering::Acquire)
+    }
+
+    /// Each call for withdrawals does this before it reads them, or after.
+    fn does(&self, before: bool, fault: impl Fn() -> Result<(), StoreError> + Send + Sync + 'static) {
+        *(if before { &self.before } else { &self.after }).lock().unwrap() = Arc::new(fault);
+    }
+
+    /// Such a call hangs until the flag is set, and then fails, or not.
+    fn hold(&self, before: bool, fails: bool) -> Arc<AtomicBool> {
+        let go = Arc::new(AtomicBool::new(false));
+        let waits = Arc::clone(&go);
+        self.does(before, move || {
+            held(&waits);
+            if fails {
+                away()
+            } else {
+                Ok(())
+            }
+        });
+        go
+    }
+
+    /// Another guard withdraws a token while the machine is suspended for so many seconds.
+    fn withdraw_meanwhile(&self, token: &str, seconds: u64) {
+        let key = Said::of(token.as_bytes()).expect("it is a token").key();
+        self.store.withdraw(key, time() + 600).expect("the store is in memory");
+        self.clock.advance(seconds);
+    }
+}
+
+impl Store for Suspended {
+    fn put(&self, claims: &[Claim]) -> Result<Vec<Found>, StoreError> {
+        self.store.put(claims)
+    }
+
+    fn withdraw(&self, key: TokenKey, expires: u64) -> Result<(), StoreError> {
+        self.store.withdraw(key, expires)
+    }
+
+    fn withdrawals(&self, after: &str) -> Result<(Vec<(TokenKey, u64)>, String), StoreError> {
+        self.asked.fetch_add(1, Ordering::AcqRel);
+        let (before, done) = (Arc::clone(&self.before.lock().unwrap()), Arc::clone(&self.after.lock().unwrap()));
+        before()?;
+        let page = self.store.withdrawals(after)?;
+        done().map(|()| page) // (what was read may be old by now)
+    }
+}
+
+fn looks_of<V>(guard: &Guard<V>) -> &crate::looks::Looks {
+    &guard.requests.claims.as_ref().expect("it has a store").looks
+}
+
+fn checked(guard: &Arc<Plain>, mode: Mode, token: &str) -> String {
+    match mode {
+        Mode::Bound => word(guard.check_from(Caller::of("10.0.0.7"), token)),
+        _ => word(guard.check(token)),
+    }
+}
+
+#[test]
+fn a_withdrawal_while_the_machine_was_suspended() {
+    for mode in [Mode::Once, Mode::Reuse, Mode::Bound] {
+        let store = Suspended::new();
+        let guard = store.guard(mode, LONG);
+        for judges in [false, true] {
+            let token = fresh(another());
+            store.withdraw_meanwhile(&token, 9);
+            let said = if judges { word(guard.judge(&token)) } else { checked(&guard, mode, &token) };
+            assert_eq!(said, "Withdrawn");
+        }
+    }
+}
+
+#[test]
+fn a_look_from_before_a_suspension_does_not_count() {
+    let (store, token) = (Suspended::new(), fresh(another()));
+    let guard = store.guard(Mode::Reuse, LONG);
+    let asked = store.asked();
+    let go = store.hold(false, false);
+    looks_of(&guard).wake();
+    until(|| store.asked() > asked);
+    store.withdraw_meanwhile(&token, 100);
+    let call = soon(&guard, &token);
+    until(|| looks_of(&guard).is_wanted() || call.is_finished());
+    go.store(true, Ordering::Release);
+    assert_eq!(answer(call), "Withdrawn");
+}
+
+/// Also where it fails: whoever comes then is answered at once, as before.
+#[test]
+fn requests_after_a_suspension_share_a_look() {
+    for fails in [false, true] {
+        let (store, token) = (Suspended::new(), fresh(another()));
+        let guard = store.guard(Mode::Reuse, LONG);
+        let asked = store.asked();
+        let go = store.hold(true, fails);
+        store.withdraw_meanwhile(&token, 100);
+        let mut calls = vec![soon(&guard, &token)];
+        until(|| store.asked() > asked);
+        calls.extend((1..THREADS).map(|_| soon(&guard, &token)));
+        until(|| guard.requests.core().waits() == THREADS);
+        go.store(true, Ordering::Release);
+        for call in calls {
+            assert_eq!(answer(call), if fails { "accepted" } else { "Withdrawn" });
+        }
+        assert_eq!(check(&guard, &fresh(another())), "accepted");
+        assert_eq!(store.asked() - asked, if fails { 1 } else { 2 });
+    }
+}
+
+/// A request waits for a part of its time, and is answered then. The next one is at once.
+#[test]
+fn a_store_that_hangs_after_a_suspension() {
+    for mode in [Mode::Once, Mode::Reuse, Mode::Bound] {
+        let store = Suspended::new();
+        let guard = store.guard(mode, Duration::from_secs(2));
+        let asked = store.asked();
+        let go = store.hold(true, false);
+        looks_of(&guard).wake(); // (the store hung before)
+        until(|| store.asked() > asked);
+        until(|| {
+            store.clock.advance(10);
+            checked(&guard, mode, &fresh(another())) == "accepted"
+        });
+        until(|| {
+            let begun = Instant::now();
+            checked(&guard, mode, &fresh(another())) == "accepted" && begun.elapsed() < Duration::from_millis(500)
+        });
+        go.store(true, Ordering::Release);
+    }
 }
 
 // -- Callers
@@ -797,8 +995,10 @@ fn callers() {
 fn a_verifier_that_takes_too_long() {
     let slow = Arc::new(AtomicBool::new(true));
     let is_slow = Arc::clone(&slow);
-    let begun = Instant::now();
-    let verifier = By(move || until(|| !is_slow.load(Ordering::Acquire) || begun.elapsed() > 3 * SHORT));
+    let verifier = By(move || {
+        let begun = Instant::now();
+        until(|| !is_slow.load(Ordering::Acquire) || begun.elapsed() > 3 * SHORT);
+    });
     let guard = verifying(&ledger().wait(SHORT), verifier);
     assert_eq!(check(&guard, &fresh(1)), "Unavailable");
     assert_eq!(uses(&guard), 0);
@@ -841,27 +1041,32 @@ fn a_slow_verifier_holds_up_nobody() {
 /// It is asked about right before it goes out.
 #[test]
 fn a_claim_of_who_does_not_know_yet_that_it_is_late() {
-    let (guard, token) = (opened(&strict(&Arc::new(memory())).wait(Duration::from_secs(5))), fresh(1));
+    let guard = opened(&strict(&Arc::new(memory())).wait(SHORT));
     until(|| unready(&guard).is_empty());
     let requests = &guard.requests;
-    let mut read = OpenToken::read(token.as_bytes(), &[]).expect("it is a token");
-    let (mut core, up) = (requests.core(), requests.clock.up());
-    let number = core.come(up, [0; 32]).expect("it judges");
-    let len = core.keys_of(&mut read).expect("there is memory");
-    read.look(len, &plain()).expect("there is memory");
-    core.judge_request(time(), up, number, &mut read, None).expect("it is judged");
-    let used = match core.step(up, number) {
-        Ok(Some(Step::Deed(deed))) if deed.what == ffi::DEED_CLAIM => deed.used,
-        _ => panic!("no claim is due"),
-    };
-    let at = core.due().expect("it is open");
-    drop(core);
-    let due = Due { number, used };
-    assert!(requests.send(&due).is_some());
-    until(|| requests.clock.up() >= at);
-    assert!(requests.send(&due).is_none());
-    assert!(matches!(guard.requests.core().step(at, number), Ok(Some(Step::Deed(deed))) if deed.status() == ffi::LATE));
-    assert!(nothing_waits(&guard));
+    until(|| {
+        let token = fresh(another());
+        let mut read = OpenToken::read(token.as_bytes(), &[]).expect("it is a token");
+        let (mut core, up) = (requests.core(), requests.clock.up());
+        let number = core.come(up, [0; 32]).expect("it judges");
+        let len = core.keys_of(&mut read).expect("there is memory");
+        read.look(len, &plain()).expect("there is memory");
+        core.judge_request(time(), up, number, &mut read, None).expect("it is judged");
+        let used = match core.step(up, number) {
+            Ok(Some(Step::Deed(deed))) if deed.what == ffi::DEED_CLAIM => deed.used,
+            _ => panic!("no claim is due"),
+        };
+        let at = core.due().expect("it is open");
+        drop(core);
+        let due = Due { number, used };
+        // (a busy machine may be late for it)
+        let is_in_time = requests.send(&due).is_some();
+        until(|| requests.clock.up() >= at);
+        assert!(requests.send(&due).is_none());
+        assert!(matches!(requests.core().step(at, number), Ok(Some(Step::Deed(deed))) if deed.status() == ffi::LATE));
+        assert!(nothing_waits(&guard));
+        is_in_time
+    });
 }
 
 /// Who waits behind a request that ends by a panic has its turn.
@@ -878,6 +1083,17 @@ fn a_panic_leaves_nobody_behind() {
     assert!(nothing_waits(&guard));
     assert_eq!(guard.requests.core().due(), Ok(u64::MAX));
     assert_eq!(answer(soon(&guard, &fresh(1))), "accepted");
+}
+
+/// What a service writes into its log has neither bundles nor tokens, and is short.
+#[test]
+fn a_guard_that_is_printed() {
+    let guard = opened(&ledger());
+    assert_eq!(check(&guard, &fresh(1)), "accepted");
+    let member = LogMember::open(&crate::common::ledger(), bundles(), plain(), &LogStart::default()).expect("it opens");
+    for text in [format!("{guard:?}"), format!("{member:?}")] {
+        assert!(text.len() < 1000 && text.contains("validator_id"), "{text}");
+    }
 }
 
 /// A thread that panics with the record in its hands takes it from nobody.
@@ -906,6 +1122,35 @@ fn a_guard_that_is_dropped_ends_its_threads() {
     until(|| Arc::strong_count(&store) == 1);
 }
 
+/// To drop a guard takes some seconds at most, though the disk hangs, and who is warned of a bundle.
+#[test]
+fn a_guard_that_is_dropped_ends() {
+    let (room, goes, hangs) = (Room::new("dropped"), Arc::new(AtomicBool::new(true)), Arc::new(AtomicBool::new(false)));
+    let (bundle, state) = (room.0.join("bundle"), room.0.join("state"));
+    let whole: serde_json::Value = serde_json::from_slice(&bundles()).expect("an object");
+    std::fs::write(&bundle, whole["example.org"].to_string()).expect("it is written");
+    let (journal, faults) = Journal::failing(&state);
+    let go = Arc::clone(&goes);
+    faults.before_writes(move || held(&go));
+    let (go, begins) = (Arc::clone(&goes), Arc::clone(&hangs));
+    let options = ledger().wait(SHORT).warns(move |_| {
+        begins.store(true, Ordering::Release);
+        held(&go);
+    });
+    let sources = Sources::new().file("example.org", &bundle);
+    let guard = Arc::new(Guard::with_journal(&options, sources, plain(), journal).expect("it opens"));
+    until(|| in_time(&guard, &fresh(another())) == "accepted");
+    goes.store(false, Ordering::Release);
+    std::fs::write(&bundle, "half").expect("it is written");
+    until(|| hangs.load(Ordering::Acquire));
+    assert_eq!(check(&guard, &fresh(another())), "Unavailable");
+    answer(thread::spawn(move || drop(guard)));
+    let why = Journal::open(&state).map(drop).expect_err("what is under way goes there yet");
+    assert!(matches!(why, JournalError::Held { .. }), "{why}");
+    goes.store(true, Ordering::Release);
+    until(|| Journal::open(&state).is_ok());
+}
+
 // -- Readiness
 
 #[test]
@@ -924,6 +1169,32 @@ fn a_disk_that_fails() {
     assert_eq!(check(&guard, &fresh(1)), "Replayed");
     drop(guard);
     assert_eq!(uses(&kept(&ledger(), at(&room))), 2);
+}
+
+/// A look may keep the use again before the thread of the request sees that its write failed.
+#[test]
+fn a_disk_that_is_well_again_at_once() {
+    let room = Room::new("at-once");
+    let (guard, token) = (kept(&ledger(), at(&room)), fresh(1));
+    let requests = &guard.requests;
+    let mut read = OpenToken::read(token.as_bytes(), &[]).expect("it is a token");
+    let (mut core, up) = (requests.core(), requests.clock.up());
+    let number = core.come(up, [0; 32]).expect("it judges");
+    let len = core.keys_of(&mut read).expect("there is memory");
+    read.look(len, &plain()).expect("there is memory");
+    core.judge_request(time(), up, number, &mut read, None).expect("it is judged");
+    let used = match core.step(up, number) {
+        Ok(Some(Step::Deed(deed))) if deed.what == ffi::DEED_APPEND => deed.used,
+        _ => panic!("no write is due"),
+    };
+    core.writes(number, true);
+    drop(core);
+    let about = About::Use { number, message: Use::of(&used, false).message().expect("it is live") };
+    for ended in [Err(JournalError::Late), Ok(())] {
+        Report { to: Arc::downgrade(requests), about }.tell(&ended);
+    }
+    assert!(matches!(requests.core().step(up, number), Ok(Some(Step::Deed(deed))) if deed.status() == ffi::NOT_KEPT));
+    assert_eq!(unready(&guard), "");
 }
 
 /// It ends neither what writes to the disk nor what puts claims.
@@ -983,13 +1254,16 @@ fn a_store_that_is_not_there_yet() {
 fn a_store_that_is_reached_meanwhile() {
     let store = Fickle::new();
     store.before(away);
-    let guard = opened(&strict(&store).wait(SHORT));
-    let known = |opened| ffi::Known { bundled: 1, loaded: 1, heard: 1, joined: 1, caught_up: 1, opened, ..ffi::Known::default() };
-    let mut core = guard.requests.core();
-    assert!(core.ready().is_err());
-    for opened in [1, 0] {
-        core.know(&known(opened)).expect("it is open");
-        assert_eq!(core.ready(), Ok(()));
+    // (in mode strict nobody reads withdrawals)
+    for options in [strict(&store), bound(&store)] {
+        let guard = opened(&options.wait(SHORT));
+        let known = |it| ffi::Known { bundled: 1, loaded: 1, heard: it, joined: 1, caught_up: 1, opened: it, ..ffi::Known::default() };
+        let mut core = guard.requests.core();
+        assert!(core.ready().is_err());
+        for is_known in [1, 0] {
+            core.know(&known(is_known)).expect("it is open");
+            assert_eq!(core.ready(), Ok(()));
+        }
     }
 }
 
@@ -1003,6 +1277,31 @@ fn a_store_that_goes_away() {
     until(|| unready(&guard).starts_with("the group's store does not answer"));
     store.is_well();
     until(|| unready(&guard).is_empty()); // (each look asks the store)
+}
+
+/// A store that answers claims, and whose withdrawals can't be read, is away: in mode bound nobody is to send it tokens, in the others it is well.
+#[test]
+fn a_store_that_tells_no_withdrawals_any_more() {
+    let away = |guard: &Plain| unready(guard).starts_with("the group's store does not answer");
+    for is_bound in [true, false] {
+        let store = Fickle::new();
+        let options = if is_bound { bound(&store) } else { ledger().store(Arc::clone(&store) as Arc<dyn Store>) };
+        let guard = opened(&options.wait(SHORT));
+        until(|| unready(&guard).is_empty());
+        store.is_mute.store(true, Ordering::Release);
+        let asked = store.asked.load(Ordering::Acquire);
+        if is_bound {
+            until(|| away(&guard));
+            let claims = store.counts().len();
+            let caller = || Caller::of("a caller");
+            until(|| guard.check_from(caller(), fresh(another())).is_ok());
+            assert!(store.counts().len() > claims && away(&guard), "a claim that is answered does not say that withdrawals are read");
+        }
+        until(|| store.asked.load(Ordering::Acquire) > asked + 2);
+        assert_eq!(away(&guard), is_bound);
+        store.is_mute.store(false, Ordering::Release);
+        until(|| unready(&guard).is_empty());
+    }
 }
 
 /// An answer to no claims does not say whether the store lost entries.
@@ -1065,6 +1364,90 @@ fn keys_are_looked_for_again_in_renewed_bundles() {
     assert_eq!(answer(call), "accepted");
 }
 
+/// A key that has its name by then did not make its signature.
+#[test]
+fn another_key_of_the_same_name_lets_nobody_in() {
+    let store = Fickle::new();
+    let guard = opened(&strict(&store).wait(LONG));
+    let go = store.hold();
+    let call = soon(&guard, &fresh(1));
+    until(|| !store.counts().is_empty());
+    let text = String::from_utf8(bundles()).expect("a text");
+    assert!(text.contains(OWN));
+    guard.follow(text.replace(OWN, OTHER).as_bytes()).expect("they are good");
+    go.store(true, Ordering::Release);
+    assert_eq!(answer(call), "BadSignature");
+}
+
+/// Nothing is there.
+fn no_bundle() -> Sources {
+    Sources::new().file("later.example", "/nowhere/bundle.json")
+}
+
+/// The last bundle may go while a token is on its way to its answer. That is not the token's fault: it is accepted once the bundle is there again.
+#[test]
+fn the_last_bundle_goes_meanwhile() {
+    let store = Fickle::new();
+    let rows = [(ledger(), false), (ledger().mode(Mode::Reuse), false), (strict(&store), false), (strict(&store), true)];
+    for (options, is_at_store) in rows {
+        let (goes, token) = (Arc::new(Mutex::new(None::<Box<dyn FnOnce() + Send>>)), fresh(another()));
+        let does = |now: bool| {
+            let goes = Arc::clone(&goes);
+            move || {
+                let does = if now { goes.lock().unwrap().take() } else { None };
+                if let Some(does) = does {
+                    does();
+                }
+            }
+        };
+        let guard = verifying(&options.wait(LONG), By(does(!is_at_store)));
+        let at_store = does(is_at_store);
+        store.before(move || {
+            at_store();
+            Ok(())
+        });
+        let other = Arc::clone(&guard);
+        *goes.lock().unwrap() = Some(Box::new(move || other.follow(no_bundle()).expect("it can be followed")));
+        assert_eq!(check(&guard, &token), "Unavailable", "{is_at_store}");
+        assert_eq!(word(guard.judge(&token)), "Unavailable");
+        let denied = guard.admit_only(&[], [&format!("Bearer {token}")]).unwrap_err();
+        assert_eq!((denied.status(), denied.reason()), (503, "NoBundle"));
+        guard.follow(bundles()).expect("they are good");
+        assert_eq!(check(&guard, &token), "accepted");
+        assert!(nothing_waits(&guard));
+        store.is_well();
+    }
+}
+
+/// A token is good, or has no answer, while the only bundle comes and goes.
+#[test]
+fn no_token_is_refused_where_there_is_no_bundle() {
+    let (guard, token, is_over) = (opened(&ledger().mode(Mode::Reuse)), fresh(1), AtomicBool::new(false));
+    let seen = [(); 2].map(|()| AtomicUsize::new(0));
+    thread::scope(|scope| {
+        for _ in 0..2 {
+            scope.spawn(|| {
+                while !is_over.load(Ordering::Acquire) {
+                    match guard.check(&token) {
+                        Ok(_) => &seen[0],
+                        Err(Error::Unavailable(_)) => &seen[1],
+                        Err(why) => panic!("{why}"),
+                    }
+                    .fetch_add(1, Ordering::Relaxed);
+                }
+            });
+        }
+        let comes_and_goes = || {
+            guard.follow(no_bundle()).expect("it can be followed");
+            guard.follow(bundles()).expect("they are good");
+            seen.iter().all(|it| it.load(Ordering::Relaxed) > 200)
+        };
+        let ended = std::panic::catch_unwind(std::panic::AssertUnwindSafe(|| until(comes_and_goes)));
+        is_over.store(true, Ordering::Release);
+        ended.expect("both answers come");
+    });
+}
+
 /// In mode bound without a store, over starts.
 #[test]
 fn a_token_belongs_to_its_first_caller() {
@@ -1102,8 +1485,15 @@ fn who_hears_of_tokens_that_are_not_accepted() {
         assert_ne!(check(&guard, &token), "accepted");
         let _ = guard.judge(&token);
     }
+    let nobody = |token: String| guard.admit_only(&[], [format!("Bearer {token}").as_str()]).map_err(|why| why.status()).map(drop);
+    assert_eq!(nobody(fresh(3)), Err(403));
+    assert_eq!(nobody("no token".to_owned()), Err(401)); // (its header has two words after Bearer, and so no token)
+    for token in [signed(4, b"a bad signature"), "none".to_owned(), "x".repeat(65_537)] {
+        assert_eq!(nobody(token), Err(401));
+    }
     let said: Vec<String> = heard.lock().unwrap().iter().map(|it| it.split(':').next().unwrap_or_default().to_owned()).collect();
-    assert_eq!(said, ["Replayed", "BadSignature", "NotThreeParts"]);
+    let due = ["Replayed", "BadSignature", "NotThreeParts", "NotAllowed", "BadSignature", "NotThreeParts", "TooLong"];
+    assert_eq!(said, due);
 }
 
 /// A guard says once of each token that several accepted, as soon as it hears of that.
@@ -1205,7 +1595,9 @@ fn answers_to_requests() {
 #[test]
 fn a_guard_takes_snapshots_by_itself() {
     let room = Room::new("snapshots");
-    let guard = kept(&ledger(), at(&room));
+    let (journal, faults) = Journal::failing(&room.0);
+    let (options, heard) = hearing(ledger());
+    let guard = kept(&options, journal);
     assert!(room.0.join("snapshot").exists(), "one is taken at the start");
     let journal = guard.journal.as_ref().expect("it has one");
     assert_eq!(guard.validator_id(), journal.validator_id());
@@ -1216,7 +1608,20 @@ fn a_guard_takes_snapshots_by_itself() {
             check(&guard, &fresh(another())) == "accepted" && room.0.join("snapshot").exists()
         });
     }
+    assert_eq!(*heard.lock().unwrap(), [""; 0]);
+    faults.let_fail(&["rename"]);
+    until(|| {
+        journal.let_a_snapshot_be_due();
+        check(&guard, &fresh(another())) == "accepted" && !heard.lock().unwrap().is_empty()
+    });
+    let said = heard.lock().unwrap().clone();
+    assert!(said.len() == 1 && said[0].starts_with("the state folder has no new snapshot: "), "{said:?}");
     let count = uses(&guard);
     drop(guard);
-    assert_eq!(uses(&kept(&ledger(), at(&room))), count);
+    // (each start begins a journal)
+    for _ in 0..20 {
+        assert_eq!(uses(&kept(&ledger(), at(&room))), count);
+    }
+    let files = std::fs::read_dir(&room.0).expect("it is there").count();
+    assert!(files < 16, "{files} files");
 }

@@ -1,9 +1,13 @@
 //! What the tests share: the files of tests/vectors/, which the tests of every language read (tests/vectors/README.md).
 #![allow(dead_code)]
 
+use std::io::{BufRead, BufReader, Read};
 use std::path::{Path, PathBuf};
+use std::process::{Child, Command, Output, Stdio};
 use std::sync::atomic::{AtomicU64, Ordering};
-use std::sync::{Arc, Mutex};
+use std::sync::{mpsc, Arc, Mutex};
+use std::thread;
+use std::time::{Duration, Instant};
 
 use serde_json::Value;
 use svid::{Candidate, Error, Guard, Options, Said, TokenKey, Unverified, ValidatorId, Verify};
@@ -205,11 +209,111 @@ impl Verifies for svid::Ring {
 
 /// Waits for something that must come.
 pub fn until(what: &str, mut holds: impl FnMut() -> bool) {
-    let begun = std::time::Instant::now();
+    let begun = Instant::now();
     while !holds() {
         assert!(begun.elapsed() < patience(), "waited in vain for {what}");
-        std::thread::sleep(std::time::Duration::from_millis(5));
+        thread::sleep(Duration::from_millis(5));
     }
+}
+
+/// Does again and again what takes less time than this, until it does: a busy machine may take longer for it.
+pub fn until_within(limit: Duration, what: &str, mut does: impl FnMut()) {
+    until(what, || {
+        let begun = Instant::now();
+        does();
+        begun.elapsed() < limit
+    });
+}
+
+/// What a call returns. A thread makes it, for which nobody waits without an end. (It has much to do, and so more time than one thing that must come.)
+pub fn returned<T: Send + 'static>(what: &str, call: impl FnOnce() -> T + Send + 'static) -> T {
+    let (call, begun) = (thread::spawn(call), Instant::now());
+    while !call.is_finished() {
+        assert!(begun.elapsed() < 3 * patience(), "waited in vain for {what}");
+        thread::sleep(Duration::from_millis(5));
+    }
+    call.join().unwrap_or_else(|why| std::panic::resume_unwind(why))
+}
+
+/// The first connection to a socket that listens and does not block.
+pub fn accepted<T>(mut accept: impl FnMut() -> std::io::Result<T>) -> T {
+    let mut came = None;
+    until("a connection", || {
+        came = accept().ok();
+        came.is_some()
+    });
+    came.expect("it came")
+}
+
+/// A process that ends with its name.
+pub struct Process(pub Child);
+
+impl Process {
+    pub fn begin(command: &mut Command) -> Process {
+        Process(command.spawn().unwrap_or_else(|why| panic!("{command:?}: {why}")))
+    }
+
+    /// What it says from now on.
+    pub fn lines(&mut self) -> Lines {
+        Lines::of(self.0.stdout.take().expect("its output"))
+    }
+}
+
+impl Drop for Process {
+    fn drop(&mut self) {
+        let _ = self.0.kill();
+        let _ = self.0.wait();
+    }
+}
+
+/// The lines that somebody writes.
+pub struct Lines(mpsc::Receiver<String>);
+
+impl Lines {
+    pub fn of(from: impl Read + Send + 'static) -> Lines {
+        let (gives, gets) = mpsc::channel();
+        thread::spawn(move || BufReader::new(from).lines().map_while(Result::ok).all(|line| gives.send(line).is_ok()));
+        Lines(gets)
+    }
+
+    /// The next one, which must come.
+    pub fn next(&self, what: &str) -> String {
+        self.0.recv_timeout(patience()).unwrap_or_else(|why| panic!("waited in vain for {what}: {why}"))
+    }
+}
+
+/// What a command says, once it has ended, as it must.
+pub fn output(command: &mut Command) -> Output {
+    let what = format!("the end of {command:?}");
+    let mut process = Process::begin(command.stdin(Stdio::null()).stdout(Stdio::piped()).stderr(Stdio::piped()));
+    let all = |mut from: Box<dyn Read + Send>| {
+        thread::spawn(move || {
+            let mut all = Vec::new();
+            from.read_to_end(&mut all).map(|_| all)
+        })
+    };
+    let stdout = all(Box::new(process.0.stdout.take().expect("a pipe")));
+    let stderr = all(Box::new(process.0.stderr.take().expect("a pipe")));
+    until(&what, || process.0.try_wait().expect("it is a child").is_some() && stdout.is_finished() && stderr.is_finished());
+    let status = process.0.wait().expect("it has ended");
+    let [stdout, stderr] = [stdout, stderr].map(|it| it.join().expect("it panics nowhere").expect("it can be read"));
+    Output { status, stdout, stderr }
+}
+
+/// Whether this process has one test alone: `alone` has begun it.
+pub fn is_alone() -> bool {
+    std::env::var_os("SVID_ASKED").is_some()
+}
+
+/// Runs a test of this program in a process of its own, by a command that is changed so. It must pass.
+pub fn alone(test: &str, change: impl FnOnce(&mut Command)) {
+    let mut own = Command::new(std::env::current_exe().expect("a test has a program"));
+    own.args(["--exact", test, "--nocapture"]).env("SVID_ASKED", "1");
+    change(&mut own);
+    // (its own waits end)
+    let ran = own.output().expect("it runs");
+    let said = format!("{}{}", String::from_utf8_lossy(&ran.stdout), String::from_utf8_lossy(&ran.stderr));
+    assert!(ran.status.success() && said.contains("1 passed"), "{said}");
 }
 
 /// A guard that a test which fails does not drop: that waits for its threads, and they may never end.

@@ -15,19 +15,18 @@ import java.util.function.Consumer;
 final class Claims {
     static final String THREADS = "svid-claims";
 
-    private static final System.Logger LOGGER = System.getLogger("svid");
     /** How many claims share a call. */
     private static final int MOST = 256;
 
     /** What follows is guarded by it. A thread that has it may wait for the lock of the validator. */
     final Object gate = new Object();
     final List<Member.Deed> waiting = new ArrayList<>();
+    List<Later> later = new ArrayList<>(); // (a test gives another one)
     final Memory pacing = Library.allocated(Library.Pacing.SIZE);
 
     private final Store store;
     private final Member member;
     private final CountDownLatch announced = new CountDownLatch(1);
-    private List<Later> later = new ArrayList<>();
     private int idle; // threads that wait for claims
     private boolean asks = true; // whether the store is to say that it is there
     private long silent = Library.NONE; // since when the store does not answer
@@ -38,7 +37,7 @@ final class Claims {
     private volatile Throwable why;
 
     /** Claims without an answer, and when they are put again. */
-    private record Later(long when, List<Member.Deed> deeds) {}
+    record Later(long when, List<Member.Deed> deeds) {}
 
     /** A call of the store. */
     private record Putting(List<Member.Deed> deeds, List<Store.Claim> claims) {}
@@ -127,37 +126,41 @@ final class Claims {
     }
 
     private static void started(String name, Runnable work) {
-        Thread thread = new Thread(work, name);
+        Thread thread = new Thread(null, work, name, 0, false); // (what a store leaves in its thread is none of the others')
         thread.setDaemon(true);
         thread.start();
     }
 
     /** Puts claims until it is closed. One thread more than calls are under way does so. */
     private void work() {
-        while (true) {
-            Putting these;
+        boolean isOpen = true;
+        while (isOpen) {
             try {
-                these = next();
-            } catch (OutOfMemoryError none) {
-                // (nothing went out, and whoever waits gets its answer in time)
-                continue;
+                isOpen = put(next());
+            } catch (Throwable none) {
+                // (there was no memory: whoever waits gets its answer in time)
             }
-            if (these == null) {
-                return;
-            }
-            List<Store.Found> found;
-            try {
-                // (a store that sorted the list in place would give each answer to another request)
-                found = List.copyOf(store.put(List.copyOf(these.claims)));
-                if (found.size() != these.claims.size()) {
-                    throw new IllegalStateException(these.claims.size() + " claims have " + found.size() + " answers");
-                }
-            } catch (Throwable thrown) {
-                failed(these.deeds, thrown);
-                continue;
-            }
-            answered(these.deeds, found);
         }
+    }
+
+    /** Makes a call. False at the end. */
+    private boolean put(Putting these) {
+        if (these == null) {
+            return false;
+        }
+        List<Store.Found> found;
+        try {
+            // (a store that sorted the list in place would give each answer to another request)
+            found = List.copyOf(store.put(List.copyOf(these.claims)));
+            if (found.size() != these.claims.size()) {
+                throw new IllegalStateException(these.claims.size() + " claims have " + found.size() + " answers");
+            }
+        } catch (Throwable thrown) {
+            failed(these.deeds, thrown);
+            return true;
+        }
+        answered(these.deeds, found);
+        return true;
     }
 
     /** The next call, once it is to go out. Null at the end. */
@@ -182,16 +185,14 @@ final class Claims {
     /** The claims that go out now. Null if no call is to go out. */
     private Putting taken() {
         long moment = Times.up();
-        List<Later> left = new ArrayList<>();
-        for (Later it : later) {
-            if (it.when <= moment) {
+        later.removeIf(it -> {
+            boolean isDue = it.when <= moment;
+            if (isDue) {
                 waiting.addAll(it.deeds);
                 asks |= !isThere;
-            } else {
-                left.add(it);
             }
-        }
-        later = left;
+            return isDue;
+        });
         if (Library.svid_pacing_may_send(pacing, moment, waiting.size() + (asks ? 1 : 0)) == 0) {
             return null;
         }
@@ -208,17 +209,18 @@ final class Claims {
         if (these.claims.isEmpty() && !asks) {
             return null;
         }
-        asks = false;
-        Library.svid_pacing_sent(pacing, moment);
-        if (silent == Library.NONE) {
-            silent = moment;
-        }
         if (idle == 1) {
             try {
                 grow();
             } catch (OutOfMemoryError none) {
                 // (there is no other thread, so the next call waits for this one)
             }
+        }
+        // (from here to its answer nothing fails, or the call would count as under way for ever)
+        asks = false;
+        Library.svid_pacing_sent(pacing, moment);
+        if (silent == Library.NONE) {
+            silent = moment;
         }
         return these;
     }
@@ -274,7 +276,7 @@ final class Claims {
             why = thrown;
         }
         if (isFirst) {
-            LOGGER.log(System.Logger.Level.WARNING, "the group's store does not answer", thrown);
+            Log.warn("the group's store does not answer", thrown);
         }
     }
 }

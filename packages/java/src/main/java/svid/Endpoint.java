@@ -72,11 +72,10 @@ final class Endpoint {
             connection.setReadTimeout(most);
             connection.setUseCaches(false);
             connection.setRequestProperty("Connection", "close");
-            if (source.server() != null) {
-                // (in this profile the name in the address says nothing, and only this server is known)
-                connection.setHostnameVerifier((host, session) -> true);
-                connection.setInstanceFollowRedirects(false);
-            }
+            // (It is asked where the name in the address is not that of the certificate. In https_spiffe that says nothing, as only this
+            // server is known; else no verifier counts, also not one that the service has for its own connections.)
+            connection.setHostnameVerifier((host, session) -> source.server() != null);
+            connection.setInstanceFollowRedirects(source.server() == null);
             int status = connection.getResponseCode();
             if (status != HttpURLConnection.HTTP_OK) {
                 throw new IOException("it answers with status " + status);

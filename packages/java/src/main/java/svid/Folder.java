@@ -28,6 +28,7 @@ final class Folder {
     private static final Pattern JOURNAL = Pattern.compile("journal\\.([1-9][0-9]{0,19})");
     private static final Pattern ID_TEXT = Pattern.compile("([0-9A-Fa-f]{32})\n?");
     private static final int HOLDER = 200; // bytes that its name has at most
+    private static final int MOST = Integer.MAX_VALUE - 8; // of an array
 
     final Path path;
     private final Disk disk;
@@ -79,9 +80,14 @@ final class Folder {
         }
     }
 
-    /** All bytes of a file. */
+    /** All bytes of a file. The rest of a longer one would be lost, as if a crash had cut it off. */
     byte[] read(String name) throws IOException {
-        return Disk.read(at(name), Integer.MAX_VALUE - 8);
+        Path file = at(name);
+        if (Files.size(file) > MOST) {
+            throw new FileSystemException(
+                    file.toString(), null, "it has more than " + MOST + " bytes, which Java can't read at once: svidd can go on with it");
+        }
+        return Disk.read(file, MOST);
     }
 
     /** Opens a new file, instead of one that has the name. */

@@ -23,7 +23,6 @@ final class Follower {
     /** How many objects and lists it begins at the most: each takes memory to read. */
     static final int MOST_BRACKETS = 1 << 15;
 
-    private static final System.Logger LOGGER = System.getLogger("svid");
     private static final String SUFFIX = ".json";
     /** How many milliseconds lie between two looks at files. */
     private static final long EVERY = 1000;
@@ -97,10 +96,23 @@ final class Follower {
     }
 
     private void start(Runnable work) {
-        Thread thread = new Thread(work, THREAD);
+        Thread thread = new Thread(() -> goOn(work), THREAD);
         thread.setDaemon(true);
         threads.add(thread);
         thread.start();
+    }
+
+    /** Does this until its end, whatever fails meanwhile, as memory may. */
+    private void goOn(Runnable work) {
+        boolean isDone = false;
+        do {
+            try {
+                work.run();
+                isDone = true;
+            } catch (Throwable why) {
+                Log.warn("bundles not read", why);
+            }
+        } while (!isDone && pause(null, EVERY));
     }
 
     /** Lets its threads end. Waits for nothing. */
@@ -175,6 +187,11 @@ final class Follower {
         }
     }
 
+    /** Whether a source names this trust domain, so that it is to have a bundle. */
+    boolean names(String domain) {
+        return sources.name(domain);
+    }
+
     /** The last good bundle of a trust domain, or null. */
     byte[] bundleOf(String domain) {
         synchronized (gate) {
@@ -188,11 +205,7 @@ final class Follower {
     /** Looks at the files again and again. */
     private void look() {
         while (pause(null, EVERY)) {
-            try {
-                readFiles();
-            } catch (RuntimeException | OutOfMemoryError why) {
-                LOGGER.log(System.Logger.Level.WARNING, "bundles not read", why);
-            }
+            readFiles();
         }
     }
 
@@ -439,10 +452,9 @@ final class Follower {
             }
         }
         if (said != null && !said.equals(before)) {
-            LOGGER.log(System.Logger.Level.WARNING,
-                    "bundle not read" + (stays ? "; the last good one stays" : "") + ": " + source + ": " + said);
+            Log.warn("bundle not read" + (stays ? "; the last good one stays" : "") + ": " + source + ": " + said);
         } else if (said == null && before != null) {
-            LOGGER.log(System.Logger.Level.INFO, "bundle source is well again: " + source);
+            Log.say(System.Logger.Level.INFO, "bundle source is well again: " + source);
         }
     }
 }

@@ -19,7 +19,6 @@ import java.util.function.Consumer;
 final class Journal implements AutoCloseable {
     static final String THREAD = "svid-journal";
 
-    private static final System.Logger LOGGER = System.getLogger("svid");
     /** What a journal grows by: to force a new length to the disk takes longer than the bytes. */
     private static final int GROWTH = 262_144;
     /** For how many milliseconds nobody appends until a mark is worth its write. */
@@ -32,6 +31,8 @@ final class Journal implements AutoCloseable {
     private static final long PAUSE = 60_000;
     /** How many bytes of messages are taken at once, where payloads are shorter. */
     private static final int PIECE = 1 << 20;
+
+    private static final SvidException NO_MEMORY = new SvidException.OutOfMemory(null);
 
     private final Folder folder;
     private final Disk disk;
@@ -59,7 +60,7 @@ final class Journal implements AutoCloseable {
 
     /** It guards {@code commit}, {@code isSnapshotting} and {@code isClosing}. */
     private final Object gate = new Object();
-    private Commit commit; // what the next write takes
+    Commit commit; // what the next write takes
     private boolean isSnapshotting; // in the background
     private boolean isClosing;
 
@@ -74,7 +75,7 @@ final class Journal implements AutoCloseable {
     }
 
     /** The messages that one write takes to the disk, and who is to know what came of it. */
-    private static final class Commit {
+    static final class Commit {
         final List<byte[]> parts = new ArrayList<>();
         final List<Consumer<Exception>> told = new ArrayList<>();
         int len;
@@ -93,8 +94,8 @@ final class Journal implements AutoCloseable {
             for (Consumer<Exception> it : told) {
                 try {
                     it.accept(why);
-                } catch (RuntimeException failed) {
-                    // (a listener must not end the writing)
+                } catch (RuntimeException | Error failed) {
+                    // (whatever a listener lacks, as memory, must not end the writing)
                 }
             }
         }
@@ -257,7 +258,7 @@ final class Journal implements AutoCloseable {
     }
 
     private static void warn(Throwable why) {
-        LOGGER.log(System.Logger.Level.WARNING, "the snapshot stays as it is: " + why);
+        Log.warn("the snapshot stays as it is: " + why);
     }
 
     private void snapshotted() {
@@ -427,13 +428,17 @@ final class Journal implements AutoCloseable {
                     break;
                 }
             }
-            Exception why = null;
-            synchronized (writing) {
-                if (these == null) {
-                    mark();
-                } else {
-                    why = put(these);
+            Exception why = NO_MEMORY;
+            try {
+                synchronized (writing) {
+                    if (these == null) {
+                        mark();
+                    } else {
+                        why = put(these);
+                    }
                 }
+            } catch (OutOfMemoryError lost) {
+                // (there is none to say so either, and without this thread nothing is kept any more)
             }
             isQuiet = these == null;
             if (these != null) {

@@ -42,7 +42,7 @@ final class Library {
     static final long FIRST_PAUSE = 10;
 
     /** The statuses of requests that have no answer about their token. */
-    static final int CLAIM_FAR = 58, CLAIM_DEAF = 59, LATE = 201, NOT_KEPT = 202, LEFT = 203, ENDED = 211, DEAF = 222;
+    static final int CLAIM_FAR = 58, CLAIM_DEAF = 59, LATE = 201, NOT_KEPT = 202, LEFT = 203, ENDED = 211, NO_BUNDLE = 212, DEAF = 222;
 
     static final int USUAL_RSA_BITS = 4096;
     static final long ID_ROOM = 2048;
@@ -177,6 +177,8 @@ final class Library {
     static native int svid_member_open(Pointer v, Pointer terms);
 
     static native int svid_member_know(Pointer v, Pointer known);
+
+    static native int svid_member_judges(Pointer v);
 
     static native int svid_member_ready(Pointer v);
 

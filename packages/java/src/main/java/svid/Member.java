@@ -4,6 +4,7 @@ import com.sun.jna.Pointer;
 import java.io.ByteArrayOutputStream;
 import java.io.IOException;
 import java.nio.charset.StandardCharsets;
+import java.time.Clock;
 import java.util.HashMap;
 import java.util.LinkedHashMap;
 import java.util.List;
@@ -21,10 +22,11 @@ import java.util.stream.Collectors;
  * threads that wait for their answers, and what the library says is to be done.
  */
 final class Member extends State {
-    private static final System.Logger LOGGER = System.getLogger("svid");
     private static final byte[] NOBODY = new byte[Owner.LEN];
     /** How many withdrawals are known again. */
     private static final int MOST_HEARD = 65_536;
+    /** For how many quarters of its time a request waits until withdrawals are read. */
+    private static final long LOOKS = 3;
     /** How many bytes a part of the record has at most. */
     private static final long PIECE = 1 << 20;
 
@@ -33,7 +35,7 @@ final class Member extends State {
     /** Null for no store. */
     final Claims claims;
     /** Null where withdrawals of a store are not heard of. */
-    private final WithdrawalReader hearing;
+    final WithdrawalReader hearing;
     /** The withdrawals that the record has of this process, so that it has one once that the store tells of again. */
     private final Map<Store.Withdrawal, Boolean> heard = new LinkedHashMap<>() {
         private static final long serialVersionUID = 1;
@@ -51,7 +53,6 @@ final class Member extends State {
     private final Journal journal; // null for no state folder
     private final LocalStore local; // null where another store has the claims
     final Follower follower; // null for bundles that stay
-    private volatile boolean isBundled;
     private final LongSupplier clock;
     private final long wait;
     private final long longest;
@@ -78,7 +79,8 @@ final class Member extends State {
         this.journal = journal;
         local = options.store() instanceof LocalStore it ? it : null;
         follower = sources == null ? null : new Follower(sources, this::adopt);
-        isBundled = sources == null;
+        known.clear(Library.Known.SIZE);
+        known.setLong(Library.Known.BUNDLED, sources == null ? 1 : 0);
         wait = options.waitMillis();
         longest = options.longest();
         isBound = options.mode() == Mode.BOUND;
@@ -86,7 +88,8 @@ final class Member extends State {
         claims = options.store() == null ? null : new Claims(options.store(), this);
         // (in mode STRICT the claim of a token tells that it was withdrawn)
         hearing = options.store() == null || options.mode() == Mode.STRICT ? null : new WithdrawalReader(options.store(), this);
-        clock = () -> Times.now(options.clock());
+        Clock given = options.clock(); // (the hooks of the options may hold the validator, which nobody could forget then)
+        clock = () -> Times.now(given);
         try (Arena lent = new Arena()) {
             Pointer terms = lent.take(Library.MemberTerms.SIZE);
             terms.setLong(Library.MemberTerms.MODE, options.mode().number());
@@ -129,7 +132,7 @@ final class Member extends State {
     void begin(long now) throws IOException {
         if (journal != null) {
             for (String name : journal.torn()) {
-                LOGGER.log(System.Logger.Level.WARNING, "a crash cut off a write at the end of " + name + ": nobody had an answer");
+                Log.warn("a crash cut off a write at the end of " + name + ": nobody had an answer");
             }
             journal.load(messages -> take(now, messages));
             if (journal.wantsSnapshot()) {
@@ -153,10 +156,26 @@ final class Member extends State {
     }
 
     /** Takes what the sources of bundles give. */
-    private void adopt(byte[] bundles, int count) {
-        renew(bundles);
-        isBundled = count > 0;
-        know(0, false);
+    void adopt(byte[] bundles, int count) {
+        renew(bundles, v -> {
+            known.setLong(Library.Known.BUNDLED, count > 0 ? 1 : 0);
+            return Library.svid_member_know(v, known);
+        });
+    }
+
+    /** Replaces bundles that come from no source. */
+    void renew(byte[] bundles) {
+        renew(bundles, v -> 0);
+    }
+
+    @Override
+    void mustHaveBundle(Token token) throws Refusal {
+        if (follower != null) {
+            String domain = Says.of(token.bytes).spiffeId().trustDomain();
+            if (follower.names(domain) || Library.svid_member_judges(open()) == Library.NO_BUNDLE) {
+                throw SvidException.Unavailable.ofBundle(domain);
+            }
+        }
     }
 
     /** Whether the bundles come from sources. */
@@ -277,6 +296,7 @@ final class Member extends State {
             Request request = new Request(token, clock, caller == null ? NOBODY : caller);
             try {
                 come(request);
+                look();
                 Admission admission = seenThrough(request);
                 tidy();
                 return admission;
@@ -284,6 +304,26 @@ final class Member extends State {
                 leave(request);
             }
         }
+    }
+
+    /** Waits until the withdrawals of the store are read, where nobody has looked for long. */
+    void look() {
+        if (hearing == null) {
+            return;
+        }
+        long now = now();
+        if (hearing.isDue(now)) {
+            try {
+                hearing.look(now, wait / 4 * LOOKS);
+            } catch (InterruptedException why) {
+                throw interrupted(why);
+            }
+        }
+    }
+
+    /** The time, in seconds. */
+    long now() {
+        return clock.getAsLong();
     }
 
     /** Withdraws a token, here and in the store, and gives the message of that. */
@@ -368,7 +408,7 @@ final class Member extends State {
         if (journal != null) {
             journal.keep(use.message(true), why -> {
                 if (why != null) {
-                    LOGGER.log(System.Logger.Level.WARNING, "a withdrawal is not kept", why);
+                    Log.warn("a withdrawal is not kept", why);
                 }
             });
         }
@@ -419,7 +459,7 @@ final class Member extends State {
     }
 
     /** Makes the call by which the library judges the token, with what the store has found, if it has. */
-    private void ask(Request request, Store.Found answer) {
+    private void ask(Request request, Store.Found answer) throws Refusal {
         Token token = request.token;
         Pointer caller = null;
         Pointer answered = null;
@@ -456,6 +496,8 @@ final class Member extends State {
                 hand();
                 if (status == 0) {
                     request.subject = subject();
+                } else if (status == Refusal.Reason.UNKNOWN_DOMAIN.number()) {
+                    mustHaveBundle(token);
                 }
                 return;
             }
@@ -556,8 +598,7 @@ final class Member extends State {
             try {
                 step = steps.poll(Math.min(untilDue(), Math.max(left + 1, 0)), TimeUnit.MILLISECONDS);
             } catch (InterruptedException why) {
-                Thread.currentThread().interrupt();
-                throw new SvidException.Unavailable("the thread was interrupted while it waited for an answer: make the call again", why);
+                throw interrupted(why);
             }
             if (step != null) {
                 return step;
@@ -567,6 +608,11 @@ final class Member extends State {
                 throw fault(Library.LATE);
             }
         }
+    }
+
+    private static SvidException interrupted(InterruptedException why) {
+        Thread.currentThread().interrupt();
+        return new SvidException.Unavailable("the thread was interrupted while it waited for an answer: make the call again", why);
     }
 
     /** For how many milliseconds nothing is due. */
@@ -710,8 +756,6 @@ final class Member extends State {
         boolean isDeaf = claims != null && Long.compareUnsigned(claims.deaf(), Times.sum(now, longest)) >= 0;
         synchronized (this) {
             Pointer v = open();
-            known.clear(Library.Known.SIZE);
-            known.setLong(Library.Known.BUNDLED, isBundled ? 1 : 0);
             known.setLong(Library.Known.HEARD, hearing == null || hearing.isWhole() ? 1 : 0);
             for (int it : new int[] {Library.Known.LOADED, Library.Known.JOINED, Library.Known.CAUGHT_UP}) {
                 known.setLong(it, 1);

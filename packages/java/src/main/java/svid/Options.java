@@ -26,7 +26,6 @@ public final class Options {
     static final long ANY = -1;
 
     static final int ID_LEN = 16;
-    private static final System.Logger LOGGER = System.getLogger("svid");
     private static final Duration LONGEST_WAIT = Duration.ofDays(365_000);
 
     private List<byte[]> audiences;
@@ -164,15 +163,15 @@ public final class Options {
     }
 
     private static void log(Denied why) {
-        LOGGER.log(System.Logger.Level.DEBUG, why.getMessage());
+        Log.say(System.Logger.Level.DEBUG, why.getMessage());
     }
 
     /** Tells the hook, whatever that does. */
     void tell(Denied why) {
         try {
             denied.accept(why);
-        } catch (RuntimeException failed) {
-            LOGGER.log(System.Logger.Level.WARNING, "the hook of denials failed", failed);
+        } catch (Throwable failed) {
+            Log.warn("the hook of denials failed", failed);
         }
     }
 
@@ -187,16 +186,15 @@ public final class Options {
     }
 
     private static void warn(TokenKey key) {
-        LOGGER.log(System.Logger.Level.WARNING,
-                "several validators accepted the token " + key + ": it may be stolen, or its client sent it twice");
+        Log.warn("several validators accepted the token " + key + ": it may be stolen, or its client sent it twice");
     }
 
     /** Tells the hook, whatever that does. */
     void tellTwice(TokenKey key) {
         try {
             twice.accept(key);
-        } catch (RuntimeException failed) {
-            LOGGER.log(System.Logger.Level.WARNING, "the hook of double acceptances failed", failed);
+        } catch (Throwable failed) {
+            Log.warn("the hook of double acceptances failed", failed);
         }
     }
 

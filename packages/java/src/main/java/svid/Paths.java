@@ -11,7 +11,7 @@ import java.util.regex.Pattern;
  * is a request that needs a token.
  */
 final class Paths {
-    private static final Pattern PLAIN = Pattern.compile("/(?:(?!\\.{1,2}(?:/|\\z))[A-Za-z0-9._~-]+(?:/|\\z))*");
+    private static final Pattern PLAIN = Pattern.compile("/(?:(?!\\.{1,2}(?:/|\\z))[A-Za-z0-9._~-]+(?:/|\\z))*+");
     private static final String BELOW = "/*";
 
     private final List<String> alone = new ArrayList<>();

@@ -38,6 +38,9 @@ import svid.Store.Withdrawals;
  */
 final class PostgresMember implements AutoCloseable {
     private static final Pattern NAME = Pattern.compile("(?!pg_)[A-Za-z0-9_-]{1,63}");
+    private static final Pattern ADDRESS = Pattern.compile(
+            "jdbc:postgresql:(?://(?:\\[[^\\]/?]*\\]|[^:/?@\\[\\]]*)(?::[0-9]{1,4}|:[1-6][0-9]{4})?/)?(?:[^/?%]++|%[0-9A-Fa-f]{2})*+"
+            + "(?:\\?(?:[^%]++|%[0-9A-Fa-f]{2})*+)?");
     private static final int HEAD = 33;
     private static final int CELL = 33;
     private static final int WITHDRAWAL = 40;
@@ -71,7 +74,12 @@ final class PostgresMember implements AutoCloseable {
     record Put(Found found, Fault fault) {}
 
     /** What a call like put answers. */
-    private record Answer(int status, long time, long deaf, String epoch, byte[] cells) {}
+    private record Answer(int status, long time, long deaf, String epoch, byte[] cells) {
+        /** Whether the call stored the claim with a number, where it is there. */
+        boolean isStored(int n) {
+            return cells.length == 0 || cells[n * CELL] == Statements.STORED;
+        }
+    }
 
     /** What a server is: `line` is the timeline of a primary, and `system` is what servers have alike that came of one. */
     private record Role(boolean primary, String system, String started, String line) {}
@@ -239,17 +247,20 @@ final class PostgresMember implements AutoCloseable {
             return both;
         }
         List<Put> all = new ArrayList<>(claims.size());
-        Claim longest = null;
+        List<Claim> earlier = new ArrayList<>();
+        Claim stored = null;
         for (int n = 0; n < claims.size(); n++) {
             Claim claim = claims.get(n);
             Put one = found(answer, claim.owner(), n);
             all.add(one);
             boolean isMine = one.fault == null && one.found.owner().equals(claim.owner());
-            if (isMine && (longest == null || longest.expiry().isBefore(claim.expiry()))) {
-                longest = claim;
+            if (isMine && !answer.isStored(n)) {
+                earlier.add(claim);
+            } else if (isMine && (stored == null || stored.expiry().isBefore(claim.expiry()))) {
+                stored = claim;
             }
         }
-        keep(longest, answer.epoch);
+        keep(stored, earlier, answer.epoch);
         return all;
     }
 
@@ -261,7 +272,8 @@ final class PostgresMember implements AutoCloseable {
             throw one.fault;
         }
         if (one.found.owner().equals(Owner.WITHDRAWN)) {
-            keep(new Claim(key, Owner.WITHDRAWN, expiry), answer.epoch);
+            Claim its = new Claim(key, Owner.WITHDRAWN, expiry);
+            keep(answer.isStored(0) ? its : null, answer.isStored(0) ? List.of() : List.of(its), answer.epoch);
         }
         return one.found.owner();
     }
@@ -281,16 +293,41 @@ final class PostgresMember implements AutoCloseable {
         return new Withdrawals(these, (String) row[0]);
     }
 
-    /** Keeps the claim in mind: each look asks whether it is there. */
-    private synchronized void keep(Claim one, String of) {
-        if (one != null && of.equals(epoch)) {
-            marks = marked(marks, one);
+    /** Keeps claims in mind, one that a call stored, or null, and those that were there: each look asks whether they are there. */
+    private synchronized void keep(Claim stored, List<Claim> earlier, String of) {
+        if (!of.equals(epoch)) {
+            return;
+        }
+        for (Claim one : earlier) {
+            marks = markedLate(marks, one);
+        }
+        if (stored != null) {
+            marks = marked(marks, stored);
         }
     }
 
+    /** Marks with one more, which an earlier call had stored, whose answer may not have come. Its order at the server is not known. */
+    static List<Claim> markedLate(List<Claim> marks, Claim one) {
+        if (marks.stream().anyMatch(it -> it.key().equals(one.key()))) {
+            return marks;
+        }
+        List<Claim> all = new ArrayList<>(marks);
+        int older = Math.max(0, all.size() - Statements.RECENT_MARKS);
+        if (older == Statements.MOST_MARKS - Statements.RECENT_MARKS) {
+            older--;
+            all.remove(older);
+        }
+        int at = 0;
+        while (at < older && !all.get(at).expiry().isBefore(one.expiry())) {
+            at++;
+        }
+        all.add(at, one);
+        return all;
+    }
+
     /**
-     * Marks with one more: the last ones, and before them those that outlive all that came later. What a store loses at its end is the last
-     * claim, or some of the last. So one of the marks is lost too, while it has not expired.
+     * Marks with one more: the last ones that a call stored, and before them those that outlive all that came later. What a store loses at
+     * its end is the last claim, or some of the last. So one of the marks is lost too, while it has not expired.
      */
     static List<Claim> marked(List<Claim> marks, Claim one) {
         List<Claim> all = new ArrayList<>(marks);
@@ -353,7 +390,7 @@ final class PostgresMember implements AutoCloseable {
             throw interrupted();
         }
         try {
-            return call(text, replicas > 1, end, values);
+            return call(text, true, end, values);
         } finally {
             calls.release();
         }
@@ -364,10 +401,14 @@ final class PostgresMember implements AutoCloseable {
         Session one = taken(end);
         List<Object[]> rows;
         boolean isWhole = false;
+        long begun = Times.up();
         try {
             rows = one.call(text, end, values);
-            if (confirm && (long) only(one.call(Statements.KEPT, end, replicas), 1)[0] != 1) {
+            if (confirm && replicas > 1 && (long) only(one.call(Statements.KEPT, end, replicas), 1)[0] != 1) {
                 throw new Fault(Statements.IS_ALONE);
+            }
+            if (confirm && Times.up() - begun > Statements.SOON) {
+                one.role(end); // (it may be gone, and who was away would see that later than its answer)
             }
             isWhole = true;
         } catch (Answered why) {
@@ -508,7 +549,7 @@ final class PostgresMember implements AutoCloseable {
         if (answer.cells.length > 0) {
             int at = n * CELL;
             int what = answer.cells[at];
-            if (what != 1) {
+            if (what != 1 && what != Statements.STORED) {
                 return new Put(null, new Fault(Statements.OF_CELL.getOrDefault(what, Statements.IS_ANSWER)));
             }
             owner = Owner.of(Arrays.copyOfRange(answer.cells, at + 1, at + CELL));
@@ -557,6 +598,12 @@ final class PostgresMember implements AutoCloseable {
             if (parts.length == 2 && parts[1].split("[/?]", 2)[0].contains(",")) {
                 throw new IllegalArgumentException("address " + number + " names several servers: give each its own");
             }
+            // (the driver would log what it can't read)
+            if (!ADDRESS.matcher(url).matches()) {
+                throw new IllegalArgumentException("address " + number
+                        + " is not like jdbc:postgresql://HOST:PORT/DATABASE?user=USER&password=PASSWORD,"
+                        + " where %25 stands for each % of a text");
+            }
         }
     }
 
@@ -580,6 +627,10 @@ final class PostgresMember implements AutoCloseable {
             try {
                 connection = DriverManager.getConnection(at.url, with);
             } catch (SQLException why) {
+                if (String.valueOf(why.getMessage()).contains(at.url)) { // (which may be secret)
+                    throw new Fault("no driver takes address " + at.number
+                            + ": put PostgreSQL's on the class path, and write the address as it wants");
+                }
                 throw new Fault("address " + at.number + ": " + brief(why.getMessage()), why);
             }
         }
@@ -788,7 +839,7 @@ final class PostgresMember implements AutoCloseable {
                     session = new Session(at, end);
                 }
                 role = session.role(end);
-            } catch (Fault | Answered | RuntimeException why) {
+            } catch (Throwable why) {
                 fault = brief(why.getMessage());
                 if (session != null) {
                     session.close();

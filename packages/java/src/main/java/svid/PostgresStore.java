@@ -17,10 +17,8 @@ import java.util.Objects;
  * <p>It looks at the store once a second, by a thread of its own, until {@link #close}. Any number of threads may call it.
  */
 public final class PostgresStore implements Store, AutoCloseable {
-    private static final System.Logger LOGGER = System.getLogger("svid");
-
     private final PostgresMember member;
-    private final long wait;
+    final long wait;
     private final long margin;
     /** When each token expires that is known to be withdrawn. Its lock guards {@code position} and {@code isHeard} too. */
     final Map<TokenKey, Long> withdrawn = new HashMap<>();
@@ -174,7 +172,7 @@ public final class PostgresStore implements Store, AutoCloseable {
     public void withdraw(TokenKey key, Instant expiry) throws Fault {
         member.withdraw(key, expiry, Times.up() + wait);
         synchronized (withdrawn) {
-            withdrawn.put(key, Times.expiryOf(expiry));
+            keep(key, expiry);
         }
     }
 
@@ -203,7 +201,7 @@ public final class PostgresStore implements Store, AutoCloseable {
         String before = member.epoch();
         PostgresMember.Sight is = member.look(end);
         if (before != null && !before.equals(is.epoch())) {
-            warn("the epoch of the group's store has ended: tokens that expire by " + is.deaf() + " may have been claimed before");
+            Log.warn("the epoch of the group's store has ended: tokens that expire by " + is.deaf() + " may have been claimed before");
         }
         return is;
     }
@@ -212,6 +210,11 @@ public final class PostgresStore implements Store, AutoCloseable {
         synchronized (withdrawn) {
             return isHeard;
         }
+    }
+
+    /** A token is withdrawn. (Whoever withdraws it again, with an earlier expiry, does not take that back.) */
+    private void keep(TokenKey key, Instant expiry) {
+        withdrawn.merge(key, Times.expiryOf(expiry), (before, now) -> Long.compareUnsigned(before, now) < 0 ? now : before);
     }
 
     /** Reads the withdrawals that have come. */
@@ -223,7 +226,7 @@ public final class PostgresStore implements Store, AutoCloseable {
             }
             Withdrawals read = member.withdrawals(after, end);
             synchronized (withdrawn) {
-                read.these().forEach(it -> withdrawn.put(it.key(), Times.expiryOf(it.expiry())));
+                read.these().forEach(it -> keep(it.key(), it.expiry()));
                 position = read.last();
                 if (read.last().equals(after)) {
                     isHeard = true;
@@ -246,9 +249,9 @@ public final class PostgresStore implements Store, AutoCloseable {
                     store.withdrawn.values().removeIf(it -> Long.compareUnsigned(Times.sum(it, margin), now) < 0);
                 }
                 isAway = false;
-            } catch (Fault | RuntimeException why) {
+            } catch (Throwable why) {
                 if (!isAway && !member.isClosed()) {
-                    warn("the group's store can't be looked at: " + why.getMessage());
+                    Log.warn("the group's store can't be looked at: " + why.getMessage());
                 }
                 isAway = true;
             }
@@ -256,13 +259,5 @@ public final class PostgresStore implements Store, AutoCloseable {
             member.await(Math.max(0, begun + Statements.STATE_EVERY - Times.up()));
         }
         member.close();
-    }
-
-    private static void warn(String text) {
-        try {
-            LOGGER.log(System.Logger.Level.WARNING, text);
-        } catch (RuntimeException why) {
-            // (who is warned must not end a call)
-        }
     }
 }

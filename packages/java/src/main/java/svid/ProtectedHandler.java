@@ -16,7 +16,6 @@ import java.util.function.Function;
  * the system's logger "svid".
  */
 public final class ProtectedHandler implements HttpHandler {
-    private static final System.Logger LOGGER = System.getLogger("svid");
     private static final int UNAVAILABLE = 503;
     private static final int NO_BODY = -1;
     private static final Paths NONE = new Paths(List.of());
@@ -93,17 +92,18 @@ public final class ProtectedHandler implements HttpHandler {
 
     /** Lets the request in, or answers it and gives null. */
     private Admission admitted(HttpExchange exchange) throws IOException {
-        byte[] who = caller == null ? null : Objects.requireNonNull(caller.apply(exchange), "the caller of a request");
         try {
+            byte[] who = caller == null ? null : Objects.requireNonNull(caller.apply(exchange), "the caller of a request");
             List<String> values = exchange.getRequestHeaders().get("Authorization");
             return validator.admit(values, callers, who);
         } catch (Denied why) {
             exchange.getResponseHeaders().set("WWW-Authenticate", why.challenge());
             answer(exchange, why.status(), why.word(), "refused");
-        } catch (SvidException why) {
-            LOGGER.log(System.Logger.Level.WARNING, "no answer about a token", why);
+        } catch (Exception why) {
+            // (whatever it is, the server would end the connection without an answer, and tell nobody)
+            Log.warn("no answer about a token", why);
             exchange.getResponseHeaders().set("Retry-After", "1");
-            answer(exchange, UNAVAILABLE, why.word(), "unavailable");
+            answer(exchange, UNAVAILABLE, why instanceof SvidException it ? it.word() : "NotJudged", "unavailable");
         }
         return null;
     }

@@ -73,7 +73,7 @@ public final class Sources {
      * profile https_web). It is asked again after the seconds of the bundle's spiffe_refresh_hint, but at the least after 10, and at the
      * most after 86,400; without a hint, after five minutes.
      *
-     * @throws IllegalArgumentException where the address is none of https
+     * @throws IllegalArgumentException where the address is none of https, or has a user
      */
     public static Sources web(String trustDomain, URI address) {
         return of(Source.endpoint(trustDomain, address, null, null));
@@ -92,7 +92,7 @@ public final class Sources {
      * The bundle endpoint of a trust domain, whose server has the X.509-SVID of a SPIFFE ID (SPIFFE Federation, profile https_spiffe). Its
      * authorities are those of the last good bundle of the ID's trust domain, which has a source of its own.
      *
-     * @throws IllegalArgumentException where the address is none of https
+     * @throws IllegalArgumentException where the address is none of https, or has a user
      */
     public static Sources spiffe(String trustDomain, URI address, SpiffeId server) {
         return of(Source.endpoint(trustDomain, address, Objects.requireNonNull(server), null));
@@ -190,6 +190,10 @@ public final class Sources {
     }
 
     private static URI https(URI address) {
+        if (String.valueOf(address.getRawAuthority()).contains("@")) {
+            // (it would stand in each warning, and no request would have it)
+            throw new IllegalArgumentException("an address has no name of a user, and no password: write https://HOST/PATH");
+        }
         if (!"https".equals(address.getScheme()) || address.getHost() == null) {
             throw new IllegalArgumentException(address + " is no address: write https://HOST/PATH");
         }

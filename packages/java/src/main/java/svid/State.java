@@ -4,7 +4,7 @@ import com.sun.jna.Pointer;
 import java.util.List;
 
 /** An open validator of the library. Its monitor is the lock for each call. */
-class State {
+abstract class State {
     private static final long USUAL = 8192;
 
     /** Memory for as long as the validator lives. */
@@ -116,8 +116,12 @@ class State {
         }
     }
 
-    /** Replaces the bundles. They are read before the lock is taken, and the old ones are freed after it. */
-    final void renew(byte[] bundles) {
+    /**
+     * Replaces the bundles. They are read before the lock is taken, and the old ones are freed after it.
+     *
+     * @param then what changes with them, before another call sees them
+     */
+    final void renew(byte[] bundles, Call then) {
         try (Arena lent = new Arena()) {
             CallDetails said = new CallDetails(lent);
             Pointer fresh = lent.take(Library.Handle.SIZE);
@@ -127,7 +131,8 @@ class State {
             try {
                 said.must(locked(v -> {
                     edition++;
-                    return Library.svid_validator_renew_by(v, fresh, said.at);
+                    int status = Library.svid_validator_renew_by(v, fresh, said.at);
+                    return status == 0 ? then.on(v) : status;
                 }));
                 signatures.forget();
             } finally {
@@ -176,11 +181,17 @@ class State {
                 int status = Library.svid_validator_judge_token(v, now, found.key(), found.keyLen(), token.input(), found.signed(),
                         found.signature(), found.signatureLen(), token.at, out, Library.ID_ROOM, used, told.at);
                 found.mustBeKnown(status);
+                if (status == Refusal.Reason.UNKNOWN_DOMAIN.number()) {
+                    mustHaveBundle(token);
+                }
                 told.accept(status);
                 return new Admission(subject(), Admission.Use.read(used), token.bytes, audiences);
             }
         }
     }
+
+    /** Throws if the bundle by which a token is judged is to come: to refuse the token for that would be wrong. The lock is held. */
+    abstract void mustHaveBundle(Token token) throws Refusal;
 
     /** The subject that the last call has written. */
     final SpiffeId subject() {

@@ -57,8 +57,8 @@ final class Statements {
             "SELECT {S}.withdraw(?::bytea, ?::bigint)";
     static final String WITHDRAWALS =
             "SELECT w.this::text || '/' || w.last, coalesce(w.these, ''::bytea) FROM (SELECT ?::text AS t) AS p CROSS JOIN LATERAL "
-            + "(SELECT CASE WHEN p.t ~ '^[0-9a-f]{8}(-[0-9a-f]{4}){3}-[0-9a-f]{12}/[0-9]{1,18}$' THEN p.t END AS t) AS q CROSS JOIN "
-            + "LATERAL {S}.withdrawals(split_part(q.t, '/', 1)::uuid, coalesce(split_part(q.t, '/', 2)::bigint, 0)) AS w";
+            + "(SELECT CASE WHEN p.t ~ '^[0-9a-f]{8}(-[0-9a-f]{4}){3}-[0-9a-f]{12}/([0-9]{1,18}|[1-8][0-9]{18})$' THEN p.t END AS t) AS "
+            + "q CROSS JOIN LATERAL {S}.withdrawals(split_part(q.t, '/', 1)::uuid, coalesce(split_part(q.t, '/', 2)::bigint, 0)) AS w";
     static final String LACKING =
             "SELECT string_agg(format('GRANT %s TO %I', l.it, current_user), '; ' ORDER BY l.it) FROM (SELECT n.oid, n.nspname FROM "
             + "pg_namespace AS n WHERE n.nspname = ?) AS s CROSS JOIN LATERAL (SELECT format('USAGE ON SCHEMA %I', s.nspname) AS it "
@@ -83,19 +83,22 @@ final class Statements {
     static final Map<String, String> OF_CODES = Map.of("42P01", IS_MISSING, "3F000", IS_MISSING, "42883", IS_MISSING, "25006", IS_STANDBY, "55000", IS_STANDBY, "42501", IS_RIGHTS, "55P03", IS_HELD);
     static final Map<Integer, String> OF_STATUS = Map.of(1, IS_RUN, 4, IS_RUN, 2, IS_BACK, 3, IS_UNLOOKED);
     static final Map<Integer, String> OF_CELL = Map.of(0, IS_GONE, 2, IS_LATE);
+    static final int STORED = 3;
     static final int QUARANTINE = 4;
     static final int MOST_CALLS = 8;
     static final int MOST_LEFT = 100;
     static final int PIECES = 10_000;
     static final long MOST_EXPIRY = 4_611_686_018_427_387_904L;
-    static final int RECENT_MARKS = 4;
-    static final int MOST_MARKS = 16;
+    static final int RECENT_MARKS = 8;
+    static final int MOST_MARKS = 64;
     static final int DIAL_WAIT = 2_000;
     static final int STATE_EVERY = 1_000;
     static final int STATE_WAIT = 1_500;
     static final int HEAR_WAIT = 1_000;
+    static final int MOST_UNLOOKED = 7_000;
     static final int LOOK_EVERY = 500;
     static final int LOOK_WAIT = 2_000;
+    static final int SOON = 1_000;
     static final int MOST_AGE = 2_900;
     static final int STEP_BACK = 60_000;
     static final int LEAST_MARGIN = 60_000;

@@ -9,6 +9,8 @@ import java.util.Optional;
  */
 public abstract sealed class SvidException extends RuntimeException {
     private static final long serialVersionUID = 1;
+    /** Says that the bundle of a trust domain is to come. */
+    private static final int AWAITED = -1;
 
     SvidException(String message, Throwable cause) {
         super(message, cause);
@@ -40,7 +42,7 @@ public abstract sealed class SvidException extends RuntimeException {
             return "NotReady";
         }
         // lists:end
-        return "NotJudged";
+        return number == AWAITED ? "NoBundle" : "NotJudged";
     }
 
     static SvidException of(int number, CallDetails told) {
@@ -112,6 +114,11 @@ public abstract sealed class SvidException extends RuntimeException {
         Unavailable(int number, String message, Throwable cause) {
             super(message, cause);
             this.number = number;
+        }
+
+        /** The bundle of a token's trust domain is to come. */
+        static Unavailable ofBundle(String domain) {
+            return new Unavailable(AWAITED, "the bundle of " + domain + " was not read yet", null);
         }
 
         /** Whether a status of the library says this. */

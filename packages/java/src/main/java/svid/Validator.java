@@ -186,6 +186,7 @@ public final class Validator implements AutoCloseable {
      *
      * @throws Refusal by the first reason that holds
      * @throws SvidException.NotAllowed where the token is good, and {@link Options#callers(IdPattern...)} does not allow its subject
+     * @throws SvidException.Unavailable where the bundle of its trust domain was not read yet
      * @throws SvidException.Unverifiable where java.security can't say whether the signature is good
      */
     public Admission judge(String token) throws Refusal {
@@ -194,6 +195,7 @@ public final class Validator implements AutoCloseable {
 
     Admission judge(long now, String token) throws Refusal {
         try {
+            member.look();
             return member.judge(token.getBytes(StandardCharsets.UTF_8), now);
         } finally {
             Reference.reachabilityFence(this);

@@ -20,9 +20,12 @@ import java.nio.file.Files;
 import java.nio.file.Path;
 import java.nio.file.StandardCopyOption;
 import java.security.KeyStore;
+import java.security.Security;
 import java.util.ArrayList;
 import java.util.Arrays;
 import java.util.List;
+import java.util.Map;
+import java.util.Optional;
 import java.util.Set;
 import java.util.concurrent.ConcurrentHashMap;
 import java.util.concurrent.CopyOnWriteArrayList;
@@ -30,6 +33,8 @@ import java.util.concurrent.CountDownLatch;
 import java.util.concurrent.ExecutorService;
 import java.util.concurrent.Executors;
 import java.util.concurrent.atomic.AtomicInteger;
+import javax.net.ssl.HostnameVerifier;
+import javax.net.ssl.HttpsURLConnection;
 import javax.net.ssl.KeyManagerFactory;
 import javax.net.ssl.SSLContext;
 import org.junit.BeforeClass;
@@ -62,13 +67,11 @@ public class FollowTest {
     }
 
     private static String checked(Validator validator, String token) {
-        try {
-            return validator.check(token).spiffeId().toString();
-        } catch (Refusal why) {
-            return why.reason().toString();
-        } catch (SvidException why) {
-            return why.getClass().getSimpleName();
-        }
+        return MemberTest.answer(() -> validator.check(token));
+    }
+
+    private static String judged(Validator validator, String token) {
+        return MemberTest.answer(() -> validator.judge(token));
     }
 
     private String fresh() {
@@ -154,10 +157,21 @@ public class FollowTest {
                 assertEquals(Making.SUBJECT, checked(validator, fresh()));
             }
             Files.delete(file);
-            until(() -> said.size() == 2);
+            until(() -> said.size() > 1); // (a look that was under way may say it in other words)
             assertEquals(Making.SUBJECT, checked(validator, fresh()));
             write(file, issuer.bundle());
             until(() -> said.contains("bundle source is well again: " + file));
+            issuer.rotate();
+            write(file, Arrays.copyOf(padded(issuer.bundle()), Follower.MOST)); // (the longest one that is)
+            becomes(validator, Making.SUBJECT);
+            issuer.rotate();
+            String text = new String(issuer.bundle(), StandardCharsets.UTF_8).strip();
+            long rest = Follower.MOST_BRACKETS - text.chars().filter(it -> it == '{' || it == '[').count() - 2;
+            write(file,
+                    (text.substring(0, text.length() - 1) + ",\"x\":["
+                            + "[],".repeat((int) rest) + "[]]}")
+                            .getBytes());
+            becomes(validator, Making.SUBJECT);
         }
     }
 
@@ -173,6 +187,89 @@ public class FollowTest {
             until(validator::isReady);
             becomes(validator, Making.SUBJECT);
         }
+    }
+
+    /** A token of a trust domain whose bundle is to come is not refused, though there is a bundle of another one. */
+    @Test
+    public void aBundleThatComesAfterAnother() throws Exception {
+        Issuer other = new Issuer("example.com");
+        write(path("a.json"), issuer.bundle());
+        Sources sources = Sources.file("example.org", path("a.json")).and(Sources.file("example.com", path("b.json")));
+        try (Validator validator = Validator.open(Vectors.ledger(), sources)) {
+            assertEquals(Making.SUBJECT, checked(validator, fresh()));
+            String token = other.token("/a", "ledger");
+            SvidException why = assertThrows(SvidException.Unavailable.class, () -> validator.check(token));
+            assertEquals("NoBundle: the bundle of example.com was not read yet", why.word() + ": " + why.getMessage());
+            assertEquals("Unavailable", judged(validator, token));
+            assertEquals("UnknownDomain", checked(validator, new Issuer("example.net").token("/a", "ledger")));
+            write(path("b.json"), other.bundle());
+            until(() -> checked(validator, token).equals("spiffe://example.com/a"));
+        }
+    }
+
+    /** Where the last bundle goes no token is refused for that, also none that is being judged. */
+    @Test
+    public void theLastBundleGoes() throws Exception {
+        Path folder = Files.createDirectory(path("bundles"));
+        Path file = folder.resolve("example.org.json");
+        write(file, issuer.bundle());
+        try (Validator validator = Validator.open(Vectors.ledger().mode(Mode.REUSE), Sources.folder(folder))) {
+            Member member = MemberTest.memberOf(validator);
+            String token = fresh();
+            ThreadsTest.Meanwhile goes = new ThreadsTest.Meanwhile(() -> {
+                member.adopt("{}".getBytes(), 0);
+                return true;
+            });
+            Security.insertProviderAt(goes, 1);
+            try {
+                for (int n = 0; n < 2; n++) {
+                    member.adopt(issuer.bundles(), 1);
+                    assertEquals("Unavailable", n == 0 ? checked(validator, token) : judged(validator, token));
+                    assertEquals(Optional.of("There is no trust bundle."), validator.unready());
+                }
+            } finally {
+                Security.removeProvider(goes.getName());
+            }
+            // (to free many keys takes some time, in which the others go on)
+            String keys = new String(new Issuer("example.com").bundle());
+            String many = keys.replace("[", "[" + keys.replaceAll(".*\\[|\\].*", "").concat(",").repeat(1000));
+            byte[] both = Bundles.join(Map.of("example.org", issuer.bundle(), "example.com", many.getBytes()));
+            Set<String> answers = ConcurrentHashMap.newKeySet();
+            Thread exchanges = new Thread(() -> {
+                for (int n = 0; n < 100; n++) {
+                    member.adopt(both, 2);
+                    member.adopt("{}".getBytes(), 0);
+                }
+            });
+            exchanges.start();
+            while (exchanges.isAlive()) {
+                answers.add(checked(validator, token));
+                answers.add(judged(validator, token));
+            }
+            answers.removeAll(Set.of(Making.SUBJECT, "Unavailable"));
+            assertEquals(Set.of(), answers);
+        }
+    }
+
+    /** Whoever is interrupted while it waits for the threads still knows that. */
+    @Test
+    public void anInterruptOfAClose() throws Exception {
+        Path file = path("a.json");
+        CountDownLatch comes = new CountDownLatch(1);
+        CountDownLatch goes = new CountDownLatch(1);
+        Follower follower = new Follower(Sources.file("example.org", file), (text, count) -> {
+            if (count > 0) {
+                comes.countDown();
+                Making.await(goes);
+            }
+        });
+        follower.begin();
+        write(file, issuer.bundle());
+        Making.await(comes);
+        Thread.currentThread().interrupt();
+        follower.close();
+        assertTrue(Thread.interrupted());
+        goes.countDown();
     }
 
     @Test
@@ -195,6 +292,15 @@ public class FollowTest {
             Files.delete(folder.resolve("example.com.json"));
             until(() -> checked(validator, other.token("/a", "ledger")).equals("UnknownDomain"));
             assertEquals(said.toString(), 1, said.size());
+            // (a folder that can't be read takes nothing with it)
+            write(folder.resolve("example.com.json"), other.bundle());
+            until(() -> checked(validator, other.token("/a", "ledger")).equals("spiffe://example.com/a"));
+            Files.move(folder, path("away"));
+            until(() -> isSaid("bundle not read: " + folder + ": "));
+            Looks looks = new Looks();
+            MemberTest.memberOf(validator).follower.pausing = looks;
+            looks.come(2);
+            assertEquals("spiffe://example.com/a", checked(validator, other.token("/a", "ledger")));
         }
     }
 
@@ -205,8 +311,7 @@ public class FollowTest {
         List<String> all = new ArrayList<>(List.of("openssl"));
         all.addAll(List.of(words));
         Process process = new ProcessBuilder(all).directory(SECRETS.getRoot()).redirectErrorStream(true).start();
-        String text = new String(process.getInputStream().readAllBytes(), StandardCharsets.UTF_8);
-        assertEquals(text, 0, process.waitFor());
+        assertEquals(Making.said(process), 0, Making.ended(process));
     }
 
     private static final String[] KEY = {"-newkey", "ec", "-pkeyopt", "ec_paramgen_curve:P-256", "-nodes", "-keyout"};
@@ -236,6 +341,7 @@ public class FollowTest {
         identity("two", "ca", "subjectAltName=URI:" + SERVER + ",URI:" + SERVER + "2\n");
         identity("strange", "stranger", "subjectAltName=URI:" + SERVER + "\n");
         identity("signer", "ca", "subjectAltName=URI:" + SERVER + "\nkeyUsage=keyCertSign\n");
+        identity("withdrawer", "ca", "subjectAltName=URI:" + SERVER + "\nkeyUsage=cRLSign\n");
         identity("client", "ca", "subjectAltName=URI:" + SERVER + "\nextendedKeyUsage=clientAuth\n");
     }
 
@@ -334,6 +440,11 @@ public class FollowTest {
     public void httpsWebThatIsNone() throws Exception {
         assertThrows(IllegalArgumentException.class, () -> Sources.web("example.org", URI.create("http://localhost/")));
         assertThrows(IllegalArgumentException.class, () -> Sources.web("example.org/x", URI.create("https://localhost/")));
+        for (String host : List.of("localhost", "my_host")) { // (the second one is no name of a host to URI)
+            URI secret = URI.create("https://user:secret@" + host + "/");
+            String why = assertThrows(IllegalArgumentException.class, () -> Sources.web("example.org", secret)).getMessage();
+            assertFalse(why, why.contains("secret"));
+        }
         try (Server server = new Server("web"); Server named = new Server("svid")) {
             server.answer = issuer.bundle();
             named.answer = issuer.bundle();
@@ -345,6 +456,21 @@ public class FollowTest {
                     until(() -> isSaid("SSLHandshakeException") || isSaid("wrong, should be") || isSaid("IOException"));
                     assertFalse(validator.isReady());
                 }
+            }
+            // (a service may have given up to look at names, for its own connections)
+            HostnameVerifier usual = HttpsURLConnection.getDefaultHostnameVerifier();
+            HttpsURLConnection.setDefaultHostnameVerifier((host, session) -> true);
+            said.clear();
+            try (Validator validator = Validator.open(Vectors.ledger(), Sources.web("example.org", named.address(), secret("ca.pem")))) {
+                until(() -> !said.isEmpty() || validator.isReady());
+                assertFalse(validator.isReady());
+                assertEquals(List.of(), named.asked);
+            } finally {
+                HttpsURLConnection.setDefaultHostnameVerifier(usual);
+            }
+            Path none = Files.createFile(path("none.pem"));
+            try (Validator validator = Validator.open(Vectors.ledger(), Sources.web("example.org", server.address(), none))) {
+                until(() -> isSaid(none + " has no certificate as PEM"));
             }
             Sources sources = Sources.web("example.org", server.address(), secret("ca.pem"));
             for (byte[] it : List.of(padded(issuer.bundle()), "{}".getBytes(), new byte[] {'x'})) {
@@ -447,7 +573,8 @@ public class FollowTest {
     public void whoIsNotTheServer() throws Exception {
         write(path("first.json"), withAuthorities("ca"));
         for (String it : List.of("other that of another ID", "two not exactly one URI", "web not exactly one URI",
-                     "strange no authority of the bundle vouches", "signer may sign others", "client is for no server")) {
+                     "strange no authority of the bundle vouches", "signer may sign others", "withdrawer may sign others",
+                     "client is for no server")) {
             said.clear();
             String name = it.split(" ")[0];
             try (Server server = new Server(name)) {
@@ -479,9 +606,9 @@ public class FollowTest {
                     Sources.web("example.org", URI.create("https://127.0.0.1:" + silent.getLocalPort() + "/")), (text, count) -> {});
             follower.limit = Integer.MAX_VALUE;
             follower.begin();
-            try (Socket first = silent.accept()) {
+            try (Socket first = Making.given("a connection", silent::accept)) {
                 // (the client has sent its first bytes, and waits)
-                assertTrue(first.getInputStream().read() >= 0);
+                assertTrue(Making.given("its first byte", first.getInputStream()::read) >= 0);
                 follower.close();
                 until(() -> Said.threads() == 0);
             }
@@ -527,6 +654,24 @@ public class FollowTest {
         until(() -> isSaid("bundle source is well again: the validator"));
         looks.come(2);
         assertEquals(3, count.get());
+        follower.close();
+    }
+
+    /** Whatever fails while bundles are handed on, later ones are taken. */
+    @Test
+    public void anErrorEndsNoThread() throws Exception {
+        Path file = path("a.json");
+        List<String> taken = new CopyOnWriteArrayList<>();
+        Follower follower = new Follower(Sources.file("example.org", file), (text, domains) -> {
+            taken.add(new String(text));
+            if (taken.size() == 1) {
+                throw new AssertionError("it fails");
+            }
+        });
+        follower.pausing = new Looks();
+        follower.begin();
+        write(file, issuer.bundle());
+        until(() -> taken.size() == 2);
         follower.close();
     }
 

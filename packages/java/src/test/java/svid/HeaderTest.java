@@ -3,11 +3,9 @@ package svid;
 import static org.junit.Assert.assertEquals;
 import static org.junit.Assert.assertTrue;
 
-import java.io.IOException;
 import java.lang.reflect.Field;
 import java.lang.reflect.Method;
 import java.lang.reflect.Modifier;
-import java.nio.charset.StandardCharsets;
 import java.nio.file.Files;
 import java.nio.file.Path;
 import java.util.ArrayList;
@@ -28,7 +26,7 @@ public class HeaderTest {
     @Rule public final TemporaryFolder room = new TemporaryFolder();
 
     /** What a program with these lines in it prints, a number a line. */
-    private List<Long> numbers(List<String> expressions) throws IOException, InterruptedException {
+    private List<Long> numbers(List<String> expressions) throws Exception {
         String lines = expressions.stream()
                                .map(it -> "    printf(\"%llu\\n\", (unsigned long long)(" + it + "));\n")
                                .collect(Collectors.joining());
@@ -39,11 +37,11 @@ public class HeaderTest {
         return ran(program).lines().map(Long::parseUnsignedLong).toList();
     }
 
-    static String ran(String... words) throws IOException, InterruptedException {
+    static String ran(String... words) throws Exception {
         Process process = new ProcessBuilder(words).redirectErrorStream(true).start();
         process.getOutputStream().close();
-        String said = new String(process.getInputStream().readAllBytes(), StandardCharsets.UTF_8);
-        assertEquals(String.join(" ", words) + ": " + said, 0, process.waitFor());
+        String said = Making.said(process);
+        assertEquals(String.join(" ", words) + ": " + said, 0, Making.ended(process));
         return said;
     }
 

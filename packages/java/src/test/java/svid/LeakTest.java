@@ -13,6 +13,8 @@ import java.io.UncheckedIOException;
 import java.lang.reflect.Field;
 import java.nio.file.Files;
 import java.nio.file.Path;
+import java.security.Provider;
+import java.security.Security;
 import java.time.Duration;
 import java.time.Instant;
 import java.util.ArrayList;
@@ -41,17 +43,20 @@ public class LeakTest {
     private static final int MOST = 200;
 
     private final Issuer issuer = new Issuer("example.org");
+    private final Provider remembering = new Remembering();
     private Path room;
 
     /** In memory, since a disk would be forced ten times in each life. */
     @Before
     public void begin() throws Exception {
+        Security.insertProviderAt(remembering, 1);
         Path memory = Path.of("/dev/shm");
         room = Files.isWritable(memory) ? Files.createTempDirectory(memory, "svid") : Files.createTempDirectory("svid");
     }
 
     @After
     public void end() throws Exception {
+        Security.removeProvider(remembering.getName());
         remove(room);
     }
 
@@ -240,7 +245,8 @@ public class LeakTest {
     @Test
     public void livesThatAreForgotten() throws Exception {
         leavesNothing(LIVES / 5, number -> {
-            Path folder = room.resolve("state" + number);
+            // (one of its own, since whoever is forgotten may still have the others)
+            Path folder = Files.createTempDirectory(room, "state");
             Validator validator = Validator.open(options(Mode.ONCE).state(folder), issuer.bundles());
             validator.check(tokens(number, 0).good);
         });

@@ -20,6 +20,7 @@ import java.util.List;
 import java.util.Set;
 import java.util.concurrent.CompletableFuture;
 import java.util.concurrent.TimeUnit;
+import java.util.stream.Collectors;
 import java.util.stream.IntStream;
 import org.junit.After;
 import org.junit.Rule;
@@ -213,6 +214,13 @@ public class LocalTest {
         }
     }
 
+    /** More claims than one piece of a snapshot has. */
+    private static List<Store.Claim> many(int by) {
+        return IntStream.range(1000, 3500)
+                .mapToObj(it -> new Store.Claim(key(it), owner(by), Instant.ofEpochSecond(NOW + 30_000)))
+                .toList();
+    }
+
     /** A snapshot has what the folder had: claims, until when the store is deaf, and the time that the clock had. */
     @Test
     public void aSnapshotForgetsNothing() throws Exception {
@@ -220,6 +228,7 @@ public class LocalTest {
         has(7, 1, 1, NOW + 30_000);
         now = NOW + 20_000;
         has(8, 1, 1, NOW + 30_000);
+        open.put(many(1));
         now -= 61;
         Instant deaf = put(9, owner(1), NOW + 30_000).deaf();
         assertEquals(Instant.ofEpochSecond(NOW + 20_000 + LASTS), deaf);
@@ -239,6 +248,7 @@ public class LocalTest {
                 assertEquals(owner(1), found.owner());
                 assertEquals(late == 0 ? deaf : Instant.EPOCH, found.deaf());
             }
+            assertEquals(Set.of(owner(1)), open.put(many(2)).stream().map(Store.Found::owner).collect(Collectors.toSet()));
         }
         now -= 61;
         assertEquals(Instant.ofEpochSecond(now + 61 + LASTS), put(7, owner(2), NOW + 30_000).deaf());
@@ -263,7 +273,7 @@ public class LocalTest {
     private long size() throws Exception {
         long size = 0;
         for (String name : folder().toFile().list()) {
-            size += Files.exists(folder().resolve(name)) ? Files.size(folder().resolve(name)) : 0;
+            size += folder().resolve(name).toFile().length(); // (0 of one that went meanwhile)
         }
         return size;
     }

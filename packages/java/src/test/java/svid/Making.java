@@ -9,11 +9,15 @@ import java.security.Signature;
 import java.security.interfaces.ECPublicKey;
 import java.security.spec.ECGenParameterSpec;
 import java.time.Instant;
+import java.util.Arrays;
 import java.util.Base64;
 import java.util.UUID;
 import java.util.concurrent.Callable;
 import java.util.concurrent.CountDownLatch;
+import java.util.concurrent.Future;
+import java.util.concurrent.FutureTask;
 import java.util.concurrent.TimeUnit;
+import java.util.concurrent.TimeoutException;
 
 /** Tokens of now, and what tests wait for. */
 final class Making {
@@ -83,6 +87,47 @@ final class Making {
         } catch (InterruptedException why) {
             throw new AssertionError(why);
         }
+    }
+
+    /** What somebody gives who lets this wait, but not without an end: a line of a process, or a connection. */
+    static <T> T given(String what, Callable<T> waits) throws Exception {
+        FutureTask<T> task = new FutureTask<>(waits);
+        Thread thread = new Thread(task, what);
+        thread.setDaemon(true);
+        thread.start();
+        return given(what, task);
+    }
+
+    /** What comes of something that is under way. */
+    static <T> T given(String what, Future<T> task) throws Exception {
+        try {
+            return task.get(PATIENCE, TimeUnit.SECONDS);
+        } catch (TimeoutException why) {
+            throw new AssertionError("waited in vain for " + what, why);
+        }
+    }
+
+    /** Waits for the end of a thread. */
+    static void joined(Thread thread) throws InterruptedException {
+        thread.join(1000 * PATIENCE);
+        if (thread.isAlive()) {
+            throw new AssertionError(thread + " does not end: " + Arrays.toString(thread.getStackTrace()));
+        }
+    }
+
+    /** The status with which a process ends. */
+    static int ended(Process process) throws InterruptedException {
+        if (!process.waitFor(PATIENCE, TimeUnit.SECONDS)) {
+            process.destroyForcibly();
+            throw new AssertionError("it does not end: " + process.info());
+        }
+        return process.exitValue();
+    }
+
+    /** What a process says until it ends. */
+    static String said(Process process) throws Exception {
+        byte[] all = given("the end of " + process.info(), () -> process.getInputStream().readAllBytes());
+        return new String(all, StandardCharsets.UTF_8);
     }
 
     /** Waits until something holds. */

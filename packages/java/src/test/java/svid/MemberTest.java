@@ -12,6 +12,9 @@ import static svid.Making.until;
 
 import java.io.IOException;
 import java.lang.ref.WeakReference;
+import java.net.InetAddress;
+import java.net.InetSocketAddress;
+import java.nio.channels.ServerSocketChannel;
 import java.nio.charset.StandardCharsets;
 import java.security.Security;
 import java.time.Clock;
@@ -31,6 +34,7 @@ import java.util.concurrent.Callable;
 import java.util.concurrent.CopyOnWriteArrayList;
 import java.util.concurrent.CountDownLatch;
 import java.util.concurrent.TimeUnit;
+import java.util.concurrent.atomic.AtomicBoolean;
 import java.util.concurrent.atomic.AtomicInteger;
 import java.util.concurrent.atomic.AtomicLong;
 import java.util.concurrent.atomic.AtomicReference;
@@ -58,6 +62,7 @@ public class MemberTest {
     private static final class Fickle implements Store {
         final MemoryStore store;
         final List<List<Claim>> puts = new CopyOnWriteArrayList<>();
+        final AtomicInteger calls = new AtomicInteger(); // those that put nothing, too
         volatile Hook before = NOTHING;
         volatile Hook after = NOTHING;
 
@@ -71,6 +76,7 @@ public class MemberTest {
 
         @Override
         public List<Found> put(List<Claim> claims) throws Exception {
+            calls.getAndIncrement();
             if (!claims.isEmpty()) {
                 puts.add(List.copyOf(claims));
             }
@@ -94,7 +100,7 @@ public class MemberTest {
     }
 
     /** A call in a thread of its own, which a test does not await for longer than it has patience. */
-    private static final class Soon {
+    static final class Soon {
         final Thread thread;
         private volatile String said = "died";
 
@@ -112,7 +118,7 @@ public class MemberTest {
     }
 
     /** The outcome of a call: the subject that it gives, if any, or the name of the error. */
-    private static String answer(Callable<?> call) {
+    static String answer(Callable<?> call) {
         try {
             return call.call() instanceof Admission admission ? admission.spiffeId().toString() : "";
         } catch (Refusal why) {
@@ -584,6 +590,106 @@ public class MemberTest {
         }
     }
 
+    /** Where nothing is to be put, no call of the store goes out for it. */
+    @Test
+    public void nothingIsPut() throws Exception {
+        Fickle store = new Fickle();
+        AtomicLong up = new AtomicLong(1000);
+        try (Validator validator = open(strict(store).wait(patience()))) {
+            Member member = memberOf(validator);
+            member.up = up::get;
+            underWay(validator, AS_MANY_AS_MAY_BE);
+            Soon late = new Soon(() -> validator.check(token()));
+            until(() -> !member.claims.waiting.isEmpty());
+            int calls = store.calls.get();
+            up.addAndGet(patience().toMillis());
+            underWay(validator, 0);
+            assertEquals("Unavailable", late.answer());
+            until(() -> member.claims.waiting.isEmpty());
+            assertEquals(SUBJECT, soon(() -> validator.check(token())));
+            until(() -> claiming().stream().allMatch(it -> it.getState() == Thread.State.WAITING));
+            assertEquals(calls + 1, store.calls.get());
+        }
+        try (ServerSocketChannel server = ServerSocketChannel.open().bind(new InetSocketAddress(InetAddress.getLoopbackAddress(), 0))) {
+            server.configureBlocking(false);
+            String url = "jdbc:postgresql://127.0.0.1:" + server.socket().getLocalPort() + "/d";
+            try (PostgresMember member = new PostgresMember(List.of(url), "svid", 1, new PostgresMember.Terms(3600, 120, 60))) {
+                assertEquals(List.of(), member.put(List.of(), Times.up() + 1000));
+                assertEquals(null, server.accept());
+            }
+        }
+    }
+
+    /** Where there is no memory for what a call leaves, its thread goes on, and so do later claims. */
+    @Test
+    public void wantOfMemoryAsACallEnds() throws Exception {
+        Fickle store = new Fickle();
+        AtomicReference<Thread> puts = new AtomicReference<>();
+        try (Validator validator = open(strict(store).wait(Duration.ofMillis(200)))) {
+            Claims claims = memberOf(validator).claims;
+            store.before = () -> {
+                puts.set(Thread.currentThread());
+                claims.later = new ArrayList<>() {
+                    private static final long serialVersionUID = 1;
+
+                    @Override
+                    public boolean add(Claims.Later one) {
+                        throw new OutOfMemoryError("there is none");
+                    }
+                };
+                AWAY.run();
+            };
+            until(() -> { // (on a busy machine a request may be late before it is put)
+                assertEquals("Unavailable", soon(() -> validator.check(token())));
+                return puts.get() != null;
+            });
+            store.before = NOTHING;
+            synchronized (claims.gate) {
+                claims.later = new ArrayList<>();
+            }
+            until(() -> {
+                assertTrue("the thread has ended", puts.get().isAlive());
+                return puts.get().getState() == Thread.State.WAITING;
+            });
+            assertEquals(SUBJECT, inTime(validator, token()));
+        }
+    }
+
+    /** What a store leaves in its thread holds up no other call. */
+    @Test
+    public void aStoreThatLeavesSomethingInItsThread() throws Exception {
+        Fickle store = new Fickle();
+        InheritableThreadLocal<String> left = new InheritableThreadLocal<>() {
+            @Override
+            protected String childValue(String it) {
+                throw new IllegalStateException("it has no heirs");
+            }
+        };
+        Set<Thread> seen = Collections.synchronizedSet(new HashSet<>());
+        CountDownLatch go = new CountDownLatch(1);
+        try (Validator validator = open(strict(store).wait(patience()))) {
+            store.before = () -> {
+                left.set("it");
+                seen.add(Thread.currentThread());
+            };
+            until(() -> {
+                assertEquals(SUBJECT, soon(() -> validator.check(token())));
+                return seen.containsAll(claiming());
+            });
+            AtomicBoolean hangs = new AtomicBoolean(true);
+            store.before = () -> {
+                if (hangs.getAndSet(false)) {
+                    go.await(PATIENCE, TimeUnit.SECONDS);
+                }
+            };
+            Soon first = new Soon(() -> validator.check(token()));
+            until(() -> !hangs.get());
+            assertEquals(SUBJECT, soon(() -> validator.check(token())));
+            go.countDown();
+            assertEquals(SUBJECT, first.answer());
+        }
+    }
+
     @Test
     public void aStoreThatHasLostEntries() throws Exception {
         MemoryStore store = new MemoryStore(Clock.systemUTC(), Duration.ofMinutes(1), Duration.ofSeconds(3620));
@@ -900,7 +1006,7 @@ public class MemberTest {
             List<Soon> calls = new ArrayList<>();
             tokens.forEach(token -> calls.addAll(many(2, () -> validator.check(token))));
             calls.add(new Soon(() -> validator.withdraw(token())));
-            until(() -> waiting(validator) == 7);
+            until(() -> waiting(validator) == 7 && calls.stream().allMatch(it -> it.thread.getState() == Thread.State.TIMED_WAITING));
             validator.close();
             assertEquals(Set.of("Closed"), Set.copyOf(answers(calls)));
         }
@@ -919,7 +1025,9 @@ public class MemberTest {
     }
 
     private static Validator used() throws Exception {
-        Validator validator = open(strict(new MemoryStore()).wait(patience()));
+        List<Validator> held = new ArrayList<>(); // by a hook of its own
+        Validator validator = open(strict(new MemoryStore()).wait(patience()).denied(why -> held.clear()));
+        held.add(validator);
         assertEquals(SUBJECT, soon(() -> validator.check(token())));
         assertFalse(claiming().isEmpty());
         assertTrue(claiming().stream().allMatch(Thread::isDaemon));

@@ -141,12 +141,17 @@ public class PackageTest {
         List<String> needs = new ArrayList<>();
         for (int n = 0; n < project.getElementsByTagName("dependency").getLength(); n++) {
             Element it = (Element) project.getElementsByTagName("dependency").item(n);
-            if (it.getElementsByTagName("scope").getLength() == 0) {
-                boolean isOptional = it.getElementsByTagName("optional").getLength() > 0;
-                needs.add(it.getElementsByTagName("artifactId").item(0).getTextContent() + (isOptional ? ", optional" : ""));
+            String need = it.getElementsByTagName("artifactId").item(0).getTextContent();
+            for (String name : List.of("scope", "optional")) {
+                if (it.getElementsByTagName(name).getLength() > 0) {
+                    need += ", " + name + " " + it.getElementsByTagName(name).item(0).getTextContent();
+                }
             }
+            needs.add(need);
         }
-        assertEquals(List.of("jna", "gson", "grpc-netty, optional", "grpc-stub, optional", "protobuf-java, optional"), needs);
+        assertEquals(List.of("jna", "postgresql, scope runtime, optional true", "junit, scope test", "gson", "grpc-netty, optional true",
+                             "grpc-stub, optional true", "protobuf-java, optional true"),
+                needs);
         assertEquals(0, project.getElementsByTagName("build").getLength());
     }
 
@@ -155,8 +160,8 @@ public class PackageTest {
         List<String> names = List.of("Hello");
         for (String name : names) {
             Process process = program(name).start();
-            String said = new String(process.getInputStream().readAllBytes(), StandardCharsets.UTF_8);
-            assertEquals(said, 0, process.waitFor());
+            String said = Making.said(process);
+            assertEquals(said, 0, Making.ended(process));
             assertEquals(blocks("text").get(names.indexOf(name)), said);
         }
     }
@@ -204,7 +209,7 @@ public class PackageTest {
         Process service = builder.start();
         List<Socket> slows = new ArrayList<>();
         try (BufferedReader lines = service.inputReader()) {
-            String line = lines.readLine();
+            String line = Making.given("a line of the service", lines::readLine);
             assertTrue(line, line.startsWith("listening on "));
             int port = Integer.parseInt(line.substring("listening on ".length()));
             String bearer = "Bearer " + Vectors.tokens().get(0);
@@ -223,7 +228,7 @@ public class PackageTest {
                 slow.close();
             }
             service.destroy();
-            service.waitFor();
+            Making.ended(service);
         }
     }
 
@@ -337,15 +342,18 @@ public class PackageTest {
     @Test
     public void anotherLibrary() throws Exception {
         for (String named : List.of(Vectors.TOP + "/dist/x86_64/libsvid.so", "/nowhere/libsvid.so", Vectors.TOP + "/README.md",
-                     System.getProperty("svid.other"))) {
+                     System.getProperty("svid.other") + " 40000", System.getProperty("svid.other") + " 20900")) {
+            String[] other = named.split(" ");
             ProcessBuilder builder = program("Hello");
-            builder.command().add(1, "-Dsvid.library=" + named);
+            builder.command().add(1, "-Dsvid.library=" + other[0]);
+            builder.environment().put("SVID_OTHER", other[other.length - 1]);
             Process process = builder.start();
-            String said = new String(process.getInputStream().readAllBytes(), StandardCharsets.UTF_8);
+            String said = Making.said(process);
             boolean isGood = named.endsWith("64/libsvid.so");
-            assertEquals(said, isGood, process.waitFor() == 0);
+            assertEquals(said, isGood, Making.ended(process) == 0);
             assertEquals(said, isGood, said.equals(blocks("text").get(0)));
-            String due = named.endsWith("other.so") ? "libsvid.so has the version 40000, and 30000 is wanted" : named;
+            String due =
+                    other.length > 1 ? "libsvid.so has the version " + other[1] + ", and 30000 is wanted: take the one of this jar" : named;
             assertTrue(said, isGood || said.contains("UnsatisfiedLinkError") && said.contains(due));
         }
     }
@@ -376,8 +384,7 @@ public class PackageTest {
         File folder = ROOM.newFolder();
         builder.command().add(1, "-Djava.io.tmpdir=" + folder);
         Process process = builder.start();
-        process.getInputStream().readAllBytes();
-        assertEquals(0, process.waitFor());
+        assertEquals(Making.said(process), 0, Making.ended(process));
         assertEquals(0, folder.list().length);
     }
 }

@@ -10,28 +10,43 @@ import java.io.File;
 import java.io.IOException;
 import java.io.InputStream;
 import java.io.OutputStream;
+import java.io.PrintWriter;
+import java.io.StringWriter;
 import java.io.UncheckedIOException;
 import java.nio.charset.StandardCharsets;
 import java.nio.file.Files;
 import java.nio.file.Path;
+import java.sql.Connection;
+import java.sql.Driver;
+import java.sql.DriverManager;
+import java.sql.SQLException;
 import java.time.Duration;
 import java.time.Instant;
 import java.util.ArrayList;
 import java.util.Arrays;
 import java.util.List;
+import java.util.Map;
+import java.util.Properties;
 import java.util.TreeSet;
 import java.util.concurrent.CompletableFuture;
+import java.util.concurrent.ConcurrentHashMap;
+import java.util.concurrent.CopyOnWriteArrayList;
+import java.util.concurrent.CountDownLatch;
 import java.util.concurrent.TimeUnit;
 import java.util.regex.Matcher;
 import java.util.regex.Pattern;
 import java.util.stream.Stream;
 import org.junit.AfterClass;
 import org.junit.BeforeClass;
+import org.junit.Rule;
 import org.junit.Test;
 import org.junit.function.ThrowingRunnable;
 
 /** {@link PostgresStore}, over real servers. The tests of go/claims/postgres run over it too. */
+@SuppressWarnings("try") // (some are only held)
 public class PostgresTest {
+    @Rule public final Said logger = new Said();
+
     private static final Path GO = Path.of(System.getProperty("svid.top"), "go");
     private static final Owner OWNER = Owner.of(filled(111));
     // The tests of go/claims/postgres, in groups that take some time each.
@@ -39,7 +54,7 @@ public class PostgresTest {
     private static final String ALONE = "TestStoreAlone|TestRights|TestAServerThatForgets|TestAPartOfAStore|TestTLS";
     private static final String ENDS = "TestStoreOfAServerThatEnds|TestTrouble|TestFullDisk|TestCloseLeavesNothing|TestQuarantine";
     private static final String LOSSES = "TestRowsThatGoByHandEndTheEpoch|TestALookMissesRows|TestAnOlderCopyThatWentOn|TestAStoreMadeAgain"
-            + "|TestADumpThatIsReadInAgain|TestAClockThatIsADayOff|TestASmallStepBack";
+            + "|TestADumpThatIsReadInAgain|TestAClockThatIsADayOff|TestASmallStepBack|TestALateAnswerOfAServerThatIsGone|TestAnotherClaimOfACall";
     private static final String CALLS = "TestAClaimThatWaitsWhileTheEpochEnds|TestOneOrder|TestWithdrawalsOfAnotherEpoch"
             + "|TestAnEntryThatIsGoneMeanwhile|TestWhatIsOverGoes|TestALookAtAStoreOfWhichMuchIsOver|TestTimesOfTheLibrary|TestNobodyLooks"
             + "|TestAClaimThatIsNotCommitted";
@@ -66,7 +81,7 @@ public class PostgresTest {
         words.environment().put("TMPDIR", "/tmp"); // (the user of PostgreSQL may not go through a folder of this one)
         server = words.redirectError(ProcessBuilder.Redirect.INHERIT).start();
         said = server.inputReader(StandardCharsets.UTF_8);
-        url = StoreClient.urlOf(said.readLine());
+        url = StoreClient.urlOf(Making.given("the address of the server", said::readLine));
     }
 
     @AfterClass
@@ -82,14 +97,14 @@ public class PostgresTest {
         return room.resolve("postgres.test").toString();
     }
 
-    private static String tell(String what) throws IOException {
+    private static String tell(String what) throws Exception {
         server.getOutputStream().write((what + "\n").getBytes(StandardCharsets.UTF_8));
         server.getOutputStream().flush();
-        return said.readLine();
+        return Making.given("the server's answer to " + what, said::readLine);
     }
 
     /** A group of its own, whose store is there. */
-    private static String group() throws IOException {
+    private static String group() throws Exception {
         String name = "group" + ++groups;
         assertEquals("done", tell("schema " + name));
         return name;
@@ -122,7 +137,7 @@ public class PostgresTest {
     /** Runs tests of go/claims/postgres over the client. Its process only hands calls to this one, and answers back. */
     private static void runs(String tests) throws Exception {
         Path out = room.resolve("out");
-        ProcessBuilder words = new ProcessBuilder(binary(), "-test.v", "-test.timeout", "50m", "-test.run", "^(" + tests + ")$");
+        ProcessBuilder words = new ProcessBuilder(binary(), "-test.v", "-test.timeout", "20m", "-test.run", "^(" + tests + ")$");
         Path folder = Files.createTempDirectory(room, "client");
         Path calls = folder.resolve("calls");
         Path answers = folder.resolve("answers");
@@ -188,12 +203,14 @@ public class PostgresTest {
     public void eachTestOfAStoreInGoIsRun() throws Exception {
         Process listing = new ProcessBuilder(binary(), "-test.list", "^Test").start();
         List<String> listed = listing.inputReader(StandardCharsets.UTF_8).lines().toList();
-        assertEquals(0, listing.waitFor());
+        assertEquals(0, Making.ended(listing));
         TreeSet<String> run =
                 new TreeSet<>(List.of(String.join("|", MEMBER, ALONE, ENDS, LOSSES, CALLS, STANDBYS, PRIMARIES).split("\\|")));
         run.addAll(List.of("TestAServerOfAnotherLanguage", "TestStandbys", "TestOptions", "TestOptionsOfTheEnvironment",
                 "TestTheEpochsRowStays", "TestAFewMarksAreKept", "TestAnOldLookDoesNotCount", "TestLooksHavePauses",
-                "TestTheLaterTimelineCounts", "TestAContextThatEndsWithItsAnswer"));
+                "TestTheLaterTimelineCounts", "TestTwoPrimariesAreNamed", "TestServersThatNobodyLooksAt", "TestEachServerIsLookedAtOnce",
+                "TestAServerThatDoesNotSayWhatItIsLeavesNothing", "TestAContextThatEndsWithItsAnswer",
+                "TestASessionThatCantBeginLeavesNothing", "TestEachCallThatIsUnderWayMayBeTheLast", "TestEachClaimThatWasThereIsKept"));
         assertEquals(new TreeSet<>(listed), run);
     }
 
@@ -247,8 +264,11 @@ public class PostgresTest {
         }
         try (PostgresStore late = PostgresStore.at(url).group(group).open()) {
             assertEquals(Owner.WITHDRAWN, put(late, 1).owner());
-            late.withdraw(claim(2).key(), Instant.now().minusSeconds(1000));
+            Instant over = Instant.now().minusSeconds(1000);
+            late.withdraw(claim(1).key(), over); // (an earlier expiry takes nothing back)
+            late.withdraw(claim(2).key(), over);
             Making.until(() -> known(late) == 5001);
+            assertEquals(Owner.WITHDRAWN, put(late, 1).owner());
         }
     }
 
@@ -320,13 +340,104 @@ public class PostgresTest {
         Making.until(() -> Thread.getAllStackTraces().keySet().stream().noneMatch(it -> it.getName().startsWith("svid-s")));
     }
 
+    /** Each connection of the looks at several servers ends too. */
+    @Test
+    public void noConnectionOfAStoreStays() throws Exception {
+        List<Connection> made = new CopyOnWriteArrayList<>();
+        Driver its = DriverManager.getDriver(url);
+        Driver driver = new org.postgresql.Driver() {
+            @Override
+            public Connection connect(String address, Properties with) throws SQLException {
+                Connection one = super.connect(address, with);
+                made.add(one);
+                return one;
+            }
+        };
+        DriverManager.deregisterDriver(its);
+        DriverManager.registerDriver(driver);
+        try {
+            PostgresStore store = PostgresStore.at(url, url + "&ApplicationName=x").group(group()).open();
+            put(store, 1);
+            store.close();
+            Making.until(() -> Thread.getAllStackTraces().keySet().stream().noneMatch(it -> it.getName().startsWith("svid-s")));
+            assertTrue(made.size() > 2);
+            for (Connection it : made) {
+                assertTrue(it.isClosed());
+            }
+        } finally {
+            DriverManager.deregisterDriver(driver);
+            DriverManager.registerDriver(its);
+        }
+    }
+
+    /** A store that was away, and is away again, is worth another line. */
+    @Test
+    public void eachOutageIsLogged() throws Exception {
+        String group = group();
+        try (PostgresStore store = PostgresStore.at(url).group(group).open()) {
+            for (int n = 1; n < 3; n++) {
+                int outage = n;
+                put(store, n);
+                Making.until(() -> { // (a look hears of it, and goes well)
+                    withdrawn(group, 100 + outage);
+                    return known(store) == outage;
+                });
+                assertEquals("done", tell("kill"));
+                String away = "the group's store can't be looked at: ";
+                Making.until(() -> logger.lines.stream().filter(it -> it.contains(away)).count() >= outage);
+                assertEquals("done", tell("start"));
+            }
+        }
+    }
+
+    /** Another member withdraws the token of this claim. */
+    private static void withdrawn(String group, int n) {
+        try (PostgresMember other = member(group, url)) {
+            other.withdraw(claim(n).key(), claim(n).expiry(), Times.up() + 1000);
+        } catch (PostgresStore.Fault why) {
+            // (it is tried again)
+        }
+    }
+
     @Test
     public void aStoreThatIsNotThereYet() throws Exception {
         try (PostgresStore store = PostgresStore.at(url).group("later").open()) {
             assertEquals(Statements.IS_MISSING, assertThrows(PostgresStore.Fault.class, () -> store.put(List.of())).getMessage());
+            Making.until(() -> logger.has("the group's store can't be looked at: "));
             assertEquals("done", tell("schema later"));
             assertEquals(OWNER, put(store, 1).owner());
+            assertEquals("done", tell("TRUNCATE later.claim"));
+            Making.until(() -> logger.has("the epoch of the group's store has ended: "));
         }
+    }
+
+    /**
+     * What a server says reaches whoever runs the service: a commit that did not wait for standbys is no error for it, and is none here.
+     */
+    @Test
+    public void aServerThatWarnsOrFailsOrIsSlow() throws Exception {
+        String group = group();
+        try (PostgresStore store = PostgresStore.at(url).group(group).wait(Duration.ofSeconds(Making.PATIENCE)).open()) {
+            put(store, 1);
+            assertEquals("done", does(group, "RAISE WARNING 'what it says'"));
+            assertEquals("done", tell("CREATE TRIGGER does AFTER INSERT ON " + group + ".claim EXECUTE FUNCTION " + group + ".does()"));
+            Making.until(() -> faultOf(store).startsWith("the server warns: what it says"));
+            assertEquals("done", does(group, "RAISE EXCEPTION 'what it says'"));
+            Making.until(() -> faultOf(store).startsWith("ERROR: what it says"));
+            // (a call may take longer than to connect)
+            assertEquals("done", does(group, "PERFORM pg_sleep(" + (Statements.DIAL_WAIT / 1000 + 1) + ")"));
+            assertEquals(OWNER, put(store, 2).owner());
+        }
+    }
+
+    /** Lets the server do this with each claim that is put. */
+    private static String does(String group, String what) throws Exception {
+        return tell("CREATE OR REPLACE FUNCTION " + group + ".does() RETURNS trigger LANGUAGE plpgsql AS $$ BEGIN " + what
+                + "; RETURN NULL; END $$");
+    }
+
+    private static String faultOf(PostgresStore store) {
+        return assertThrows(PostgresStore.Fault.class, () -> store.put(List.of(claim(2)))).getMessage();
     }
 
     @Test
@@ -344,12 +455,112 @@ public class PostgresTest {
     }
 
     @Test
+    public void termsAreThoseOfAValidatorByDefault() {
+        try (PostgresStore store = PostgresStore.at(url).open()) {
+            assertEquals(2000, store.wait);
+            assertEquals(store.wait, Options.audiences("ledger").waitMillis());
+        }
+    }
+
+    private static PostgresMember member(String group, String... urls) {
+        return new PostgresMember(List.of(urls), group, 1, new PostgresMember.Terms(3660, 120, 60));
+    }
+
+    /** Before it has looked at the store. */
+    @Test
+    public void theFirstCallOfAMemberMayBeAWithdrawal() throws Exception {
+        String group = group();
+        try (PostgresStore store = PostgresStore.at(url).group(group).open(); PostgresMember member = member(group, url)) {
+            put(store, 2); // (members have compared by then)
+            assertEquals(Owner.WITHDRAWN, member.withdraw(claim(1).key(), claim(1).expiry(), Times.up() + 1000 * Making.PATIENCE));
+            Making.until(() -> put(store, 1).owner().equals(Owner.WITHDRAWN));
+        }
+    }
+
+    /** Servers that nobody can look at are waited for in time, and however often they are asked for, each has one thread that looks. */
+    @Test
+    public void serversThatNobodyCanLookAt() throws Exception {
+        CountDownLatch ends = new CountDownLatch(1);
+        Driver driver = new org.postgresql.Driver() {
+            @Override
+            public Connection connect(String address, Properties with) {
+                Making.await(ends);
+                return null;
+            }
+        };
+        DriverManager.registerDriver(driver); // (it is asked after PostgreSQL's, which finds no server)
+        List<String> why = new ArrayList<>();
+        try (PostgresMember member = member("svid", "jdbc:postgresql://127.0.0.1:1/d", "jdbc:postgresql://127.0.0.1:2/d")) {
+            Thread thread = new Thread(() -> {
+                for (int n = 0; n < 3; n++) {
+                    why.add(member.put(List.of(claim(1)), Times.up() + 50).get(0).fault().getMessage());
+                }
+            });
+            thread.setDaemon(true);
+            thread.start();
+            thread.join(1000 * Making.PATIENCE);
+            assertEquals(List.of(Statements.IS_SILENT, Statements.IS_SILENT, Statements.IS_SILENT), why);
+            assertEquals(2, Thread.getAllStackTraces().keySet().stream().filter(it -> it.getName().equals("svid-server")).count());
+        } finally {
+            ends.countDown();
+            DriverManager.deregisterDriver(driver);
+        }
+    }
+
+    @Test
     public void whatIsNoStore() {
         for (PostgresStore.Settings it : List.of(PostgresStore.at(), PostgresStore.at("redis://u:secret@h"),
-                     PostgresStore.at("jdbc:postgresql://secret,h2/d"), PostgresStore.at(url).group("a\"b"),
+                     PostgresStore.at("jdbc:postgresql://secret,h2/d"), PostgresStore.at("jdbc:postgresql://u:secret@h/d"),
+                     PostgresStore.at("jdbc:postgresql://secret@h/d"), PostgresStore.at("jdbc:postgresql://h:port/d?password=secret"),
+                     PostgresStore.at("jdbc:postgresql://h:99999/d?password=secret"),
+                     PostgresStore.at("jdbc:postgresql://h?password=secret"), PostgresStore.at("jdbc:postgresql://h/d/e?password=secret"),
+                     PostgresStore.at("jdbc:postgresql://h/%zz?password=secret"),
+                     PostgresStore.at("jdbc:postgresql://h/d?password=secret%"), PostgresStore.at(url).group("a\"b"),
                      PostgresStore.at(url).group("pg_x"), PostgresStore.at(url).group("x".repeat(64)), PostgresStore.at(url).replicas(0),
                      PostgresStore.at(url).wait(Duration.ZERO))) {
             assertFalse(assertThrows(IllegalArgumentException.class, it::open).getMessage().contains("secret"));
+        }
+    }
+
+    /** Nobody says what is in an address that the driver does not take, and its user has one line about it. */
+    @Test
+    public void anAddressThatNoDriverTakesIsNotSaid() throws Exception {
+        Said all = new Said("org.postgresql");
+        all.before();
+        String it = "jdbc:postgresql://h/d?password=secret&port=none";
+        try (PostgresStore store = PostgresStore.at(it).open()) {
+            StringWriter thrown = new StringWriter();
+            assertThrows(PostgresStore.Fault.class, () -> store.put(List.of())).printStackTrace(new PrintWriter(thrown));
+            Making.until(() -> logger.has("no driver takes address 1: "));
+            assertFalse(thrown + " " + logger.lines + all.lines, (thrown + " " + logger.lines + all.lines).contains("secret"));
+        } finally {
+            all.after();
+        }
+        for (String taken : List.of("jdbc:postgresql:d", "jdbc:postgresql:d?user=u&password=a%25%26", "jdbc:postgresql://[::1]:5432/d",
+                     "jdbc:postgresql:///d", "jdbc:postgresql://h/",
+                     "jdbc:postgresql://127.0.0.1:65000/%C3%A4?password="
+                             + "x".repeat(9000))) {
+            PostgresStore.at(taken).open().close();
+        }
+    }
+
+    /** An error of the driver, as where there is no memory, does not end the looks at a store. */
+    @Test
+    public void anErrorOfTheDriverEndsNoLook() throws Exception {
+        Map<String, Integer> calls = new ConcurrentHashMap<>();
+        Driver driver = new org.postgresql.Driver() {
+            @Override
+            public Connection connect(String address, Properties with) {
+                calls.merge(address, 1, Integer::sum);
+                throw new OutOfMemoryError("there is none");
+            }
+        };
+        DriverManager.registerDriver(driver); // (it is asked after PostgreSQL's, which finds no server)
+        String[] urls = {"jdbc:postgresql://127.0.0.1:1/d", "jdbc:postgresql://127.0.0.1:2/d", "jdbc:postgresql://127.0.0.1:3/d"};
+        try (PostgresStore one = PostgresStore.at(urls[0]).open(); PostgresStore two = PostgresStore.at(urls[1], urls[2]).open()) {
+            Making.until(() -> Stream.of(urls).allMatch(it -> calls.getOrDefault(it, 0) > 2));
+        } finally {
+            DriverManager.deregisterDriver(driver);
         }
     }
 }

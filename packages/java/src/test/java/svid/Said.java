@@ -9,15 +9,18 @@ import java.util.logging.LogRecord;
 import java.util.logging.Logger;
 import org.junit.rules.ExternalResource;
 
-/** What the logger "svid" says in a test of bundles that follow. After it, no thread of a validator may stay. */
+/** What the logger "svid" says in a test of bundles that follow. Its handler fails each time, and no thread stays of a validator. */
 final class Said extends ExternalResource {
-    private static final Logger LOGGER = Logger.getLogger("svid");
-
+    private final boolean isOwn;
+    private final Logger logger; // (it is held, or a logger is forgotten with its handlers)
     final List<String> lines = new CopyOnWriteArrayList<>();
     private final Handler handler = new Handler() {
         @Override
         public void publish(LogRecord line) {
             lines.add(line.getMessage());
+            if (isOwn) {
+                throw new IllegalStateException("a handler of a log may fail");
+            }
         }
 
         @Override
@@ -27,14 +30,23 @@ final class Said extends ExternalResource {
         public void close() {}
     };
 
+    Said() {
+        this("svid");
+    }
+
+    Said(String name) {
+        logger = Logger.getLogger(name);
+        isOwn = name.equals("svid");
+    }
+
     @Override
     protected void before() {
-        LOGGER.addHandler(handler);
+        logger.addHandler(handler);
     }
 
     @Override
     protected void after() {
-        LOGGER.removeHandler(handler);
+        logger.removeHandler(handler);
         try {
             until(() -> threads() == 0);
         } catch (Exception why) {

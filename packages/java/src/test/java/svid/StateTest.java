@@ -13,6 +13,7 @@ import static svid.Making.until;
 import com.google.gson.JsonObject;
 import com.sun.jna.Pointer;
 import java.io.IOException;
+import java.io.RandomAccessFile;
 import java.io.UncheckedIOException;
 import java.nio.ByteBuffer;
 import java.nio.file.Files;
@@ -48,6 +49,7 @@ public class StateTest {
     private static final int USES = 8;
 
     @Rule public final TemporaryFolder temporary = new TemporaryFolder();
+    @Rule public final Said logger = new Said();
 
     private Path room() {
         return temporary.getRoot().toPath().toAbsolutePath();
@@ -186,9 +188,9 @@ public class StateTest {
         try (Validator validator = validator(folder)) {
             SvidException.Held held = assertThrows(SvidException.Held.class, () -> validator(folder));
             assertTrue(held.getMessage(), held.getMessage().contains("process " + ProcessHandle.current().pid() + " since 20"));
-            assertNotEquals(0, new ProcessBuilder(ask).start().waitFor());
+            assertNotEquals(0, Making.ended(new ProcessBuilder(ask).start()));
         }
-        assertEquals(0, new ProcessBuilder(ask).start().waitFor());
+        assertEquals(0, Making.ended(new ProcessBuilder(ask).start()));
         // (one that is not opened lets go of it at once)
         assertThrows(SvidException.BadBundles.class, () -> Validator.open(Vectors.ledger().state(folder), "[]"));
         validator(folder).close();
@@ -202,7 +204,7 @@ public class StateTest {
             }
         });
         other.getOutputStream().close();
-        other.waitFor();
+        Making.ended(other);
         validator(folder).close();
     }
 
@@ -282,6 +284,23 @@ public class StateTest {
         assertFalse(names(folder).contains("journal.1"));
     }
 
+    /** Requests let one be taken. */
+    @Test
+    public void aValidatorTakesSnapshotsByItself() throws Exception {
+        Path folder = room().resolve("state");
+        try (Journal journal = open(folder)) {
+            Member member = new Member(Vectors.ledger(), Making.bundles().getBytes(), journal);
+            member.begin(BEGUN);
+            assertTrue(names(folder).toString(), names(folder).contains("journal.2"));
+            for (int n = 0; n < 4; n++) {
+                append(journal, concatenated(2_200_000));
+            }
+            member.check(token().getBytes(), () -> BEGUN, null);
+            until(() -> names(folder).contains("journal.3") && !names(folder).contains("journal.2"));
+            member.close();
+        }
+    }
+
     /** After a snapshot none is due, however long the journals before it were. After one that failed none is due for a while. */
     @Test
     public void whenASnapshotIsDue() throws Exception {
@@ -300,6 +319,9 @@ public class StateTest {
                 }
             };
             assertThrows(IOException.class, () -> journal.snapshot(sink -> sink.take(use(1))));
+            assertFalse(journal.wantsSnapshot());
+            journal.snapshotSoon(sink -> sink.take(use(1)));
+            until(() -> logger.has("the snapshot stays as it is: java.io.IOException: no space left"));
             assertFalse(journal.wantsSnapshot());
             assertFalse(names(folder).toString(), names(folder).contains("snapshot.new"));
             disk.before = name -> {};
@@ -331,11 +353,12 @@ public class StateTest {
             });
             assertEquals(null, told.get(PATIENCE, TimeUnit.SECONDS));
             append(journal, use(2));
+            journal.keep(use(4), why -> { throw new OutOfMemoryError("a listener may lack memory"); });
             assertThrows(
                     IllegalStateException.class, () -> journal.snapshot(sink -> { throw new IllegalStateException("a part may fail"); }));
             append(journal, use(3));
         }
-        assertEquals(Set.of(1, 2, 3), found(folder));
+        assertEquals(Set.of(1, 2, 3, 4), found(folder));
     }
 
     /** A start that fails leaves no lock: the next one fails for the same reason, or goes well. */
@@ -400,6 +423,52 @@ public class StateTest {
         }
         Path file = Files.createFile(room().resolve("file"));
         assertThrows(IOException.class, () -> open(file));
+        // (a part of it alone would lose what stands after that)
+        Path folder = Files.createDirectory(room().resolve("long"));
+        try (RandomAccessFile sparse = new RandomAccessFile(folder.resolve("journal.1").toFile(), "rw")) {
+            sparse.setLength(1L << 31);
+        }
+        IOException why = assertThrows(IOException.class, () -> open(folder));
+        assertTrue(why.getMessage(), why.getMessage().contains("journal.1: it has more than 2147483639 bytes"));
+    }
+
+    /** Who can't sync the folder above has not made this one, so a start goes on. After another fault the name of this one may not last. */
+    @Test
+    public void aFolderAboveThatHasNoSync() throws Exception {
+        Disk real = new Disk();
+        int above = real.openFolder(Path.of("/proc"));
+        Disk.Failure none = assertThrows(Disk.Failure.class, () -> real.sync(above));
+        Disk.close(above);
+        assertEquals(Disk.EINVAL, none.number);
+        assertTrue(none.getMessage(), none.getMessage().contains("Invalid argument"));
+        Fickle disk = new Fickle();
+        for (int number : List.of(Disk.EINVAL, Disk.EACCES, Disk.EPERM, Disk.EINTR)) {
+            Path folder = Files.createDirectory(room().resolve("state" + number));
+            disk.before = name -> {
+                if (name.equals("sync")) {
+                    disk.before = later -> {};
+                    throw new Disk.Failure("above", number);
+                }
+            };
+            if (number == Disk.EINTR) {
+                IOException why = assertThrows(IOException.class, () -> new Journal(folder, disk));
+                assertTrue(why.getMessage(), why.getMessage().contains("may not last"));
+                assertFalse(names(folder).contains("place"));
+                continue;
+            }
+            try (Journal journal = new Journal(folder, disk)) {
+                append(journal, use(1));
+            }
+            assertEquals(Set.of(1), found(folder));
+        }
+        // (a folder that was made here, and can't be removed again)
+        disk.before = name -> {
+            if (name.equals("sync") || name.equals("remove")) {
+                throw new IOException("no disk");
+            }
+        };
+        IOException why = assertThrows(IOException.class, () -> new Journal(room().resolve("state"), disk));
+        assertTrue(why.getMessage(), why.getMessage().contains("may not last (no disk)"));
     }
 
     @Test
@@ -528,6 +597,9 @@ public class StateTest {
                     assertThrows(SvidException.Unavailable.class, () -> member.check(late.getBytes(), () -> BEGUN, null));
             assertTrue(why.getMessage(), why.getMessage().contains("no space left"));
             assertNotEquals(null, member.unready(BEGUN));
+            Says gone = Says.of(token());
+            member.heard(new Store.Withdrawal(gone.key(), gone.expiry()));
+            until(() -> logger.has("a withdrawal is not kept"));
             disk.before = name -> {};
             until(() -> member.unready(BEGUN) == null);
             member.check(token().getBytes(), () -> BEGUN, null);
@@ -561,6 +633,95 @@ public class StateTest {
         }
     }
 
+    /** Messages for which a write has no memory are not kept, and whoever gave them hears that. The next ones are. */
+    @Test
+    public void wantOfMemoryForTheMessagesOfAWrite() throws Exception {
+        Fickle disk = new Fickle();
+        CountDownLatch hangs = new CountDownLatch(1);
+        CountDownLatch open = new CountDownLatch(1);
+        Path folder = room().resolve("state");
+        try (Journal journal = new Journal(folder, disk)) {
+            disk.before = name -> {
+                hangs.countDown();
+                Making.await(open);
+            };
+            CompletableFuture<Exception> first = new CompletableFuture<>();
+            CompletableFuture<Exception> told = new CompletableFuture<>();
+            journal.keep(use(1), first::complete);
+            Making.await(hangs);
+            journal.keep(use(2), told::complete);
+            journal.commit.len = Integer.MAX_VALUE; // (no array has as many bytes)
+            open.countDown();
+            assertEquals(null, first.get(PATIENCE, TimeUnit.SECONDS));
+            Exception why = told.get(PATIENCE, TimeUnit.SECONDS);
+            assertTrue(String.valueOf(why), why instanceof SvidException.OutOfMemory);
+            append(journal, use(3));
+        }
+        assertEquals(Set.of(1, 3), found(folder));
+    }
+
+    /** What an earlier snapshot left neither hinders the next one nor gets into it. It may not have been removed, where the disk failed. */
+    @Test
+    public void whatAnEarlierSnapshotLeft() throws Exception {
+        Path folder = room().resolve("state");
+        try (Journal journal = open(folder)) {
+            append(journal, use(1));
+            Files.writeString(folder.resolve("snapshot.new"), "left".repeat(1000));
+            journal.snapshot(sink -> sink.take(use(1)));
+            append(journal, use(2));
+        }
+        assertFalse(names(folder).toString(), names(folder).contains("snapshot.new"));
+        assertEquals(Set.of(1, 2), found(folder));
+    }
+
+    /** Where there is no memory to say what failed, a check ends all the same, and a close lets go of the folder. */
+    @Test
+    public void wantOfMemoryAsAWriteFails() throws Exception {
+        Fickle disk = new Fickle();
+        Journal journal = new Journal(room().resolve("state"), disk);
+        Member member = new Member(Vectors.ledger().wait(Duration.ofSeconds(PATIENCE)), Making.bundles().getBytes(), journal);
+        member.begin(BEGUN);
+        disk.before = name -> {
+            throw new Error() {
+                private static final long serialVersionUID = 1;
+
+                @Override
+                public String toString() {
+                    throw new OutOfMemoryError("there is none");
+                }
+            };
+        };
+        SvidException.Unavailable why =
+                assertThrows(SvidException.Unavailable.class, () -> member.check(token().getBytes(), () -> BEGUN, null));
+        assertTrue(why.getMessage(), why.getCause() instanceof SvidException.OutOfMemory);
+        disk.before = name -> {};
+        member.close();
+        open(room().resolve("state")).close();
+    }
+
+    /** Whoever closes it waits for what is under way, and still knows of an interrupt. */
+    @Test
+    public void anInterruptOfAClose() throws Exception {
+        Fickle disk = new Fickle();
+        CountDownLatch open = new CountDownLatch(1);
+        Journal journal = new Journal(room().resolve("state"), disk);
+        disk.before = name -> Making.await(open);
+        CompletableFuture<Exception> told = new CompletableFuture<>();
+        journal.keep(use(1), told::complete);
+        CompletableFuture<Boolean> isInterrupted = new CompletableFuture<>();
+        Thread closes = new Thread(() -> {
+            Thread.currentThread().interrupt();
+            journal.close();
+            isInterrupted.complete(Thread.interrupted());
+        });
+        closes.start();
+        until(() -> closes.getState() == Thread.State.WAITING);
+        open.countDown();
+        assertTrue(isInterrupted.get(PATIENCE, TimeUnit.SECONDS));
+        assertEquals(null, told.get(PATIENCE, TimeUnit.SECONDS));
+        assertEquals(Set.of(1), found(room().resolve("state")));
+    }
+
     @Test
     public void threadsShareASync() throws Exception {
         Fickle disk = new Fickle();
@@ -591,6 +752,7 @@ public class StateTest {
         Fickle disk = new Fickle();
         CountDownLatch open = new CountDownLatch(1);
         try (Journal journal = new Journal(room().resolve("state"), disk)) {
+            append(journal, new byte[(int) Library.PAYLOAD_MOST]); // (one write takes so much)
             disk.before = name -> Making.await(open);
             List<Exception> told = new CopyOnWriteArrayList<>();
             byte[] much = concatenated(8_000_000);
@@ -612,6 +774,33 @@ public class StateTest {
         }
         byte[] id = Vectors.bytes(identified(folder), "id");
         assertEquals(2, marks(folder, id));
+    }
+
+    /** So does a journal that another one follows: damage of its last use is seen. It may stay, where the power fails meanwhile. */
+    @Test
+    public void aMarkStandsBehindAJournalThatAnotherOneFollows() throws Exception {
+        long took = Long.MAX_VALUE;
+        // (a mark that comes by itself, a second later, says nothing of this one)
+        for (int again = 0; took >= 900; again++) {
+            Path folder = room().resolve("state " + again);
+            Path copy = room().resolve("copy " + again);
+            long begun = Times.up();
+            try (Journal journal = open(folder)) {
+                append(journal, use(1));
+                journal.snapshot(sink -> {
+                    Files.createDirectory(copy);
+                    for (String name : names(folder)) {
+                        Files.copy(folder.resolve(name), copy.resolve(name));
+                    }
+                    sink.take(use(1));
+                });
+            }
+            took = Times.up() - begun;
+            byte[] content = Files.readAllBytes(copy.resolve("journal.1"));
+            content[60] ^= 1;
+            Files.write(copy.resolve("journal.1"), content);
+            assertThrows(SvidException.BadFolder.class, () -> open(copy));
+        }
     }
 
     private static JsonObject identified(Path folder) throws IOException {

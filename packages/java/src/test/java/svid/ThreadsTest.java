@@ -74,13 +74,13 @@ public class ThreadsTest {
         List<Future<T>> futures = new ArrayList<>();
         for (int n = 0; n < THREADS; n++) {
             futures.add(pool.submit(() -> {
-                begun.await();
+                begun.await(Making.PATIENCE, TimeUnit.SECONDS);
                 return each.call();
             }));
         }
         List<T> answers = new ArrayList<>();
         for (Future<T> it : futures) {
-            answers.add(it.get());
+            answers.add(Making.given("a thread", it));
         }
         return answers;
     }
@@ -132,7 +132,7 @@ public class ThreadsTest {
                 }
                 assertEquals("/billing/api", answer);
             }
-            renews.get();
+            Making.given("the end of the renewals", renews);
         }
     }
 
@@ -153,7 +153,7 @@ public class ThreadsTest {
         }
     }
 
-    private static final class Verifying extends Signature {
+    static class Verifying extends Signature {
         private final Signature other;
         private final Supplier<Boolean> deed;
 
@@ -185,13 +185,13 @@ public class ThreadsTest {
         }
 
         @Override
-        protected void engineInitSign(PrivateKey key) {
-            throw new UnsupportedOperationException();
+        protected void engineInitSign(PrivateKey key) throws InvalidKeyException {
+            other.initSign(key);
         }
 
         @Override
-        protected byte[] engineSign() {
-            throw new UnsupportedOperationException();
+        protected byte[] engineSign() throws SignatureException {
+            return other.sign();
         }
 
         @Override
@@ -251,7 +251,7 @@ public class ThreadsTest {
             List<String> answers = all(() -> {
                 int own = number.getAndIncrement();
                 if (own == 0) {
-                    called.await();
+                    Making.await(called);
                     validator.close();
                     return checked(validator, token);
                 }
@@ -292,14 +292,13 @@ public class ThreadsTest {
     }
 
     /** Waits until a thread waits for this lock. It must not end before. (On its way it may wait for other locks, as that of a class.) */
-    private static void waits(Thread thread, Object lock) {
-        LockInfo wanted = null;
-        while (wanted == null || wanted.getIdentityHashCode() != System.identityHashCode(lock)) {
+    private static void waits(Thread thread, Object lock) throws Exception {
+        Making.until(() -> {
             assertNotEquals("it did not wait", Thread.State.TERMINATED, thread.getState());
-            Thread.onSpinWait();
             ThreadInfo info = ManagementFactory.getThreadMXBean().getThreadInfo(thread.getId());
-            wanted = info == null ? null : info.getLockInfo();
-        }
+            LockInfo wanted = info == null ? null : info.getLockInfo();
+            return wanted != null && wanted.getIdentityHashCode() == System.identityHashCode(lock);
+        });
     }
 
     /** A thread that closes waits for another one that began to, and for a call that is under way. */
@@ -315,7 +314,7 @@ public class ThreadsTest {
             assertEquals(0, validator.size().uses());
         }
         for (Thread it : closing) {
-            it.join();
+            Making.joined(it);
         }
         assertThrows(SvidException.Closed.class, validator::size);
     }
@@ -340,7 +339,7 @@ public class ThreadsTest {
                     thread.start();
                     waits(thread, lockOf(validator));
                 }
-                thread.join();
+                Making.joined(thread);
             }
         }
     }
@@ -352,11 +351,7 @@ public class ThreadsTest {
         CountDownLatch isHeld = new CountDownLatch(1);
         Provider provider = new Meanwhile(() -> {
             verifies.countDown();
-            try {
-                isHeld.await();
-            } catch (InterruptedException why) {
-                throw new AssertionError(why);
-            }
+            Making.await(isHeld);
             return null;
         });
         Security.insertProviderAt(provider, 1);
@@ -364,13 +359,13 @@ public class ThreadsTest {
             List<String> answers = new ArrayList<>();
             Thread thread = new Thread(() -> answers.add(checked(validator, tokens().get(0))));
             thread.start();
-            verifies.await();
+            Making.await(verifies);
             synchronized (lockOf(validator)) {
                 isHeld.countDown();
                 waits(thread, lockOf(validator));
                 assertEquals(0, validator.size().uses());
             }
-            thread.join();
+            Making.joined(thread);
             assertEquals(List.of("accepted"), answers);
         } finally {
             Security.removeProvider(provider.getName());
@@ -477,7 +472,7 @@ public class ThreadsTest {
                 all.add(threads.submit(others));
             }
             for (Future<?> it : all) {
-                it.get();
+                Making.given("a thread", it);
             }
         } finally {
             threads.shutdownNow();

@@ -28,10 +28,13 @@ import java.util.HexFormat;
 import java.util.List;
 import java.util.Map;
 import java.util.TreeMap;
+import org.junit.Rule;
 import org.junit.Test;
 
 /** The vectors, which say where their answers come from. */
 public class VectorsTest {
+    @Rule public final Said said = new Said();
+
     private static long now(JsonObject file) {
         return number(file.getAsJsonObject("setting"), "now");
     }
@@ -197,6 +200,10 @@ public class VectorsTest {
                         String uses = "(?m)^(moment|uses) .*\n";
                         assertEquals(same.report().replaceAll(uses, ""), validator.report().replaceAll(uses, ""));
                     }
+                    boolean isTorn = of(it, "name").equals("a journal that is torn");
+                    String line = "a crash cut off a write at the end of " + folder.resolve("journal.1") + ": nobody had an answer";
+                    assertEquals(isTorn ? List.of(line) : List.of(), said.lines);
+                    said.lines.clear();
                     return;
                 }
                 SvidException.BadFolder why = assertThrows(SvidException.BadFolder.class, () -> Validator.open(options, "{}").close());

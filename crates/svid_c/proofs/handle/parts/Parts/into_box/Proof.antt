@@ -36,7 +36,7 @@ use Rattle.svid_c.specs.contracts.handle.parts.Parts.into_box.Key.{name as self_
 use Rattle.svid_c.proofs.handle.parts.Parts.into_box.Statement as stated
 use Rattle.svid_c.proofs.handle.parts.Parts.into_box.Code as code
 
--- what is left to run behind the call
+-- what is left to run after the call
 abbrev answers : Body
 answers = seq (assign (place 0 []) (rv_opd (copy (place 4 [])))) return
 

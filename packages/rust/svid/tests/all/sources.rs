@@ -1,13 +1,12 @@
 //! Trust bundles that follow files and folders.
 #![cfg(feature = "testing")]
 
-mod common;
-
 use std::fs;
 use std::path::Path;
-use std::time::{Duration, Instant};
+use std::sync::Mutex;
+use std::time::Duration;
 
-use common::*;
+use crate::common::*;
 use svid::testing::Issuer;
 use svid::{Error, Guard, OpenSsl, Options, OptionsFault, Refusal, SourceFault, Sources};
 
@@ -35,13 +34,13 @@ fn a_file_is_followed() {
     write(&path, issuer.bundle());
     let guard = opened(&heard.options(), Sources::new().file("example.org", &path));
     assert_eq!((check(&guard, &issuer), guard.unready()), (Ok(()), None));
-    issuer.rotate();
-    assert_eq!(check(&guard, &issuer), refused(Refusal::NoKey));
-    write(&path, issuer.bundle());
-    let changed = Instant::now();
-    until("the new key", || check(&guard, &issuer).is_ok());
-    // (two seconds, and what a busy machine takes beside)
-    assert!(changed.elapsed() < Duration::from_secs(2) + patience() / 20, "{:?}", changed.elapsed());
+    // (it is looked at each second)
+    until_within(Duration::from_secs(3), "a new key within two seconds", || {
+        issuer.rotate();
+        assert_eq!(check(&guard, &issuer), refused(Refusal::NoKey));
+        write(&path, issuer.bundle());
+        until("the new key", || check(&guard, &issuer).is_ok());
+    });
     assert!(heard.all().is_empty(), "{:?}", heard.all());
 }
 
@@ -140,6 +139,21 @@ fn a_folder_is_followed() {
     fs::rename(&away, &room.0).expect("it is there");
 }
 
+/// A bundle whose file is gone is trusted no more, whatever bytes the name of its folder has.
+#[test]
+fn a_folder_whose_name_is_no_text() {
+    let (room, [stays, goes]) = (Room::new("bytes"), ["stays.example", "goes.example"].map(Issuer::new));
+    let folder = room.0.join(<std::ffi::OsStr as std::os::unix::ffi::OsStrExt>::from_bytes(b"f\xff"));
+    fs::create_dir(&folder).expect("nothing is there");
+    write(&folder.join("stays.example.json"), stays.bundle());
+    write(&folder.join("goes.example.json"), goes.bundle());
+    let guard = opened(&ledger(), Sources::new().folder(&folder));
+    assert_eq!((check(&guard, &stays), check(&guard, &goes)), (Ok(()), Ok(())));
+    fs::remove_file(folder.join("goes.example.json")).expect("it is there");
+    until("the end of the bundle", || check(&guard, &goes) == refused(Refusal::UnknownDomain));
+    assert_eq!(check(&guard, &stays), Ok(()));
+}
+
 /// Other sources take the place of all before, and faulty ones change nothing.
 #[test]
 fn a_guard_follows_other_sources() {
@@ -160,6 +174,88 @@ fn a_guard_follows_other_sources() {
     write(&path("new"), stays.bundle());
     until("the new key", || check(&guard, &stays).is_ok());
     assert_eq!(heard.count(&format!("{}: ", path("stays").display())), 0, "nobody reads it any more");
+    // Where the others have nothing yet, nothing of those before is trusted.
+    guard.follow(Sources::new().file("later.example", path("later"))).expect("it can be followed");
+    assert!(matches!(check(&guard, &stays), Err(Error::Unavailable(_))), "it may come, so a good token is not refused");
+}
+
+/// Without any bundle no token is refused, as that is not its fault, and no more are to come.
+#[test]
+fn a_folder_that_gets_empty() {
+    let (room, issuer) = (Room::new("empty"), Issuer::new("example.org"));
+    let file = room.0.join("example.org.json");
+    write(&file, issuer.bundle());
+    let guard = opened(&ledger(), Sources::new().folder(&room.0));
+    assert_eq!((check(&guard, &issuer), guard.unready()), (Ok(()), None));
+    fs::remove_file(&file).expect("it is there");
+    let why = std::cell::RefCell::new(None);
+    until("the end of the bundle", || {
+        *why.borrow_mut() = check(&guard, &issuer).err();
+        why.borrow().is_some()
+    });
+    assert!(matches!(*why.borrow(), Some(Error::Unavailable(_))), "{why:?}");
+    assert_eq!(guard.unready().expect("no bundle is there").to_string(), "there is no trust bundle");
+    write(&file, issuer.bundle());
+    until("the bundle", || check(&guard, &issuer).is_ok());
+    assert_eq!(guard.unready(), None);
+}
+
+/// A token whose bundle was not read yet is not refused, though another one was; its client hears why.
+#[test]
+fn a_bundle_that_comes_later_than_another() {
+    let (room, [one, later, stranger]) = (Room::new("later-than"), ["one.example", "later.example", "stranger.example"].map(Issuer::new));
+    let path = room.0.join("later");
+    let sources = Sources::new().bundle("one.example", one.bundle()).file("later.example", &path);
+    let guard = opened(&ledger(), sources);
+    assert_eq!((check(&guard, &one), check(&guard, &stranger), guard.unready()), (Ok(()), refused(Refusal::UnknownDomain), None));
+    let token = later.token("/web", "ledger");
+    assert_eq!(guard.judge(&token).unwrap_err().to_string(), "the bundle of the token's trust domain was not read yet");
+    let denied = guard.admit([&format!("Bearer {token}")]).unwrap_err();
+    assert_eq!((denied.status(), denied.reason(), denied.retry_after()), (503, "NoBundle", Some(1)));
+    write(&path, later.bundle());
+    until("the bundle", || guard.check(&token).is_ok());
+}
+
+/// The lines of a log.
+struct Lines(Mutex<Vec<String>>);
+
+static LINES: Lines = Lines(Mutex::new(Vec::new()));
+
+impl log::Log for Lines {
+    fn enabled(&self, _: &log::Metadata<'_>) -> bool {
+        true
+    }
+
+    fn log(&self, record: &log::Record<'_>) {
+        self.0.lock().unwrap().push(format!("{} {}", record.level(), record.args()));
+        std::panic::panic_any("a logger may panic");
+    }
+
+    fn flush(&self) {}
+}
+
+/// What a service finds in it that has no hooks of its own. Its logger panics at each line, and ends nothing.
+#[test]
+fn the_log_of_a_service() {
+    if !is_alone() {
+        return alone("sources::the_log_of_a_service", |_| ());
+    }
+    log::set_logger(&LINES).expect("no other test has one");
+    log::set_max_level(log::LevelFilter::Info);
+    let has = |line: &str| until(line, || LINES.0.lock().unwrap().iter().any(|it| it.starts_with(line)));
+    let (room, issuer) = (Room::new("log"), Issuer::new("logged.example"));
+    let path = room.0.join("bundle.json");
+    let [one, other] = [(); 2].map(|()| opened(&ledger(), Sources::new().file("logged.example", &path)));
+    has(&format!("WARN a trust bundle is not read: {}: No such file", path.display()));
+    write(&path, issuer.bundle());
+    has(&format!("INFO the trust bundle is well again: {}", path.display()));
+    until("the bundle", || one.unready().or_else(|| other.unready()).is_none());
+    let token = issuer.token("/web", "ledger");
+    let [used, theirs] = [&one, &other].map(|it| *it.check(&token).expect("it is good").used());
+    assert!(one.check(&token).is_err());
+    has("INFO a token is not accepted: Replayed: ");
+    one.take(theirs.message().expect("it is live")).expect("it takes it");
+    has(&format!("WARN several guards accepted the token {}: ", used.key));
 }
 
 #[test]

@@ -1,18 +1,15 @@
 //! Trust bundles from a Workload API: that of `svidd dev`, one by gRPC's own library, and one of this test, which answers what no such server does.
 #![cfg(all(feature = "workload", feature = "testing"))]
 
-mod common;
-
 use std::collections::BTreeSet;
 use std::convert::Infallible;
-use std::io::{BufRead, BufReader, Write};
-use std::net::TcpListener;
+use std::io::Write;
 use std::os::unix::fs::DirBuilderExt;
 use std::os::unix::net::UnixListener;
-use std::process::{Child, ChildStdout, Command, Stdio};
-use std::time::{Duration, Instant};
+use std::process::{Command, Stdio};
+use std::time::Duration;
 
-use common::*;
+use crate::common::*;
 use hyper::server::conn::Http;
 use hyper::service::service_fn;
 use hyper::{Body, Request, Response};
@@ -42,8 +39,8 @@ fn keys(issuer: &Issuer) -> String {
 
 /// An agent by gRPC's own library (go/internal/agenttest/agent.py has the lines that it reads).
 struct Agent {
-    process: Child,
-    says: BufReader<ChildStdout>,
+    process: Process,
+    says: Lines,
     address: String,
     _room: Room,
 }
@@ -54,8 +51,8 @@ impl Agent {
         let socket = format!("unix:{}/agent.sock", room.0.display());
         let mut command = Command::new("/usr/bin/python3");
         command.arg(top().join("go/internal/agenttest/agent.py")).arg(listen.unwrap_or(&socket));
-        let mut process = command.stdin(Stdio::piped()).stdout(Stdio::piped()).spawn().expect("python3 is there");
-        let says = BufReader::new(process.stdout.take().expect("its output"));
+        let mut process = Process::begin(command.stdin(Stdio::piped()).stdout(Stdio::piped()));
+        let says = process.lines();
         let mut agent = Agent { process, says, address: socket, _room: room };
         let port = agent.line();
         if listen.is_some() {
@@ -65,14 +62,13 @@ impl Agent {
     }
 
     fn line(&mut self) -> usize {
-        let mut line = String::new();
-        self.says.read_line(&mut line).expect("it answers");
-        line.trim().parse().unwrap_or_else(|_| panic!("python3-grpcio is there, and no other line comes: {line:?}"))
+        let line = self.says.next("a line of the agent");
+        line.parse().unwrap_or_else(|_| panic!("python3-grpcio is there, and no other line comes: {line:?}"))
     }
 
     /// What it does from now on. How many streams there are.
     fn does(&mut self, what: Value) -> usize {
-        writeln!(self.process.stdin.as_ref().expect("its input"), "{what}").expect("it reads");
+        writeln!(self.process.0.stdin.as_ref().expect("its input"), "{what}").expect("it reads");
         self.line()
     }
 
@@ -86,49 +82,43 @@ impl Agent {
     }
 }
 
-impl Drop for Agent {
-    fn drop(&mut self) {
-        let _ = self.process.kill();
-        let _ = self.process.wait();
-    }
+/// The address of a port that nobody listens on. It stays held by a socket that does not listen, so the system gives it to nobody who asks for any
+/// port, and a server that names it can listen there.
+fn held_port() -> String {
+    let socket = tokio::net::TcpSocket::new_v4().expect("a socket");
+    socket.set_reuseaddr(true).and_then(|()| socket.bind(([127, 0, 0, 1], 0).into())).expect("a port");
+    let address = socket.local_addr().expect("it has one").to_string();
+    std::mem::forget(socket);
+    address
 }
 
 /// `svidd dev`, whose key changes each two seconds.
 struct Dev {
-    process: Child,
+    _process: Process,
     page: String,
 }
 
 impl Dev {
     fn start(room: &Room) -> Dev {
         // (it takes no port that the system chooses)
-        let ports = [(); 3].map(|()| TcpListener::bind("127.0.0.1:0").expect("a port"));
-        let [listen, page, endpoint] = ports.map(|it| it.local_addr().expect("an address").to_string());
+        let [listen, page, endpoint] = [(); 3].map(|()| held_port());
         let mut command = Command::new(room.0.join("svidd"));
         let keys = room.0.join("keys");
         std::fs::DirBuilder::new().mode(0o700).recursive(true).create(&keys).expect("a folder for keys");
         command.args(["dev", "--rotate", "2s", "--keys"]).arg(keys);
         command.args(["--listen", &listen, "--page", &page, "--endpoint", &endpoint]);
-        let process = command.stdout(Stdio::null()).stderr(Stdio::null()).spawn().expect("svidd is there");
-        Dev { process, page }
+        Dev { _process: Process::begin(command.stdout(Stdio::null()).stderr(Stdio::null())), page }
     }
 
     /// A token, once it gives one.
     fn mint(&self, room: &Room) -> String {
         let mut token = String::new();
         until("a token", || {
-            let ran = Command::new(room.0.join("svidd")).args(["mint", "--dev", &self.page]).output().expect("it runs");
+            let ran = output(Command::new(room.0.join("svidd")).args(["mint", "--dev", &self.page]));
             token = String::from_utf8_lossy(&ran.stdout).trim().to_owned();
             ran.status.success()
         });
         token
-    }
-}
-
-impl Drop for Dev {
-    fn drop(&mut self) {
-        let _ = self.process.kill();
-        let _ = self.process.wait();
     }
 }
 
@@ -147,22 +137,15 @@ fn svidd_dev() {
     for _ in 0..2 {
         let dev = Dev::start(&room);
         let mut signed = BTreeSet::new();
-        until("tokens by three keys", || {
-            last = dev.mint(&room);
-            let due = patience();
-            let begun = std::time::Instant::now();
-            // (the next key is in the bundle before it signs, once the agent was asked)
-            let accepted = loop {
-                match guard.check(&last) {
-                    Ok(accepted) => break accepted,
-                    Err(why) => assert!(signed.is_empty() && begun.elapsed() < due, "{why}: {:?}", heard.all()),
-                }
-                std::thread::sleep(std::time::Duration::from_millis(10));
-            };
-            signed.insert(accepted.key_id().to_owned());
+        // (the next key is in the bundle before it signs, once the agent was asked: a busy machine may be late for one)
+        until("tokens by three keys that are accepted at once", || {
+            signed.extend(guard.check(dev.mint(&room)).map(|it| it.key_id().to_owned()));
             signed.len() == 3
         });
-        last = dev.mint(&room);
+        until("a last token", || {
+            last = dev.mint(&room);
+            guard.judge(&last).is_ok()
+        });
     }
     assert_eq!(guard.check(&last).map(drop), Ok(()), "the agent is away, and the last bundles stay");
     until("a warning that it is away", || heard.all().len() >= 2);
@@ -237,14 +220,16 @@ fn an_agent_that_gives_nothing_is_asked_again() {
     agent.gives(&[("spiffe://example.org", &keys(&issuer)), ("spiffe://other.example", &long[..2 << 20])]);
     until("the new key", || check(&guard, &issuer).is_ok());
     assert_eq!((heard.count("other.example of"), heard.count("it has more than 1048576 bytes")), (1, 1), "{:?}", heard.all());
-    // (after a second again, and what a busy machine takes beside)
-    agent.ends("UNAVAILABLE");
-    until("a warning of the end", || heard.count("code 14") == 2);
-    let begun = Instant::now();
-    issuer.rotate();
-    agent.gives(&[("spiffe://example.org", &keys(&issuer))]);
-    until("another key", || check(&guard, &issuer).is_ok());
-    assert!(begun.elapsed() < Duration::from_secs(2) + patience() / 20, "{:?}", begun.elapsed());
+    // (after a second again, and not after four or more)
+    let mut ends = 1;
+    until_within(Duration::from_secs(3), "an agent that is asked again soon", || {
+        agent.ends("UNAVAILABLE");
+        ends += 1;
+        until("a warning of the end", || heard.count("code 14") == ends);
+        issuer.rotate();
+        agent.gives(&[("spiffe://example.org", &keys(&issuer))]);
+        until("another key", || check(&guard, &issuer).is_ok());
+    });
 }
 
 /// Another guard is asked by three calls meanwhile, in three seconds.
@@ -273,10 +258,11 @@ fn an_agent_that_is_silent() {
     let (guard, heard) = opened(Sources::new().workload_api(Some(&agent.address)));
     until("the bundle", || check(&guard, &issuer).is_ok());
     let silent = UnixListener::bind(room.0.join("agent.sock")).expect("it listens");
+    silent.set_nonblocking(true).expect("it can be");
     let (_guard, heard_too) = opened(Sources::new().workload_api(Some(&format!("unix:{}/agent.sock", room.0.display()))));
-    let (_held, _) = silent.accept().expect("it is asked");
+    let (_held, _) = accepted(|| silent.accept());
     until("a warning", || heard_too.count("it sends no bundles within 15 seconds") == 1);
-    silent.accept().expect("it is asked again");
+    accepted(|| silent.accept()); // (it is asked again)
     assert!(heard.all().is_empty(), "{:?}", heard.all());
     assert_eq!(agent.gives(&[("spiffe://example.org", &keys(&issuer))]), 1);
 }
@@ -385,16 +371,14 @@ fn addresses() {
 #[test]
 fn the_address_of_the_environment() {
     const NAME: &str = "SPIFFE_ENDPOINT_SOCKET";
-    if std::env::var_os("SVID_ASKED").is_some() {
+    if is_alone() {
         let is_there = std::env::var_os(NAME).is_some();
         assert_eq!(Guard::open(&ledger(), Sources::new().workload_api(None), ()).is_ok(), is_there);
         return;
     }
     for address in [None, Some("unix:///run/none.sock")] {
-        let mut own = Command::new(std::env::current_exe().expect("a test has a program"));
-        own.args(["--exact", "the_address_of_the_environment"]).env("SVID_ASKED", "1").env_remove(NAME);
-        let ran = own.envs(address.map(|it| (NAME, it))).output().expect("it runs");
-        let said = String::from_utf8_lossy(&ran.stdout).into_owned();
-        assert!(ran.status.success() && said.contains("1 passed"), "{said}");
+        alone("workload::the_address_of_the_environment", |own| {
+            own.env_remove(NAME).envs(address.map(|it| (NAME, it)));
+        });
     }
 }

@@ -1,10 +1,8 @@
 //! What an error says, in the words of lists/statuses.toml.
 
-mod common;
-
 use std::collections::HashMap;
 
-use common::*;
+use crate::common::*;
 use svid::{
     bearer_token, BearerFault, Error, Guard, JournalError, KeyError, KeyFault, MessageFault, MessagesError, Pattern, PatternError, Sources,
     SpiffeId, TokenKey, Use, ValidatorId,
@@ -62,6 +60,15 @@ fn fields(row: &str) -> HashMap<String, String> {
 /// Why bundles can't be read.
 fn unread(sources: impl Into<Sources>) -> Error {
     Guard::open(&ledger(), sources, ()).map(drop).unwrap_err()
+}
+
+/// Cargo refuses an older Rust by what the manifest says, and whoever chooses one reads README.
+#[test]
+fn the_manifest_names_the_rust_of_readme() {
+    let (manifest, readme) = (include_str!("../../Cargo.toml"), include_str!("../../../README.md"));
+    let named = manifest.lines().find_map(|it| Some(it.strip_prefix("rust-version = \"")?.trim_end_matches('"')));
+    let named = named.expect("the manifest names one");
+    assert!(readme.contains(&format!("It needs Rust {named}, and Linux")), "{named}");
 }
 
 #[test]

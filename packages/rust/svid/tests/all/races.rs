@@ -1,15 +1,13 @@
 //! Guards while their bundles are renewed, by threads that switch where a guard calls what is given to it: its clock, its verifier and its store.
 #![cfg(feature = "testing")]
 
-mod common;
-
 use std::cell::Cell;
 use std::sync::atomic::{AtomicBool, AtomicUsize, Ordering};
 use std::sync::Arc;
 use std::thread;
 use std::time::Duration;
 
-use common::*;
+use crate::common::*;
 use svid::testing::{Clock, Issuer, MemoryStore};
 use svid::{Candidate, Claim, Error, Found, Guard, Mode, OpenSsl, Options, Refusal, Store, StoreError, TokenKey, Unverified, Verify};
 
@@ -147,21 +145,27 @@ fn opened(options: &Options) -> Guard<Switching<OpenSsl>> {
 
 #[test]
 fn a_guard_that_is_renewed() {
-    let clock = Clock::new();
-    renewed(&clock, &[opened(&options(&clock))], 1);
+    returned("the end of all threads", || {
+        let clock = Clock::new();
+        renewed(&clock, &[opened(&options(&clock))], 1);
+    });
 }
 
 #[test]
 fn guards_of_one_store_that_are_renewed() {
-    let clock = Clock::new();
-    let store = MemoryStore::new().clock(clock.reader());
-    let strict = options(&clock).mode(Mode::Strict).store(Arc::new(Switching(store)));
-    renewed(&clock, &[opened(&strict), opened(&strict)], 1);
+    returned("the end of all threads", || {
+        let clock = Clock::new();
+        let store = MemoryStore::new().clock(clock.reader());
+        let strict = options(&clock).mode(Mode::Strict).store(Arc::new(Switching(store)));
+        renewed(&clock, &[opened(&strict), opened(&strict)], 1);
+    });
 }
 
 /// Without a store each of them accepts a token once.
 #[test]
 fn guards_alone_that_are_renewed() {
-    let clock = Clock::new();
-    renewed(&clock, &[opened(&options(&clock)), opened(&options(&clock))], 2);
+    returned("the end of all threads", || {
+        let clock = Clock::new();
+        renewed(&clock, &[opened(&options(&clock)), opened(&options(&clock))], 2);
+    });
 }

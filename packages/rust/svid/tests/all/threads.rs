@@ -1,12 +1,10 @@
 //! Threads that share a validator.
 #![cfg(any(feature = "openssl", feature = "ring"))]
 
-mod common;
-
 use std::sync::{Arc, Barrier, Mutex};
 use std::thread;
 
-use common::*;
+use crate::common::*;
 use serde_json::Value;
 use svid::{Error, Guard, Options, Refusal};
 
@@ -72,9 +70,9 @@ macro_rules! each {
         #[test]
         fn $name() {
             #[cfg(feature = "openssl")]
-            $of::<svid::OpenSsl>();
+            returned("the end of all threads", $of::<svid::OpenSsl>);
             #[cfg(feature = "ring")]
-            $of::<svid::Ring>();
+            returned("the end of all threads", $of::<svid::Ring>);
         }
     };
 }

@@ -1,8 +1,6 @@
-//! The vectors of tests/vectors/, which say where their answers come from. (Those of state folders are in tests/journal.rs.)
+//! The vectors of tests/vectors/, which say where their answers come from. (Those of state folders are in src/journal/tests.rs.)
 
-mod common;
-
-use common::*;
+use crate::common::*;
 use serde_json::Value;
 use svid::{bearer_token, Denied, Error, Guard, LogMember, LogPosition, LogStart, Pattern, PatternError, Sources, SpiffeId};
 

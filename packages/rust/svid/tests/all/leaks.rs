@@ -1,13 +1,10 @@
-//! What a thousand lives of guards leave: no thread, no descriptor, and no memory. (This is the one test of its process, which asks itself.)
+//! What a thousand lives of guards leave: no thread, no descriptor, and no memory. (This is the one test of its process.)
 #![cfg(feature = "testing")]
 
-mod common;
-
 use std::fs;
-use std::process::Command;
 use std::sync::Arc;
 
-use common::*;
+use crate::common::*;
 use svid::testing::{Clock, Issuer, MemoryStore, Wrong};
 use svid::{Caller, Error, Guard, Journal, LogMember, LogStart, Mode, OpenSsl, Refusal, Said, Sources};
 
@@ -120,14 +117,12 @@ impl World {
 
 #[test]
 fn lives_leave_nothing() {
-    if std::env::var_os("SVID_ASKED").is_none() {
+    if !is_alone() {
         // (what a thread keeps of its freed memory to use it again counts as held otherwise)
-        let mut own = Command::new(std::env::current_exe().expect("a test has a program"));
-        own.env("SVID_ASKED", "1").env("GLIBC_TUNABLES", "glibc.malloc.tcache_count=0:glibc.malloc.arena_max=1");
-        let ran = own.args(["--exact", "lives_leave_nothing", "--nocapture"]).output().expect("it runs");
-        let said = format!("{}{}", String::from_utf8_lossy(&ran.stdout), String::from_utf8_lossy(&ran.stderr));
-        assert!(ran.status.success() && said.contains("1 passed"), "{said}");
-        return;
+        let tunables = "glibc.malloc.tcache_count=0:glibc.malloc.arena_max=1";
+        return alone("leaks::lives_leave_nothing", |own| {
+            own.env("GLIBC_TUNABLES", tunables);
+        });
     }
     let (world, threads) = (World::new(), held()[0]);
     let mut last = [0; 3];

@@ -1,8 +1,6 @@
 //! Trust bundles from bundle endpoints, over TLS on the loopback.
 #![cfg(all(feature = "https", feature = "testing"))]
 
-mod common;
-
 use std::io::{Read, Write};
 use std::net::{TcpListener, TcpStream};
 use std::path::PathBuf;
@@ -10,7 +8,7 @@ use std::sync::{Arc, Mutex};
 use std::thread;
 use std::time::{Duration, Instant};
 
-use common::*;
+use crate::common::*;
 use openssl::asn1::Asn1Time;
 use openssl::bn::BigNum;
 use openssl::hash::MessageDigest;
@@ -35,6 +33,7 @@ struct Of {
     uris: Vec<&'static str>,
     is_authority: bool,
     may_sign: bool,
+    may_withdraw: bool,
     for_clients: bool,
 }
 
@@ -61,6 +60,9 @@ fn certified(of: &Of, by: Option<&Certified>) -> Certified {
     builder.append_extension(constraints.critical().build().unwrap()).unwrap();
     if of.is_authority || of.may_sign {
         builder.append_extension(KeyUsage::new().key_cert_sign().digital_signature().build().unwrap()).unwrap();
+    }
+    if of.may_withdraw {
+        builder.append_extension(KeyUsage::new().crl_sign().digital_signature().build().unwrap()).unwrap();
     }
     if of.for_clients {
         builder.append_extension(ExtendedKeyUsage::new().client_auth().build().unwrap()).unwrap();
@@ -247,7 +249,7 @@ fn an_answer_that_is_no_bundle() {
 /// The last good bundle stays. It is asked again soon, and then less and less often, until it answers.
 #[test]
 fn an_endpoint_that_fails_for_a_while() {
-    let (room, by, issuer) = (Room::new("fails"), authority(), Issuer::new("example.org"));
+    let (room, by, mut issuer) = (Room::new("fails"), authority(), Issuer::new("example.org"));
     let shows = certified(&Of { names: vec!["localhost"], ..Of::default() }, Some(&by));
     let none = "HTTP/1.1 500 None\r\ncontent-length: 0\r\n\r\n";
     let endpoint = Endpoint::begin(&shows, none);
@@ -255,14 +257,24 @@ fn an_endpoint_that_fails_for_a_while() {
     until("three questions", || endpoint.count() >= 3);
     endpoint.answers(hinted(&issuer));
     until("the bundle", || is_good(&guard, &issuer));
-    let count = endpoint.count();
-    endpoint.answers(none);
-    until("questions after that", || endpoint.count() > count + 1);
-    let times: Vec<Instant> = endpoint.asked.lock().unwrap().iter().map(|it| it.0).collect();
-    assert!(times[1] - times[0] >= Duration::from_secs(1) && times[2] - times[1] >= Duration::from_secs(2), "{times:?}");
-    // (a second, and what a busy machine takes beside)
-    assert!(times[count + 1] - times[count] < Duration::from_secs(2) + patience() / 20, "{times:?}");
-    assert_eq!((heard.all().len(), is_good(&guard, &issuer)), (2, true), "{:?}", heard.all());
+    let times = || -> Vec<Instant> { endpoint.asked.lock().unwrap().iter().map(|it| it.0).collect() };
+    let first = times();
+    assert!(first[1] - first[0] >= Duration::from_secs(1) && first[2] - first[1] >= Duration::from_secs(2), "{first:?}");
+    // After a good answer the first pause is one of a second again, and not of four or more. (A busy machine may take longer now and then.)
+    let mut warnings = 1;
+    until("a short pause", || {
+        endpoint.answers(none);
+        warnings += 1;
+        until("a warning", || heard.all().len() == warnings);
+        let count = endpoint.count();
+        until("another question", || endpoint.count() > count);
+        assert!(is_good(&guard, &issuer));
+        issuer.rotate();
+        endpoint.answers(hinted(&issuer));
+        until("the new key", || is_good(&guard, &issuer));
+        times()[count] - times()[count - 1] < Duration::from_secs(3)
+    });
+    assert_eq!(heard.all().len(), warnings, "{:?}", heard.all());
 }
 
 #[test]
@@ -285,9 +297,12 @@ fn server() -> Of {
     Of { uris: vec![SERVER], ..Of::default() }
 }
 
-/// The bundle of an issuer, with these X.509 authorities.
+/// The bundle of an issuer, with these X.509 authorities, and some that nobody can read.
 fn with(issuer: &Issuer, authorities: &[&Certified]) -> String {
     let mut bundle: serde_json::Value = serde_json::from_str(&issuer.bundle()).expect("it is JSON");
+    for unreadable in ["bm9uZQ==", "?"] {
+        bundle["keys"].as_array_mut().unwrap().push(serde_json::json!({"use": "x509-svid", "x5c": [unreadable]}));
+    }
     for it in authorities {
         let certificate = openssl::base64::encode_block(&it.certificate.to_der().unwrap());
         bundle["keys"].as_array_mut().unwrap().push(serde_json::json!({"use": "x509-svid", "x5c": [certificate]}));
@@ -346,6 +361,7 @@ fn a_certificate_that_is_not_that_of_the_server() {
         (Of { names: vec!["localhost"], ..Of::default() }, "not exactly one URI"),
         (Of { is_authority: true, ..server() }, "may sign others"),
         (Of { may_sign: true, ..server() }, "may sign others"),
+        (Of { may_withdraw: true, ..server() }, "may sign others"),
         (Of { for_clients: true, ..server() }, "certificate verify failed"),
     ];
     let bundle = good(&Issuer::new("example.org").bundle());
@@ -372,6 +388,8 @@ fn endpoints_that_are_none() {
         (web("localhost"), address),
         (web("https:///bundle"), address),
         (web("https://user@localhost/"), address),
+        (web("https://localhost:65536/"), address),
+        (web("https://localhost:/"), address),
         (Sources::new().https_web("A", "https://localhost/", None), SourceFault::Domain { number: 0 }),
         (spiffe("spiffe://host.example"), SourceFault::ServerId { number: 0 }),
         (spiffe("host.example/server"), SourceFault::ServerId { number: 0 }),

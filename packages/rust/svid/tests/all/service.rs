@@ -1,14 +1,12 @@
 //! The service that README.md shows, as its own process.
 #![cfg(all(feature = "http", feature = "testing"))]
 
-mod common;
-
-use std::io::{BufRead, BufReader, Read, Write};
+use std::io::{Read, Write};
 use std::net::TcpStream;
 use std::path::PathBuf;
-use std::process::{Child, Command, Stdio};
+use std::process::{Command, Stdio};
 
-use common::*;
+use crate::common::*;
 use svid::testing::{Issuer, Wrong};
 
 /// Where an example is.
@@ -18,7 +16,7 @@ fn example(name: &str) -> PathBuf {
 }
 
 struct Service {
-    process: Child,
+    _process: Process,
     address: String,
     bundle: PathBuf,
     _room: Room,
@@ -32,16 +30,17 @@ impl Service {
         std::fs::write(&bundle, issuer.bundle()).expect("it is written");
         let mut command = Command::new(example("hyper"));
         command.arg(&bundle).arg("127.0.0.1:0").stdout(Stdio::piped());
-        let mut process = command.spawn().expect("`cargo test` builds the examples");
-        let mut line = String::new();
-        BufReader::new(process.stdout.take().expect("its output")).read_line(&mut line).expect("a line");
-        let address = line.trim().strip_prefix("listening on ").expect("its address").to_owned();
-        Service { process, address, bundle, _room: room }
+        // (`cargo test` builds the examples)
+        let mut process = Process::begin(&mut command);
+        let line = process.lines().next("the address of the service");
+        let address = line.strip_prefix("listening on ").expect("its address").to_owned();
+        Service { _process: process, address, bundle, _room: room }
     }
 
     /// The status, the header WWW-Authenticate and the body of the answer to a request with these headers.
     fn ask(&self, headers: &str) -> (u16, Option<String>, String) {
         let mut stream = TcpStream::connect(&self.address).expect("it listens");
+        stream.set_read_timeout(Some(patience())).expect("it can be");
         write!(stream, "GET / HTTP/1.1\r\nHost: ledger\r\nConnection: close\r\n{headers}\r\n").expect("it reads");
         let mut text = String::new();
         stream.read_to_string(&mut text).expect("it answers");
@@ -51,13 +50,6 @@ impl Service {
         let challenge = field("www-authenticate: ");
         assert_eq!(field("cache-control: "), (status != 200).then_some("no-store"));
         (status, challenge.map(str::to_owned), body.to_owned())
-    }
-}
-
-impl Drop for Service {
-    fn drop(&mut self) {
-        let _ = self.process.kill();
-        let _ = self.process.wait();
     }
 }
 
@@ -104,11 +96,7 @@ fn keys_are_rotated() {
     assert_eq!(ask(&issuer).1, invalid("NoKey"));
     issuer.forget();
     std::fs::write(&service.bundle, issuer.bundle()).expect("it is written");
-    let begun = std::time::Instant::now();
-    while ask(&issuer).0 != 200 {
-        assert!(begun.elapsed() < patience(), "waited in vain for the new key");
-        std::thread::sleep(std::time::Duration::from_millis(10));
-    }
+    until("the new key", || ask(&issuer).0 == 200);
     assert_eq!(service.ask(&format!("Authorization: Bearer {old}\r\n")).1, invalid("NoKey"));
 }
 
@@ -149,8 +137,7 @@ fn the_readme_shows_the_examples() {
 /// README.md shows what two guards of one store say.
 #[test]
 fn guards_of_one_store() {
-    let ran = Command::new(example("strict")).output();
-    let said = String::from_utf8(ran.expect("`cargo test` builds the examples").stdout).expect("a text");
+    let said = String::from_utf8(output(&mut Command::new(example("strict"))).stdout).expect("a text");
     assert_eq!(said.lines().next(), Some("hello spiffe://example.org/billing/api"));
     assert!(readme().contains(&format!("```text\n{said}```\n")), "README.md shows another output than {said}");
 }
@@ -165,7 +152,7 @@ fn a_test_of_a_service() -> Result<(), svid::Error> {
     let expired = guard.check(issuer.wrong(Wrong::Expired, "/billing/api", "ledger"));
     assert_eq!(expired, Err(svid::Error::Refused(svid::Refusal::Expired)));
     // (so far)
-    let own = std::fs::read_to_string(top().join("packages/rust/svid/tests/service.rs")).expect("this file");
+    let own = std::fs::read_to_string(top().join("packages/rust/svid/tests/all/service.rs")).expect("this file");
     let five = own.split("// in five lines\n").nth(1).and_then(|it| it.split("    // (so far)").next()).expect("the lines");
     let shown: String = five.lines().map(|line| line.trim_start().to_owned() + "\n").collect();
     assert!(readme().contains(&shown), "README.md shows another test than {shown}");

@@ -1,11 +1,9 @@
 //! What the vectors don't have: the order of reasons where a signature is verified, messages, joined bundles, answers to requests.
 
-mod common;
-
 use std::sync::atomic::{AtomicUsize, Ordering};
 use std::sync::Arc;
 
-use common::*;
+use crate::common::*;
 use svid::{
     bearer_token, BundlesFault, Candidate, Denied, DocumentFault, Error, Fate, Guard, LogMember, LogStart, Mode, Options, OptionsFault,
     Pattern, Refusal, Said, Sources, SpiffeId, TokenKey, Unverified, Use, ValidatorId, Verify,
@@ -48,7 +46,8 @@ impl Always {
 
 impl Verify for Always {
     fn verify(&self, _: &Candidate<'_>, signed: &[u8], signature: &[u8]) -> Result<bool, Unverified> {
-        assert!(!signed.is_empty() && !signature.is_empty());
+        assert!(signed.is_ascii() && signed.iter().filter(|it| **it == b'.').count() == 1, "the header and the payload of a token");
+        assert!(!signature.is_empty());
         self.1.fetch_add(1, Ordering::Relaxed);
         self.0
     }

@@ -1,8 +1,7 @@
 //! What a service tests itself with: an issuer, and a clock.
 #![cfg(feature = "testing")]
 
-mod common;
-
+use crate::common::{ledger, until};
 use serde_json::json;
 use svid::testing::{Clock, Issuer, Wrong};
 use svid::{Error, Guard, OpenSsl, Options, Refusal};
@@ -88,4 +87,23 @@ fn a_clock_goes_ahead() {
     // (a clock that is set back makes no expired token good)
     clock.set(now);
     assert_eq!(guard.check(&tokens[1]), refused(Refusal::Expired));
+}
+
+/// What it costs to refuse a token grows with its audiences, and no faster: anybody may send one that has thousands.
+#[test]
+fn a_token_of_many_audiences_is_refused_soon() {
+    let (known, stranger) = (Issuer::new("example.org"), Issuer::new("other.example"));
+    let guard = Guard::open(&ledger(), known.bundles(), OpenSsl::new()).expect("it opens");
+    let token = |count: usize| stranger.token_with(json!({"sub": "spiffe://other.example/a", "aud": vec!["a"; count]}));
+    let (few, many) = (token(1_500), token(11_800));
+    let least = |token: &String| {
+        let takes = || {
+            let begun = std::time::Instant::now();
+            assert_eq!(guard.check(token).map(drop), refused(Refusal::NotAudience));
+            begun.elapsed()
+        };
+        (0..5).map(|_| takes()).min().unwrap_or_default()
+    };
+    // (8 times as many: 64 times as long, if each were looked for from the first one)
+    until("a refusal in time", || least(&many) < least(&few) * 24);
 }
