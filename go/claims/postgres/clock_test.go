@@ -47,7 +47,7 @@ func withClock(t *testing.T) (s *machine, set func(seconds int)) {
 	}
 	set(0)
 	p.Env = []string{"LD_PRELOAD=" + library[0], "FAKETIME_TIMESTAMP_FILE=" + file, "FAKETIME_NO_CACHE=1", "FAKETIME_DONT_FAKE_MONOTONIC=1", "FAKETIME_XRESET=1"}
-	t.Cleanup(p.Kill)
+	t.Cleanup(p.End)
 	s = &machine{Postgres: p}
 	s.start(t)
 	return s, set

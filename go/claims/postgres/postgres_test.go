@@ -38,7 +38,7 @@ func startIn(t testing.TB, dir string, more ...string) *machine {
 	if err != nil {
 		t.Fatal(err)
 	}
-	t.Cleanup(p.Kill)
+	t.Cleanup(p.End)
 	s := &machine{Postgres: p}
 	s.start(t)
 	return s

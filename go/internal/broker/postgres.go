@@ -85,7 +85,7 @@ func makeData() (files []file, err error) {
 	}
 	out, err := s.Command("initdb", "-D", s.Dir, "-U", "svid", "--auth=trust", "--no-sync", "-E", "UTF8", "--locale=C", "--wal-segsize=1").CombinedOutput()
 	if err != nil {
-		return nil, fmt.Errorf("broker: initdb: %w: %s: install Debian's postgresql", err, out)
+		return nil, fmt.Errorf("broker: initdb: %w: %s: install Debian's postgresql", err, oneLine(out))
 	}
 	if err := s.dropTemplates(); err != nil {
 		return nil, err
@@ -120,7 +120,7 @@ func (s *Postgres) dropTemplates() error {
 	run.Stdin = strings.NewReader("UPDATE pg_database SET datistemplate = false;\nDROP DATABASE template0;\nDROP DATABASE template1;\n")
 	out, err := run.CombinedOutput()
 	if err != nil || bytes.Contains(out, []byte("ERROR")) {
-		return fmt.Errorf("broker: the templates are not dropped: %v: %s", err, out)
+		return fmt.Errorf("broker: the templates are not dropped: %v: %s", err, oneLine(out))
 	}
 	return nil
 }
@@ -238,7 +238,7 @@ func (s *Postgres) Start() error {
 		s.run = nil
 		if time.Now().After(end) {
 			run.Process.Kill()
-			return fmt.Errorf("broker: the server of PostgreSQL does not run: see %s", filepath.Join(filepath.Dir(s.Dir), "log"))
+			return fmt.Errorf("broker: the server of PostgreSQL does not run: %s", s.said())
 		}
 	}
 }
@@ -264,6 +264,35 @@ func (s *Postgres) end(signal syscall.Signal) {
 
 // Kill ends the server as kill -9 does.
 func (s *Postgres) Kill() { s.end(syscall.SIGKILL) }
+
+// End ends the server for good. What a killed server leaves is a segment of memory that processes share, of which a system has some thousands; the server
+// itself would remove it at its next start.
+func (s *Postgres) End() {
+	s.Kill()
+	held, err := os.ReadFile(filepath.Join(s.Dir, "postmaster.pid"))
+	if err != nil {
+		return // (a server that was stopped leaves nothing)
+	}
+	const removes, its = 0, 6 // (IPC_RMID, and the line of the file that names the segment)
+	var key, id uintptr
+	if lines := strings.Split(string(held), "\n"); len(lines) > its {
+		if _, err := fmt.Sscan(lines[its], &key, &id); err == nil {
+			syscall.Syscall(syscall.SYS_SHMCTL, id, removes, 0)
+		}
+	}
+}
+
+// said is the end of what the server wrote.
+func (s *Postgres) said() string {
+	said, _ := os.ReadFile(filepath.Join(filepath.Dir(s.Dir), "log"))
+	if most := 1000; len(said) > most {
+		said = said[len(said)-most:]
+	}
+	return oneLine(said)
+}
+
+// oneLine is a text as one line: tests of other languages read one, where a server does not start.
+func oneLine(text []byte) string { return string(bytes.Join(bytes.Fields(text), []byte(" "))) }
 
 // Stop ends the server as an administrator does, who does not wait for those that are connected.
 func (s *Postgres) Stop() { s.end(syscall.SIGINT) }
