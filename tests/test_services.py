@@ -1,5 +1,6 @@
 """Small services, one for each language (tests/services), made of nothing but the files of a release, as the people of that language install them.
-Each accepts a token once: over a kill, while its bundle changes, and in two processes that share a store."""
+Each accepts a token once: over a kill, while its bundle changes, and in two processes that share a store. Each refuses what was withdrawn while it was
+suspended."""
 
 import json
 import os
@@ -11,6 +12,7 @@ import subprocess
 import sys
 import tempfile
 import time
+import tomllib
 import uuid
 from concurrent.futures import ThreadPoolExecutor
 from contextlib import ExitStack
@@ -149,7 +151,8 @@ def services(request, release, session):
         room = Room(session / f"of_{language.lower()}", release)
         return room, LANGUAGES[language](room)
 
-    asked = {it.callspec.params["language"] for it in request.session.items if "services" in it.fixturenames}
+    params = [it.callspec.params for it in request.session.items if "services" in it.fixturenames]
+    asked = {name for it in params for name in it.get("languages", [it.get("language")])}
     with ThreadPoolExecutor() as pool:
         yield {it: pool.submit(built, it) for it in LANGUAGES if it in asked}
 
@@ -291,14 +294,26 @@ def in_redis(session, ends):
     return f"redis://127.0.0.1:{port}"
 
 
-@pytest.mark.parametrize("language, store", [(it, store) for store in ("PostgreSQL", "Redis") for it in which(f"store in {store}")])
-def test_strict_over_a_store(services, start, request, language, store):
-    """Of two processes that are given a token at once, one accepts it, and then none."""
-    if store == "Redis":
-        where = request.getfixturevalue("in_redis")
-    else:
+STORES = [(it, store) for store in ("PostgreSQL", "Redis") for it in which(f"store in {store}")]
+
+
+@pytest.fixture
+def address(request):
+    """What a language's service names a store by."""
+
+    def of(language, store):
+        if store == "Redis":
+            return request.getfixturevalue("in_redis")
         where = request.getfixturevalue("in_postgres")
-        where = f"jdbc:postgresql://{where}&user=service" if language == "Java" else f"postgres://service@{where}"
+        return f"jdbc:postgresql://{where}&user=service" if language == "Java" else f"postgres://service@{where}"
+
+    return of
+
+
+@pytest.mark.parametrize("language, store", STORES)
+def test_strict_over_a_store(services, start, address, language, store):
+    """Of two processes that are given a token at once, one accepts it, and then none."""
+    where = address(language, store)
     key = Key("one")
     publish(services, language, key)
     both = [start(language, "strict", where) for _ in range(2)]
@@ -309,3 +324,25 @@ def test_strict_over_a_store(services, start, request, language, store):
             for it in both:
                 it.give(token)
             assert sorted(it.answer() for it in both) == due
+
+
+@pytest.mark.parametrize("languages", [[*LANGUAGES]], ids=["all"])
+def test_what_was_withdrawn_while_a_service_was_suspended(services, start, address, languages):
+    """The first token that it is given then is refused, though nobody has told it yet: its last look at the withdrawals is too old."""
+    numbers = tomllib.loads((TOP / "lists/postgres.toml").read_text(encoding="utf-8"))["numbers"]
+    key = Key("one")
+    for it in languages:
+        publish(services, it, key)
+    suspended = {it: start(it[0], "reuse", address(*it)) for it in STORES}
+    others = {store: start("Python", "reuse", address("Python", store)) for _, store in STORES}
+    tokens = {it: key.token() for it in STORES}
+    for it, service in suspended.items():
+        service.accepts(lambda of=it: tokens[of], "a token to be accepted")
+        service.process.send_signal(signal.SIGSTOP)
+    for it, service in suspended.items():
+        assert others[it[1]].ask(f"withdraw {tokens[it]}") == "withdrawn"
+        service.give(tokens[it])
+    time.sleep(numbers["most_unlooked"] / 1000 + 1)
+    for service in suspended.values():
+        service.process.send_signal(signal.SIGCONT)
+    assert {it: service.answer() for it, service in suspended.items()} == dict.fromkeys(STORES, "Withdrawn")

@@ -1,4 +1,4 @@
-//! Reads a token a line, and prints what becomes of it: service once FOLDER, or service strict URL.
+//! Reads a token a line, and prints what becomes of it: service once FOLDER, or service MODE URL (strict, or reuse).
 
 use std::env::args;
 use std::io::{stdin, BufRead};
@@ -15,7 +15,8 @@ fn main() -> Result<(), Box<dyn std::error::Error + Send + Sync>> {
         Guard::with_journal(&options, sources, OpenSsl::new(), Journal::open(given)?)?
     } else {
         let store = PostgresStore::open(&options, &[&given], "svid", 1)?;
-        Guard::open(&options.mode(Mode::Strict).store(Arc::new(store)), sources, OpenSsl::new())?
+        let mode = if mode == "strict" { Mode::Strict } else { Mode::Reuse };
+        Guard::open(&options.mode(mode).store(Arc::new(store)), sources, OpenSsl::new())?
     };
     for token in stdin().lock().lines() {
         match guard.check(&token?) {

@@ -1,4 +1,4 @@
-// Package main reads a token a line, and prints what becomes of it: service once FOLDER, or service strict URL.
+// Package main reads a token a line, and prints what becomes of it: service once FOLDER, or service MODE URL.
 package main
 
 import (

@@ -1,4 +1,4 @@
-// Reads a token a line, and prints what becomes of it: service.mjs once FOLDER, or service.mjs strict URL.
+// Reads a token a line, and prints what becomes of it: service.mjs once FOLDER, or service.mjs MODE URL.
 
 import { createInterface } from "node:readline";
 import { Refusal, Validator } from "svid";

@@ -1,4 +1,6 @@
-"""A line of standard input is a token, and one of standard output what becomes of it: service.py once FOLDER, or service.py strict URL."""
+"""A line of standard input is a token, and one of standard output what becomes of it: service.py once FOLDER, or service.py MODE URL.
+
+A line `withdraw TOKEN` withdraws one."""
 
 import sys
 
@@ -18,8 +20,13 @@ else:
     terms["store"] = RedisStore(where, wait=60)
 with svid.Validator(**terms) as validator:
     for line in sys.stdin:
+        word, _, token = line.strip().rpartition(" ")
         try:
-            print("accepted", validator.check(line.strip()).spiffe_id, flush=True)
+            if word == "withdraw":
+                validator.withdraw(token)
+                print("withdrawn", flush=True)
+            else:
+                print("accepted", validator.check(token).spiffe_id, flush=True)
         except svid.Refused as why:
             print(why.name, flush=True)
         except svid.Unavailable as why:
