@@ -12,6 +12,7 @@ import (
 	"svid.example/go/v3/claims"
 	"svid.example/go/v3/claims/claimstest"
 	"svid.example/go/v3/internal/broker"
+	"svid.example/go/v3/internal/clocks"
 	"svid.example/go/v3/internal/logtest"
 	"svid.example/go/v3/internal/patience"
 )
@@ -59,12 +60,34 @@ func (s *machine) promote(t testing.TB) {
 // wins the token there: the late answer does not count.
 func TestALateAnswerOfAServerThatIsGone(t *testing.T) {
 	t.Parallel()
+	lateAnswer(t, open)
+}
+
+// As before, for a member whose computer is suspended while it waits.
+func TestALateAnswerAfterASuspension(t *testing.T) {
+	t.Parallel()
+	lateAnswer(t, func(t testing.TB, o Options) claims.Store {
+		o.Terms = claimstest.Usual
+		store, err := New(o)
+		if err != nil {
+			t.Fatal(err)
+		}
+		t.Cleanup(func() { store.Close() })
+		store.servers.now = func() clocks.Moment { return clocks.Moment{Wall: clocks.Now().Wall} }
+		claimstest.Open(t, store)
+		return store
+	})
+}
+
+// lateAnswer lets a server go, and an older copy take its address, before a member reads its answer. Another member claims the token meanwhile.
+func lateAnswer(t *testing.T, opened func(testing.TB, Options) claims.Store) {
+	t.Helper()
 	s := start(t)
 	proxy := logtest.NewProxy(t, s.Postgres.Address)
 	o := Options{URLs: []string{s.URL}, Name: "svid"}
 	b := open(t, o)
 	o.URLs = []string{strings.Replace(s.URL, s.Postgres.Address, proxy.Address, 1)}
-	a := open(t, o)
+	a := opened(t, o)
 	mine(t, a, claim(1))
 	restore := logtest.Copied(t, s.Dir, s.Postgres.Stop, s.Postgres.Kill, s.start)
 	mine(t, a, claim(1))

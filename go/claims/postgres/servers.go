@@ -7,6 +7,8 @@ import (
 	"strings"
 	"sync"
 	"time"
+
+	"svid.example/go/v3/internal/clocks"
 )
 
 const (
@@ -23,7 +25,7 @@ type server struct {
 	// Where there are several servers, the last look at this one:
 	role  role
 	fault error
-	at    time.Time // zero before the first one
+	at    clocks.Moment // zero before the first one
 }
 
 // A role is what a server is.
@@ -39,6 +41,7 @@ type role struct {
 type servers struct {
 	all  []*server
 	done chan struct{}
+	now  func() clocks.Moment
 
 	mu      sync.Mutex
 	begun   bool
@@ -47,7 +50,7 @@ type servers struct {
 }
 
 func newServers(urls []string, done chan struct{}) *servers {
-	s := &servers{done: done, changed: make(chan struct{})}
+	s := &servers{done: done, now: clocks.Now, changed: make(chan struct{})}
 	for i, url := range urls {
 		s.all = append(s.all, &server{number: i + 1, url: url})
 	}
@@ -128,8 +131,9 @@ var errUnlookedServers = errors.New("not all servers were looked at")
 func (s *servers) primary() (*server, error) {
 	var first *server
 	var faults []string
+	now := s.now()
 	for _, one := range s.all {
-		if one.at.IsZero() || time.Since(one.at) > mostAge {
+		if one.at == (clocks.Moment{}) || now.Since(one.at) > mostAge {
 			return nil, errUnlookedServers
 		}
 		switch {
@@ -223,7 +227,11 @@ func (s *servers) lookAt(ctx context.Context, one *server, c *conn) *conn {
 	defer cancel()
 	var is role
 	var err error
-	begun := time.Now()
+	begun := s.now()
+	if c != nil && begun.Since(one.at) > mostAge { // It may have ended meanwhile, which says nothing of the server.
+		c.close()
+		c = nil
+	}
 	if c == nil {
 		c, is, err = reach(ctx, one)
 	} else if is, err = c.role(ctx); err != nil {
@@ -233,8 +241,8 @@ func (s *servers) lookAt(ctx context.Context, one *server, c *conn) *conn {
 	s.mu.Lock()
 	defer s.mu.Unlock()
 	one.role, one.fault, one.at = is, err, begun
-	if err != nil {
-		one.at = time.Now() // It answered nobody until now.
+	if now := s.now(); err != nil && now.Since(begun) <= mostAge {
+		one.at = now // It answered nobody until now.
 	}
 	close(s.changed)
 	s.changed = make(chan struct{})

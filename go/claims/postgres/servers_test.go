@@ -8,37 +8,92 @@ import (
 	"testing"
 	"time"
 
+	"svid.example/go/v3/internal/clocks"
 	"svid.example/go/v3/internal/patience"
 )
 
-// looked is servers that were looked at a time ago, with these roles.
-func looked(ago time.Duration, roles ...role) *servers {
+// looked is servers that were looked at just now, with these roles.
+func looked(roles ...role) *servers {
 	s := newServers(make([]string, len(roles)), make(chan struct{}))
 	for i, is := range roles {
-		s.all[i].role, s.all[i].at = is, time.Now().Add(-ago)
+		s.all[i].role, s.all[i].at = is, clocks.Now()
 	}
 	return s
 }
 
-// What was seen of servers a while ago does not count: another one may have taken the primary's place meanwhile.
+// later is a clock that stands at some time after a moment, by the one that only goes ahead and by the wall's.
+func later(than clocks.Moment, up, wall time.Duration) func() clocks.Moment {
+	return func() clocks.Moment { return clocks.Moment{Up: than.Up + up, Wall: than.Wall + wall} }
+}
+
+// What was seen of servers a while ago, by either clock, does not count: another one may have become the primary meanwhile.
 func TestAnOldLookDoesNotCount(t *testing.T) {
 	primary, standby := role{primary: true, system: "1", line: "00000001"}, role{system: "1"}
-	for ago, want := range map[time.Duration]error{0: nil, mostAge + time.Second: errUnlookedServers} {
-		s := looked(ago, primary, standby)
-		if err := s.use(s.all[0]); err != want {
-			t.Errorf("%v ago: %v, want %v", ago, err, want)
+	for _, row := range []struct {
+		up, wall time.Duration
+		want     error
+	}{
+		{0, 0, nil},
+		{mostAge, mostAge, nil},
+		{0, -time.Hour, nil},
+		{mostAge + 1, mostAge + 1, errUnlookedServers},
+		{mostAge + 1, -time.Hour, errUnlookedServers},
+		{time.Millisecond, mostAge + 1, errUnlookedServers}, // the computer was suspended
+	} {
+		s := looked(primary, standby)
+		s.all[1].at = s.all[0].at
+		s.now = later(s.all[0].at, row.up, row.wall)
+		if err := s.use(s.all[0]); err != row.want {
+			t.Errorf("%v and %v ago: %v, want %v", row.up, row.wall, err, row.want)
 		}
-		s.all[1].at = time.Now()
-		if err := s.use(s.all[0]); err != want {
-			t.Errorf("one of them %v ago: %v, want %v", ago, err, want)
+		s.all[1].at = s.now()
+		if err := s.use(s.all[0]); err != row.want {
+			t.Errorf("one of them %v and %v ago: %v, want %v", row.up, row.wall, err, row.want)
 		}
+	}
+	if err := newServers(make([]string, 2), make(chan struct{})).use(nil); err != errUnlookedServers {
+		t.Errorf("never: %v", err)
+	}
+}
+
+// A look is as old as its beginning, by either clock, whatever came of it: while the computer was suspended, another server may have become the primary.
+func TestALookIsAsOldAsItsBeginning(t *testing.T) {
+	t.Parallel()
+	ctx := context.Background()
+	for what, url := range map[string]string{"a server": start(t).URL, "an address where nobody listens": "postgres://a@127.0.0.1:1/a"} {
+		s := newServers([]string{url, url}, make(chan struct{}))
+		one := s.all[0]
+		begun := clocks.Now()
+		s.now = func() clocks.Moment { // (it is suspended after the first look at the clock)
+			s.now = later(begun, time.Millisecond, time.Hour)
+			return begun
+		}
+		c := s.lookAt(ctx, one, nil)
+		if age := s.now().Since(one.at); age <= mostAge {
+			t.Errorf("%s: what was seen %v ago counts (%v)", what, age, one.fault)
+		}
+		if (c == nil) != (one.fault != nil) {
+			t.Fatalf("%s: %v", what, one.fault)
+		}
+		if c = s.lookAt(ctx, one, c); s.now().Since(one.at) > mostAge {
+			t.Errorf("%s: what was seen just now does not count (%v)", what, one.fault)
+		}
+		if c == nil {
+			continue
+		}
+		c.close() // as a server, or somebody on the way, ends what is quiet for long
+		s.now = later(begun, 2*time.Millisecond, 2*time.Hour)
+		if c = s.lookAt(ctx, one, c); one.fault != nil {
+			t.Fatalf("%s: what has ended while the computer was suspended is taken for an answer: %v", what, one.fault)
+		}
+		c.close()
 	}
 }
 
 // Of two primaries, the one that was promoted later counts, whichever is named first.
 func TestTheLaterTimelineCounts(t *testing.T) {
 	old, now := role{primary: true, system: "1", line: "00000001"}, role{primary: true, system: "1", line: "00000002"}
-	for at, s := range map[int]*servers{1: looked(0, old, now), 0: looked(0, now, old)} {
+	for at, s := range map[int]*servers{1: looked(old, now), 0: looked(now, old)} {
 		if first, err := s.primary(); err != nil || first != s.all[at] {
 			t.Errorf("%v %v, want server %d", first, err, at)
 		}
@@ -52,8 +107,8 @@ func TestTheLaterTimelineCounts(t *testing.T) {
 func TestTwoPrimariesAreNamed(t *testing.T) {
 	standby, primary := role{system: "1"}, role{primary: true, system: "1", line: "00000001"}
 	for what, s := range map[string]*servers{
-		"addresses 2 and 4 are primaries of two database clusters": looked(0, standby, primary, standby, role{primary: true, system: "2", line: "00000001"}),
-		"addresses 1 and 3 are both primaries":                     looked(0, primary, standby, role{primary: true, system: "1", line: "00000001", started: "later"}),
+		"addresses 2 and 4 are primaries of two database clusters": looked(standby, primary, standby, role{primary: true, system: "2", line: "00000001"}),
+		"addresses 1 and 3 are both primaries":                     looked(primary, standby, role{primary: true, system: "1", line: "00000001", started: "later"}),
 	} {
 		if _, err := s.primary(); err == nil || !strings.Contains(err.Error(), what) {
 			t.Errorf("%v, want %q", err, what)
@@ -81,7 +136,7 @@ func TestServersThatNobodyLooksAt(t *testing.T) {
 
 // However often the primary is asked for, each server is looked at by one goroutine.
 func TestEachServerIsLookedAtOnce(t *testing.T) {
-	s := looked(0, role{primary: true, system: "1"}, role{system: "1"})
+	s := looked(role{primary: true, system: "1"}, role{system: "1"})
 	defer s.wait()
 	defer close(s.done)
 	before := runtime.NumGoroutine()

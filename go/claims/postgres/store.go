@@ -16,6 +16,7 @@ import (
 	"time"
 
 	"svid.example/go/v3/claims"
+	"svid.example/go/v3/internal/clocks"
 )
 
 const (
@@ -169,7 +170,7 @@ func (s *Store) call(ctx context.Context, text string, values ...driver.Value) (
 
 // confirm asks whether the standbys have what was committed on this connection by a call that began at a time, where a claim is to have some. Where the
 // call took long, it asks whether the server is still there: a member that was away would see later that it is not.
-func (s *Store) confirm(ctx context.Context, c *conn, begun time.Time) (err error) {
+func (s *Store) confirm(ctx context.Context, c *conn, begun clocks.Moment) (err error) {
 	if s.options.Replicas > 1 {
 		var rows [][]driver.Value
 		rows, err = c.call(ctx, "SELECT "+quoted(s.options.Name)+".kept($1::integer)", int64(s.options.Replicas))
@@ -177,7 +178,7 @@ func (s *Store) confirm(ctx context.Context, c *conn, begun time.Time) (err erro
 			err = errAlone
 		}
 	}
-	if err == nil && time.Since(begun) > quarantine/3 {
+	if err == nil && s.servers.now().Since(begun) > quarantine/3 {
 		_, err = c.role(ctx)
 	}
 	return err
@@ -603,7 +604,7 @@ func (s *Store) decide(ctx context.Context, n int, text string, values ...driver
 	case <-ctx.Done():
 		return a, ctx.Err()
 	}
-	begun := time.Now()
+	begun := s.servers.now()
 	rows, err := s.callThen(ctx, func(ctx context.Context, c *conn) error { return s.confirm(ctx, c, begun) }, text, values...)
 	<-s.calls
 	if err == errMissing || err == errAlone {

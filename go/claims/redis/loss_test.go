@@ -19,6 +19,7 @@ import (
 	"svid.example/go/v3/claims"
 	"svid.example/go/v3/claims/claimstest"
 	"svid.example/go/v3/internal/broker"
+	"svid.example/go/v3/internal/clocks"
 	"svid.example/go/v3/internal/logtest"
 	"svid.example/go/v3/internal/patience"
 )
@@ -643,6 +644,11 @@ func TestLateAnswers(t *testing.T) {
 // lateAnswer is a member to whom an answer comes late: the claim is put, and what was found comes after release.
 func lateAnswer(t *testing.T, s *machine) (a claims.Store, c claims.Claim, release func() claims.Found) {
 	t.Helper()
+	return lateAnswerFor(t, s, opened)
+}
+
+func lateAnswerFor(t *testing.T, s *machine, opened func(testing.TB, Options) claims.Store) (a claims.Store, c claims.Claim, release func() claims.Found) {
+	t.Helper()
 	proxy := logtest.NewProxy(t, s.Redis.Address)
 	a, c = opened(t, Options{URLs: []string{"redis://" + proxy.Address}}), claim(1)
 	put(t, a, 1)
@@ -806,8 +812,25 @@ func TestAnAnswerOfAnEarlierRun(t *testing.T) {
 // As before, for a member that looked at nothing meanwhile.
 func TestALateAnswerOfAServerThatIsGone(t *testing.T) {
 	t.Parallel()
+	serverIsGone(t, opened)
+}
+
+// As before, for a member whose computer is suspended while it waits.
+func TestALateAnswerAfterASuspension(t *testing.T) {
+	t.Parallel()
+	serverIsGone(t, func(t testing.TB, o Options) claims.Store {
+		store := newOwn(t, o)
+		store.now = func() clocks.Moment { return clocks.Moment{Wall: clocks.Now().Wall} }
+		claimstest.Open(t, store)
+		return store
+	})
+}
+
+// serverIsGone lets a claim's server go, and be emptied, before its member reads the answer. Another member claims the token meanwhile.
+func serverIsGone(t *testing.T, member func(testing.TB, Options) claims.Store) {
+	t.Helper()
 	s := start(t)
-	a, c, release := lateAnswer(t, s)
+	a, c, release := lateAnswerFor(t, s, member)
 	b := opened(t, Options{URLs: []string{s.URL}})
 	s.do(t, "DEL", keyOf(c))
 	s.Redis.Kill()

@@ -125,12 +125,12 @@ func (s *Store) putPart(ctx context.Context, p *part, these []claims.Claim, foun
 		known[i] = sent{it.record, it.clock.store + uint64(time.Since(it.clock.own)/time.Second), it.claimed}
 	}
 	s.mu.Unlock()
-	begun := time.Now()
+	begun := s.now()
 	again, err := s.putNew(ctx, c, p, known, these, found)
 	if err == nil && len(again) > 0 {
 		err = s.readOthers(ctx, c, p, again, known, these, found)
 	}
-	if err == nil && time.Since(begun) > s.options.Wait/3 {
+	if err == nil && s.now().Since(begun) > s.options.Wait/3 {
 		_, err = c.do(ctx, cmd("TIME")) // (the server may be gone by now, and a member that was away would see that later than its answer)
 	}
 	if err != nil {

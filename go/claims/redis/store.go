@@ -24,6 +24,7 @@ import (
 	"time"
 
 	"svid.example/go/v3/claims"
+	"svid.example/go/v3/internal/clocks"
 	"svid.example/go/v3/internal/pause"
 )
 
@@ -59,6 +60,7 @@ type Store struct {
 	unchecked bool
 	replicas  int    // that must have an entry beside the primary
 	life      string // names this member's life in keys
+	now       func() clocks.Moment
 
 	watching sync.Mutex // guards watched
 
@@ -127,7 +129,7 @@ type checked struct {
 
 // New returns a store that is not connected yet.
 func New(o Options) (*Store, error) {
-	s := &Store{options: o, open: make(map[*conn]bool), idle: make(map[string][]*conn), checked: make(map[string]checked),
+	s := &Store{options: o, now: clocks.Now, open: make(map[*conn]bool), idle: make(map[string][]*conn), checked: make(map[string]checked),
 		watched: make(map[string]*watched)}
 	if !claims.ValidName(o.Name) {
 		return nil, fmt.Errorf("the name %q is not letters, digits, - and _ alone", o.Name)

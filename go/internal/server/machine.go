@@ -6,6 +6,7 @@ import (
 	"time"
 
 	"svid.example/go/v3/claims"
+	"svid.example/go/v3/internal/clocks"
 	"svid.example/go/v3/svid"
 )
 
@@ -63,7 +64,15 @@ type Time struct {
 // isWithin says whether no more time has passed since then, by both clocks: while the computer is suspended, Up stands still.
 func (t Time) isWithin(most time.Duration, then Time) bool {
 	const rounding = time.Second // of Wall
-	return t.Up-then.Up <= most && (t.Wall <= then.Wall || t.Wall-then.Wall <= uint64((most+rounding)/time.Second))
+	return t.moment().Since(clocks.Moment{Up: then.Up, Wall: then.moment().Wall + rounding}) <= most
+}
+
+func (t Time) moment() clocks.Moment {
+	const last = uint64(never/time.Second) - 1 // that a moment can have
+	if t.Wall > last {
+		t.Wall = last
+	}
+	return clocks.Moment{Up: t.Up, Wall: time.Duration(t.Wall) * time.Second}
 }
 
 // An Event is something that happened.

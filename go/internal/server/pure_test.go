@@ -12,7 +12,8 @@ import (
 // goroutine, and import nothing that would.
 func TestTheMachineIsByItself(t *testing.T) {
 	mayImport := map[string]bool{"context": true, "errors": true, "fmt": true, "io": true, "sort": true, "time": true,
-		"svid.example/go/v3/carriers": true, "svid.example/go/v3/claims": true, "svid.example/go/v3/svid": true}
+		"svid.example/go/v3/carriers": true, "svid.example/go/v3/claims": true, "svid.example/go/v3/svid": true,
+		"svid.example/go/v3/internal/clocks": true}
 	mayUse := map[string]bool{"Duration": true, "Millisecond": true, "Second": true, "Minute": true} // of package time
 	for _, name := range []string{"machine.go", "walk.go", "claims.go", "store.go", "record.go", "keeper.go", "withdraw.go", "rules.go", "seldom.go"} {
 		files := syntax.NewFileSet()
@@ -37,6 +38,9 @@ func TestTheMachineIsByItself(t *testing.T) {
 				of, isName := n.X.(*ast.Ident)
 				if isName && of.Name == "time" && !mayUse[n.Sel.Name] || isName && of.Name == "m" && n.Sel.Name == "Now" {
 					t.Errorf("%v: the machine has a clock of its own: %s.%s", files.Position(n.Pos()), of.Name, n.Sel.Name)
+				}
+				if isName && of.Name == "clocks" && n.Sel.Name != "Moment" {
+					t.Errorf("%v: the machine has a clock of its own: clocks.%s", files.Position(n.Pos()), n.Sel.Name)
 				}
 				if isName && of.Name == "context" && n.Sel.Name != "DeadlineExceeded" {
 					t.Errorf("%v: the machine has a clock of its own: context.%s", files.Position(n.Pos()), n.Sel.Name)

@@ -156,6 +156,8 @@ def test_every_test_of_a_store_is_run(binary):
         "TestTheEpochsRowStays",
         "TestAFewMarksAreKept",
         "TestAnOldLookDoesNotCount",
+        "TestALookIsAsOldAsItsBeginning",
+        "TestALateAnswerAfterASuspension",
         "TestLooksHavePauses",
         "TestTheLaterTimelineCounts",
         "TestTwoPrimariesAreNamed",

@@ -57,6 +57,7 @@ OTHERS = {
     "TestALookThatALateAnswerOvertook",
     "TestACallThatIsCut",
     "TestFewEntriesAreKnown",
+    "TestALateAnswerAfterASuspension",
     "TestAKeyOfAnUnknownAlgorithm",
     "TestOptions",
     "TestRecords",

@@ -210,7 +210,8 @@ public class PostgresTest {
                 "TestTheEpochsRowStays", "TestAFewMarksAreKept", "TestAnOldLookDoesNotCount", "TestLooksHavePauses",
                 "TestTheLaterTimelineCounts", "TestTwoPrimariesAreNamed", "TestServersThatNobodyLooksAt", "TestEachServerIsLookedAtOnce",
                 "TestAServerThatDoesNotSayWhatItIsLeavesNothing", "TestAContextThatEndsWithItsAnswer",
-                "TestASessionThatCantBeginLeavesNothing", "TestEachCallThatIsUnderWayMayBeTheLast", "TestEachClaimThatWasThereIsKept"));
+                "TestASessionThatCantBeginLeavesNothing", "TestEachCallThatIsUnderWayMayBeTheLast", "TestEachClaimThatWasThereIsKept",
+                "TestALookIsAsOldAsItsBeginning", "TestALateAnswerAfterASuspension"));
         assertEquals(new TreeSet<>(listed), run);
     }
 
