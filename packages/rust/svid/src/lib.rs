@@ -63,6 +63,7 @@ mod key;
 mod local;
 mod log_member;
 mod looks;
+mod moment;
 mod open_token;
 mod options;
 mod paths;

@@ -3,29 +3,13 @@
 use std::sync::{Condvar, Mutex, MutexGuard, PoisonError};
 use std::time::Duration;
 
+use crate::moment::Moment;
+
 // lists:begin looks (written by tools/lists from lists/postgres.toml)
 pub const MOST_UNLOOKED: u64 = 7_000;
 // lists:end
-/// How much the clock of a guard leaves out, which gives whole seconds.
-const ROUNDING: u64 = 1;
 /// How long after the withdrawals were read they are read again.
 const EVERY: Duration = Duration::from_secs(1);
-
-/// A moment by two clocks.
-#[derive(Debug, Clone, Copy)]
-pub(crate) struct Moment {
-    /// In milliseconds, by the one that only goes ahead, which stands still while the machine is suspended.
-    pub up: u64,
-    /// In seconds since 1970, by the one that may be wrong, and go back.
-    pub wall: u64,
-}
-
-impl Moment {
-    /// Whether it was too long ago, by either clock.
-    pub fn is_old(&self, now: &Moment) -> bool {
-        now.up.saturating_sub(self.up) > MOST_UNLOOKED || now.wall.saturating_sub(self.wall) > MOST_UNLOOKED / 1000 + ROUNDING
-    }
-}
 
 /// The looks at a store's withdrawals. One thread makes them, one after the other. It makes one a second, so that the last one is old only where the
 /// process was stopped, or the machine suspended: tokens may have been withdrawn meanwhile.
@@ -49,8 +33,13 @@ struct State {
 
 impl State {
     fn is_due(&self, now: &Moment) -> bool {
-        self.looked.map_or(false, |it| it.is_old(now))
+        self.looked.map_or(false, |it| is_old(it, now))
     }
+}
+
+/// Whether a look that began then was too long ago.
+fn is_old(begun: Moment, now: &Moment) -> bool {
+    begun.is_older_than(Duration::from_millis(MOST_UNLOOKED), now)
 }
 
 impl Looks {
@@ -89,7 +78,7 @@ impl Looks {
         if !state.is_due(&now) {
             return;
         }
-        let one = state.begun + u64::from(state.began.map_or(false, |it| it.is_old(&now)));
+        let one = state.begun + u64::from(state.began.map_or(false, |it| is_old(it, &now)));
         if state.wanted < one {
             state.wanted = one;
             self.changes.notify_all();
@@ -139,19 +128,5 @@ impl Looks {
 
     fn state(&self) -> MutexGuard<'_, State> {
         self.state.lock().unwrap_or_else(PoisonError::into_inner)
-    }
-}
-
-#[cfg(test)]
-mod tests {
-    use super::*;
-
-    /// The clock that only goes ahead stands still while the machine is suspended. While a process is stopped, both go on.
-    #[test]
-    fn a_look_is_old_by_either_clock() {
-        let then = Moment { up: 1000, wall: 500 };
-        for (up, wall, is_old) in [(8000, 508, false), (8001, 500, true), (1000, 509, true), (1000, 100, false)] {
-            assert_eq!(then.is_old(&Moment { up, wall }), is_old, "{up} {wall}");
-        }
     }
 }

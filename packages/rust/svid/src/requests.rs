@@ -17,7 +17,7 @@ use crate::error::Error;
 use crate::ffi;
 use crate::handle::{Core, Step};
 use crate::journal::{Journal, JournalError};
-use crate::looks::Moment;
+use crate::moment::Moment;
 use crate::open_token::OpenToken;
 use crate::options::{HearsTwice, Mode, Now, Options, Refuses, Warns};
 use crate::paths::Paths;
@@ -125,7 +125,7 @@ impl Requests {
 
     /// The time by both clocks.
     pub fn moment(&self) -> Result<Moment, Error> {
-        Ok(Moment { up: self.clock.up(), wall: self.now()? })
+        self.now().map(Moment::of)
     }
 
     /// Waits until the store's withdrawals are read, where nobody has looked for long, but leaves a part of the time of a request.

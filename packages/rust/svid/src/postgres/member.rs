@@ -254,7 +254,7 @@ impl Member {
 
     async fn call_once(&self, text: &'static str, values: &[Value<'_>], confirms: bool, end: Instant) -> Result<Vec<Row>, Fault> {
         let mut one = self.taken(end).await?;
-        let (at, begun) = (one.at, Instant::now());
+        let (at, begun) = (one.at, self.servers.now());
         let mut made = one.call(text, values, end).await;
         if made.is_ok() && confirms && self.replicas > 1 {
             let kept = one.call(said::KEPT, &[&self.replicas], end).await.and_then(only).and_then(|row| row.get::<i64>(0));
@@ -264,7 +264,7 @@ impl Member {
                 Err(why) => made = Err(why),
             }
         }
-        if made.is_ok() && confirms && begun.elapsed() > Duration::from_millis(said::SOON) {
+        if made.is_ok() && confirms && begun.is_older_than(Duration::from_millis(said::SOON), &self.servers.now()) {
             // (it may be gone, and who was away would see that later than its answer)
             made = one.role(end).await.and(made);
         }

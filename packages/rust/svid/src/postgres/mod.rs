@@ -28,8 +28,9 @@ pub use self::fault::PostgresError;
 
 use self::fault::Fault;
 use self::member::{Member, Sight, Terms};
-use self::servers::Servers;
+use self::servers::{Now, Servers};
 use self::statements as said;
+use crate::moment::Moment;
 use crate::options::{Options, Warns};
 use crate::record::TokenKey;
 use crate::store::{Claim, Found, Store, StoreError, WITHDRAWN};
@@ -117,7 +118,7 @@ impl PostgresStore {
             return Err(PostgresError::unfit(text));
         }
         let terms = Terms { lasts: options.lasts() as i64, margin: margin as i64, back: back as i64 };
-        let member = Shared::member(servers, group, replicas, terms)?;
+        let member = Shared::member(servers, group, replicas, terms, Arc::new(Moment::now))?;
         let warns = Arc::clone(&options.warns);
         PostgresStore::begin(Shared { member, wait: options.wait.min(LONGEST), margin, warns, heard: Mutex::default() }, true)
     }
@@ -200,14 +201,14 @@ impl fmt::Debug for PostgresStore {
 }
 
 impl Shared {
-    fn member(servers: &[&str], group: &str, replicas: u32, terms: Terms) -> Result<Member, PostgresError> {
+    fn member(servers: &[&str], group: &str, replicas: u32, terms: Terms, now: Arc<Now>) -> Result<Member, PostgresError> {
         let replicas = i32::try_from(replicas).unwrap_or(0);
         if servers.is_empty() || replicas < 1 {
             return Err(PostgresError::unfit("give the address of each server, and at least 1 of replicas"));
         }
         let address = |(n, url): (usize, &&str)| Address::of(url).map_err(|why| PostgresError::Unfit(format!("address {} {why}", n + 1)));
         let addresses = servers.iter().enumerate().map(address).collect::<Result<_, _>>()?;
-        Ok(Member::new(Servers::new(addresses, format!("\"{group}\"")), group, replicas, terms))
+        Ok(Member::new(Servers::new(addresses, format!("\"{group}\""), now), group, replicas, terms))
     }
 
     async fn put(&self, claims: &[Claim], end: Instant) -> Result<Vec<Found>, Fault> {

@@ -9,12 +9,20 @@ use super::address::Address;
 use super::fault::{within, Fault};
 use super::session::{Role, Session};
 use super::statements::{LOOK_EVERY, LOOK_WAIT, MOST_AGE, STALE, STANDBY};
+use crate::moment::Moment;
+
+/// How long ago the last look at each server may be, if what a server answers is to count.
+const OLDEST: Duration = Duration::from_millis(MOST_AGE);
+
+/// Gives the time by two clocks.
+pub(crate) type Now = dyn Fn() -> Moment + Send + Sync;
 
 /// All addresses. Where there are several, each one is looked at all the time: so a member does not go on with a primary whose place another server
 /// has taken.
 pub(crate) struct Servers {
     addresses: Vec<Address>,
     schema: String,
+    now: Arc<Now>,
     seen: Mutex<Vec<Seen>>,
     changed: Notify,
 }
@@ -22,13 +30,13 @@ pub(crate) struct Servers {
 /// What the last look at a server saw.
 struct Seen {
     role: Result<Role, Fault>,
-    at: Option<Instant>,
+    at: Option<Moment>,
 }
 
 impl Servers {
-    pub fn new(addresses: Vec<Address>, schema: String) -> Arc<Servers> {
+    pub fn new(addresses: Vec<Address>, schema: String, now: Arc<Now>) -> Arc<Servers> {
         let seen = addresses.iter().map(|_| Seen { role: Err(STANDBY.into()), at: None }).collect();
-        Arc::new(Servers { addresses, schema, seen: Mutex::new(seen), changed: Notify::new() })
+        Arc::new(Servers { addresses, schema, now, seen: Mutex::new(seen), changed: Notify::new() })
     }
 
     /// Looks at all servers from now on, where there are several.
@@ -38,9 +46,14 @@ impl Servers {
         }
     }
 
+    /// The time.
+    pub fn now(&self) -> Moment {
+        (self.now)()
+    }
+
     /// Lets the last look at a server have seen this.
     #[cfg(test)]
-    pub fn saw(&self, at: usize, role: Result<Role, Fault>, when: Instant) {
+    pub fn saw(&self, at: usize, role: Result<Role, Fault>, when: Moment) {
         self.seen()[at] = Seen { role, at: Some(when) };
     }
 
@@ -81,9 +94,8 @@ impl Servers {
         if self.addresses.len() == 1 {
             return Some(Ok(0));
         }
-        let seen = self.seen();
-        let oldest = Duration::from_millis(MOST_AGE);
-        seen.iter().all(|it| it.at.map_or(false, |at| at.elapsed() <= oldest)).then(|| first_of(&seen))
+        let (seen, now) = (self.seen(), self.now());
+        seen.iter().all(|it| it.at.map_or(false, |at| !at.is_older_than(OLDEST, &now))).then(|| first_of(&seen))
     }
 
     /// Looks at a server until the end.
@@ -91,28 +103,28 @@ impl Servers {
         let mut session = None;
         loop {
             let begun = Instant::now();
-            let looked = self.look(at, session.take(), begun + Duration::from_millis(LOOK_WAIT)).await;
-            let (role, when) = match looked {
-                Ok((it, role)) => {
-                    session = Some(it);
-                    (Ok(role), begun)
-                }
-                Err(why) => (Err(why), Instant::now()), // (it answered nobody until now)
-            };
-            self.seen()[at] = Seen { role, at: Some(when) };
-            self.changed.notify_waiters();
+            session = self.look(at, session, begun + Duration::from_millis(LOOK_WAIT)).await;
             tokio::time::sleep_until((begun + Duration::from_millis(LOOK_EVERY)).into()).await;
         }
     }
 
-    async fn look(&self, at: usize, session: Option<Session>, end: Instant) -> Result<(Session, Role), Fault> {
-        match session {
+    /// Looks at a server, by a connection if there is one, and gives that which is there then.
+    pub(super) async fn look(&self, at: usize, session: Option<Session>, end: Instant) -> Option<Session> {
+        let begun = self.now();
+        let looked = match session {
             None => self.reach(at, end).await,
-            Some(mut it) => {
-                let role = it.role(end).await?;
-                Ok((it, role))
-            }
-        }
+            Some(mut it) => it.role(end).await.map(|role| (it, role)),
+        };
+        let now = self.now();
+        let (session, role, when) = match looked {
+            Ok((it, role)) => (Some(it), Ok(role), begun),
+            // (nobody knows whom it answered while this machine was suspended)
+            Err(why) if begun.is_older_than(OLDEST, &now) => (None, Err(why), begun),
+            Err(why) => (None, Err(why), now), // (it answered nobody until now)
+        };
+        self.seen()[at] = Seen { role, at: Some(when) };
+        self.changed.notify_waiters();
+        session
     }
 
     fn seen(&self) -> MutexGuard<'_, Vec<Seen>> {

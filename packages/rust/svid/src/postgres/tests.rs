@@ -3,6 +3,7 @@
 use std::io::{Read, Write};
 use std::path::PathBuf;
 use std::process::{Command, Stdio};
+use std::sync::atomic::{AtomicBool, AtomicU32, Ordering};
 
 use super::member::{mark, mark_late};
 use super::session::Role;
@@ -14,10 +15,16 @@ use crate::{Error, Guard, Mode, OpenSsl, Refusal};
 const OWNER: [u8; 32] = [111; 32];
 /// The variable that lets a test of this process be the client whose calls the tests of Go make.
 const CLIENT: &str = "SVID_STORE_CLIENT";
+/// The variable that lets the clock of this client that only goes ahead stand still, as if the machine were suspended all the time.
+const SUSPENDED: &str = "SVID_STORE_SUSPENDED";
+
+/// Why nothing counts before each server was looked at, and once a look is old.
+const UNLOOKED: &str = "not all servers were looked at";
 
 /// Tests of go/claims/postgres that a wrong body fails.
 const CALLS: &str = "TestAClaimThatWaitsWhileTheEpochEnds|TestOneOrder|TestAClaimThatIsNotCommitted|TestAnEntryThatIsGoneMeanwhile";
 const LOSSES: &str = "TestRowsThatGoByHandEndTheEpoch|TestALookMissesRows|TestAnOlderCopyThatWentOn|TestALateAnswerOfAServerThatIsGone|TestAnotherClaimOfACall";
+const LATE: &str = "TestALateAnswerOfAServerThatIsGone";
 const STANDBYS: &str = "TestACancelledWait|TestWhatIsGivenUpEndsAtTheServer|TestStandbysAreNotWaitedForAnyMore";
 const PRIMARIES: &str = "TestTwoPrimaries|TestTwoStandbysArePromoted|TestServersOfTwoClusters";
 const TLS: &str = "TestTLS|TestRights";
@@ -72,10 +79,15 @@ impl Program {
 
     /// Runs some of the tests over this client.
     fn runs(&self, tests: &str) {
+        self.runs_with(tests, &[]);
+    }
+
+    /// The same with these variables.
+    fn runs_with(&self, tests: &str, variables: &[(&str, &str)]) {
         let client = std::env::current_exe().expect("a test has a program");
         let mut run = self.command(&["-test.v", "-test.timeout", "20m", "-test.run", &format!("^({tests})$")]);
-        let ran =
-            run.env(CLIENT, format!("{} --exact postgres::tests::serves_calls --nocapture", client.display())).output().expect("it runs");
+        run.env(CLIENT, format!("{} --exact postgres::tests::serves_calls --nocapture", client.display()));
+        let ran = run.envs(variables.iter().copied()).output().expect("it runs");
         let said = String::from_utf8_lossy(&ran.stdout).into_owned();
         let passed = said.lines().filter(|it| it.starts_with("--- PASS: ")).count();
         let faults = String::from_utf8_lossy(&ran.stderr).into_owned();
@@ -92,6 +104,12 @@ fn calls() {
 #[test]
 fn losses() {
     Program::new().runs(LOSSES);
+}
+
+/// The call seems short by the clock that stands still meanwhile.
+#[test]
+fn a_late_answer_after_a_suspension() {
+    Program::new().runs_with(LATE, &[(SUSPENDED, "1")]);
 }
 
 #[test]
@@ -147,13 +165,22 @@ fn claim_of(word: &str) -> Claim {
     Claim { key: TokenKey(bytes(parts[0])), owner: bytes(parts[1]), expires: parts[2].parse().expect("a time") }
 }
 
+/// The clock of a client.
+fn clock() -> Arc<Now> {
+    let begun = Instant::now();
+    match std::env::var_os(SUSPENDED) {
+        Some(_) => Arc::new(move || Moment { up: begun, ..Moment::now() }),
+        None => Arc::new(Moment::now),
+    }
+}
+
 type Stores = Mutex<HashMap<String, Arc<PostgresStore>>>;
 
 fn answer(stores: &Stores, name: &str, id: &str, words: &[&str]) -> Result<String, Fault> {
     if name == "new" {
         let number = |at: usize| words[at].parse::<i64>().expect("a number");
         let terms = Terms { lasts: number(1), margin: number(2), back: number(3) };
-        let member = Shared::member(&words[5..], words[0], number(4) as u32, terms).map_err(Fault::server)?;
+        let member = Shared::member(&words[5..], words[0], number(4) as u32, terms, clock()).map_err(Fault::server)?;
         let shared = Shared { member, wait: LONG, margin: 0, warns: Arc::new(|_| ()), heard: Mutex::default() };
         let store = PostgresStore::begin(shared, false).map_err(Fault::server)?;
         stores.lock().unwrap().insert(id.to_owned(), Arc::new(store));
@@ -324,7 +351,8 @@ fn the_first_call_of_a_member_may_be_a_withdrawal() {
     machine.group("first");
     let store = machine.store(&options(), "first");
     put(&store, 2); // (members have compared by then)
-    let member = Shared::member(&[&machine.url], "first", 1, Terms { lasts: 3660, margin: 120, back: 60 }).expect("it is one");
+    let terms = Terms { lasts: 3660, margin: 120, back: 60 };
+    let member = Shared::member(&[&machine.url], "first", 1, terms, Arc::new(Moment::now)).expect("it is one");
     let shared = Shared { member, wait: patience(), margin: 120, warns: options().warns, heard: Mutex::default() };
     let one = PostgresStore::begin(shared, false).expect("it begins");
     one.withdraw(claim(1).key, claim(1).expires).expect("it is there");
@@ -449,9 +477,9 @@ fn what_is_no_store() {
 }
 
 /// Servers of so many addresses, at which nobody looks.
-fn servers_of(count: usize) -> Arc<Servers> {
+fn servers_of(count: usize, now: impl Fn() -> Moment + Send + Sync + 'static) -> Arc<Servers> {
     let address = |_| Address::of("postgres://127.0.0.1:1/d").expect("it is one");
-    Servers::new((0..count).map(address).collect(), String::new())
+    Servers::new((0..count).map(address).collect(), String::new(), Arc::new(now))
 }
 
 /// A server that began its run then. The timeline of a primary; "" of a standby.
@@ -462,14 +490,14 @@ fn role(started: &str, line: &str) -> Result<Role, Fault> {
 /// What a member has of a server counts while no other one has taken its place.
 #[test]
 fn a_primary_by_the_last_looks() {
-    // (looks of a time to come, since a busy machine may take longer than a look counts)
-    let now = Instant::now() + 2 * patience();
+    // (by clocks that stand still, since a busy machine may take longer than a look counts)
+    let now = Moment::now();
     let text = |why: Result<(), Fault>| why.map_err(|why| why.text);
     let stale = || Err(said::STALE.1.to_owned());
     let (old, new) = (role("one", "00000001"), role("two", "00000002"));
     for (first, counts) in [(0, [Ok(()), stale()]), (1, [stale(), Ok(())])] {
-        let servers = servers_of(2);
-        let unlooked = || Err("not all servers were looked at".to_owned());
+        let servers = servers_of(2, move || now);
+        let unlooked = || Err(UNLOOKED.to_owned());
         servers.saw(first, new.clone(), now);
         assert_eq!([0, 1].map(|it| text(servers.counts(it))), [unlooked(), unlooked()]);
         // Of two primaries the one that was promoted later counts, whatever its number is.
@@ -480,10 +508,18 @@ fn a_primary_by_the_last_looks() {
         // (a server may have two addresses)
         servers.saw(1 - first, new.clone(), now);
         assert_eq!([0, 1].map(|it| text(servers.counts(it))), [Ok(()), Ok(())]);
-        // An old look does not count: the server may have become the primary since.
-        let ago = Instant::now().checked_sub(Duration::from_millis(said::MOST_AGE + 1)).expect("the machine runs for some seconds");
-        servers.saw(1 - first, role("one", ""), ago);
-        assert_eq!([0, 1].map(|it| text(servers.counts(it))), [unlooked(), unlooked()]);
+        // An old look does not count: the server may have become the primary since. It is old by either clock.
+        for (up, wall) in [(0, 1), (1, 0)] {
+            let ago = |more: u64| {
+                let passed = |by: u32| by * Duration::from_millis(said::MOST_AGE + more);
+                let up = now.up.checked_sub(passed(up)).expect("the machine runs for some seconds");
+                Moment { up, wall: now.wall - passed(wall), ..now }
+            };
+            servers.saw(1 - first, role("one", ""), ago(0));
+            assert_eq!([0, 1].map(|it| text(servers.counts(it))), counts);
+            servers.saw(1 - first, role("one", ""), ago(1));
+            assert_eq!([0, 1].map(|it| text(servers.counts(it))), [unlooked(), unlooked()]);
+        }
     }
     let other = Role { system: "8".to_owned(), ..new.clone().expect("it is there") };
     let rows = [
@@ -491,12 +527,12 @@ fn a_primary_by_the_last_looks() {
         (role("two", "00000001"), "addresses 1 and 2 are both primaries: stop the wrong one"),
     ];
     for (two, why) in rows {
-        let servers = servers_of(2);
+        let servers = servers_of(2, move || now);
         servers.saw(0, old.clone(), now);
         servers.saw(1, two, now);
         assert_eq!([0, 1].map(|it| text(servers.counts(it))), [Err(why.to_owned()), Err(why.to_owned())]);
     }
-    let none = servers_of(3);
+    let none = servers_of(3, move || now);
     none.saw(0, role("one", ""), now);
     none.saw(1, Err(Fault::server("it is off")), now);
     none.saw(2, role("two", ""), now);
@@ -504,12 +540,41 @@ fn a_primary_by_the_last_looks() {
     assert_eq!(text(none.counts(0)), Err(format!("address 1: {standby}; address 2: it is off; address 3: {standby}")));
 }
 
+/// Nobody knows what the server was meanwhile, and whom it answered, also where the look fails.
+#[test]
+fn a_look_that_began_before_a_suspension_is_old() {
+    let machine = Machine::new();
+    let runtime = Builder::new_current_thread().enable_all().build().expect("it can wait");
+    for url in [machine.url.as_str(), "postgres://127.0.0.1:1/d"] {
+        let (begun, hours, sleeps) = (Moment::now(), AtomicU32::new(0), Arc::new(AtomicBool::new(false)));
+        let is_asleep = Arc::clone(&sleeps);
+        let now = move || {
+            // (the machine is suspended once the time was read)
+            let hours = hours.fetch_add(is_asleep.swap(false, Ordering::AcqRel).into(), Ordering::AcqRel);
+            Moment { wall: begun.wall + hours * Duration::from_secs(3600), ..begun }
+        };
+        let addresses = [url; 2].map(|it| Address::of(it).expect("it is one"));
+        let servers = Servers::new(addresses.into(), String::new(), Arc::new(now));
+        let looks = |at| drop(runtime.block_on(servers.look(at, None, Instant::now() + patience())));
+        let is_unlooked = || servers.counts(1).map_or_else(|why| why.text == UNLOOKED, |()| false);
+        looks(0);
+        looks(1);
+        assert!(!is_unlooked(), "{url}");
+        sleeps.store(true, Ordering::Release);
+        looks(1);
+        looks(0);
+        assert!(is_unlooked(), "{url}");
+        looks(1);
+        assert!(!is_unlooked(), "{url}");
+    }
+}
+
 #[test]
 fn servers_that_nobody_looks_at_are_waited_for_in_time() {
     let (tell, told) = sync_channel(1);
     thread::spawn(move || {
         let runtime = Builder::new_current_thread().enable_all().build().expect("it can wait");
-        tell.send(runtime.block_on(servers_of(2).primary(Instant::now() + Duration::from_millis(50))))
+        tell.send(runtime.block_on(servers_of(2, Moment::now).primary(Instant::now() + Duration::from_millis(50))))
     });
     let why = told.recv_timeout(patience()).expect("it ends").expect_err("nobody has looked");
     assert!(why.is(said::SILENT), "{why}");
