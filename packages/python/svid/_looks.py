@@ -4,28 +4,15 @@ from __future__ import annotations
 
 import threading
 import time
-from typing import NamedTuple
 
 from . import _statements
 from ._ending import Ending
+from ._moments import Moment
 from .errors import Closed
 
 _MOST = _statements.MOST_UNLOOKED / 1000
 _ROUNDING = 1
 """How much the clock of a validator leaves out, which gives whole seconds."""
-
-
-class _Moment(NamedTuple):
-    """A moment by two clocks."""
-
-    up: float
-    """By the one that only goes ahead, which stands still while the machine is suspended."""
-    wall: int
-    """By the one that may be wrong, and go back."""
-
-    def is_old(self, now: _Moment) -> bool:
-        """Whether it was too long ago, by either clock."""
-        return now.up - self.up > _MOST or now.wall - self.wall > _MOST + _ROUNDING
 
 
 class Looks:
@@ -42,14 +29,14 @@ class Looks:
         self._begun = 0  # how many have begun
         self._over = 0  # the last one that has read all, or failed
         self._wanted = 0  # the last one that somebody waits for
-        self._began: _Moment | None = None  # the last one
-        self._looked: _Moment | None = None  # when the one began that is over
+        self._began: Moment | None = None  # the last one
+        self._looked: Moment | None = None  # when the one began that is over
 
     def begin(self, wall: int) -> None:
         """A look begins at this time, in seconds since 1970."""
         with self._turn:
             self._begun += 1
-            self._began = _Moment(time.monotonic(), wall)
+            self._began = Moment(time.monotonic(), wall)
 
     def end(self) -> None:
         """The look has read all that there was, or has failed."""
@@ -65,18 +52,18 @@ class Looks:
     def is_due(self, wall: int) -> bool:
         """Whether a token that comes at this time is to wait for a look."""
         looked = self._looked
-        return looked is not None and looked.is_old(_Moment(time.monotonic(), wall))
+        return looked is not None and _is_old(looked, Moment(time.monotonic(), wall))
 
     def wait(self, wall: int, most: float) -> None:
         """Waits where a look is due, for at most so many seconds.
 
         One that began before the process was stopped may have read what was there before.
         """
-        now = _Moment(time.monotonic(), wall)
+        now = Moment(time.monotonic(), wall)
         with self._turn:
             if self._began is None or not self.is_due(wall):
                 return
-            one = self._begun + self._began.is_old(now)
+            one = self._begun + _is_old(self._began, now)
             if self._wanted < one:
                 self._wanted = one
                 self._ended.wake()
@@ -85,3 +72,8 @@ class Looks:
                 raise Closed
             if self.is_due(wall):
                 self._looked = now  # (who comes next does not wait for a store that hangs)
+
+
+def _is_old(it: Moment, now: Moment) -> bool:
+    """Whether it was too long ago."""
+    return it.until(now._replace(wall=now.wall - _ROUNDING)) > _MOST

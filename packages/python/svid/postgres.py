@@ -36,6 +36,7 @@ from ._group import (
     warn_of_end,
     withdrawals_of,
 )
+from ._moments import Moment
 from .stores import WITHDRAWN, Claim, Found
 
 __all__ = ["PostgresStore", "State", "StoreFault"]
@@ -263,13 +264,13 @@ class PostgresStore(GroupStore):
         """
         self._same_process()
         with self._connection(end) as one:
-            begun = time.monotonic()
+            begun = Moment.now()
             rows = one.call(self._statements[name], values, end)
             if confirm and self._replicas > 1:
                 kept = one.call(self._statements["kept"], [self._replicas], end)
                 if kept != [[1]]:
                     raise StoreFault("alone")
-            if confirm and (time.monotonic() - begun) * 1000 > _statements.SOON:
+            if confirm and begun.until(Moment.now()) * 1000 > _statements.SOON:
                 # (it may be gone, and who was away would see that later than its answer)
                 one.call(self._statements["role"], [], end)
         self._servers.counts(one.at)
@@ -514,7 +515,7 @@ class _Server:
 
     role: _Role | None = None
     fault: str = ""
-    at: float | None = None
+    at: Moment | None = None
 
     def __init__(self, number: int, url: str) -> None:
         self.number = number
@@ -595,8 +596,8 @@ class _Servers:
                 raise StoreFault("stale")
 
     def _is_looked_at(self) -> bool:
-        oldest = time.monotonic() - _statements.MOST_AGE / 1000
-        return all(it.at is not None and it.at >= oldest for it in self.all)
+        now, most = Moment.now(), _statements.MOST_AGE / 1000
+        return all(it.at is not None and it.at.until(now) <= most for it in self.all)
 
     def _primary(self) -> _Server:
         """The primary by the last looks."""
@@ -632,16 +633,16 @@ class _Servers:
         """Looks at a server until the end."""
         one: _Connection | None = None
         while not self._ends.is_set:
-            begun = time.monotonic()
+            begun = Moment.now()
             one = self._look(at, one, begun)
-            self._ends.wait(max(0.0, begun + _statements.LOOK_EVERY / 1000 - time.monotonic()))
+            self._ends.wait(max(0.0, begun.up + _statements.LOOK_EVERY / 1000 - time.monotonic()))
         if one:
             one.close()
         with self._changed:
             self._changed.notify_all()
 
-    def _look(self, at: _Server, one: _Connection | None, begun: float) -> _Connection | None:
-        role, fault, end = None, "", begun + _statements.LOOK_WAIT / 1000
+    def _look(self, at: _Server, one: _Connection | None, begun: Moment) -> _Connection | None:
+        role, fault, end = None, "", begun.up + _statements.LOOK_WAIT / 1000
         try:
             if one is None:
                 one, role = _reach(at, self.role, self._ends, end)
@@ -651,7 +652,8 @@ class _Servers:
             fault, role = brief(str(why)), None
             if one:
                 one.close()
-            one, begun = None, time.monotonic()  # (it answered nobody until now)
+            # (it answered nobody until now, as far as this machine was awake to see that)
+            one, begun = None, begun.awake_until(Moment.now())
         with self._changed:
             at.role, at.fault, at.at = role, fault, begun
             self._changed.notify_all()

@@ -39,6 +39,7 @@ from ._group import (
     warn_of_end,
     withdrawals_of,
 )
+from ._moments import Moment
 from ._statements import MOST_CALLS, MOST_MARKS, STATE_WAIT
 from .stores import WITHDRAWN, Claim, Found
 
@@ -444,9 +445,9 @@ class RedisStore(GroupStore):
                 if others:
                     self._agree(one, others, end)
                     continue
-                begun = time.monotonic()
+                begun = Moment.now()
                 answers = self._run(one, name, calls, end)
-                if (time.monotonic() - begun) * 3000 > self._compare_wait:
+                if begun.until(Moment.now()) * 3000 > self._compare_wait:
                     # (it may be gone, and who was away would see that later than its answer)
                     one.checked([("TIME",)], end)
                 for it, answer in zip(values, answers):

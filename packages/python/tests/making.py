@@ -15,6 +15,7 @@ import subprocess
 import tempfile
 import threading
 import time
+import types
 
 import jwt
 from cryptography import x509
@@ -23,6 +24,7 @@ from cryptography.hazmat.primitives.asymmetric import ec, rsa
 from cryptography.x509.oid import NameOID
 
 import svid
+from svid import _moments
 
 NOW = 1_767_225_600
 PROGRAM = os.environ["SVID"]
@@ -283,6 +285,15 @@ def no_logger():
         yield
     finally:
         logging.getLogger("svid").removeHandler(handler)
+
+
+class Clocks:
+    """The clocks of each `Moment`: they stand still until a test sets them."""
+
+    def __init__(self, monkeypatch):
+        self.up, self.wall = time.monotonic(), time.time()
+        calls = {"monotonic": lambda: self.up, "time": lambda: self.wall}
+        monkeypatch.setattr(_moments, "time", types.SimpleNamespace(**calls))
 
 
 def compact(value):

@@ -1218,18 +1218,21 @@ def test_requests_after_a_suspension_share_a_look(is_away, monkeypatch):
     """Also where it fails: whoever comes then is answered at once, as before."""
     store, tokens, go = Suspended(monkeypatch), [fresh(jti=str(n)) for n in range(2)], []
     with store.validator("reuse", wait=9 * PATIENCE) as checks:
-        looks, asked, waits = claims_of(checks).looks, store.asked, []
+        looks, asked, waits, begun = claims_of(checks).looks, store.asked, [], []
         wait_for = looks._turn.wait_for
         looks._turn.wait_for = lambda *given: waits.append(1) or wait_for(*given)
 
         def holds():
+            begun.append(True)
             until(lambda: go)
             if is_away:
                 away()
 
         store.before = holds
         store.withdraw_meanwhile(tokens[0])
-        calls = [Soon(checks.check, tokens[0]) for _ in range(THREADS)]
+        calls = [Soon(checks.check, tokens[0])]
+        until(lambda: begun)
+        calls += [Soon(checks.check, tokens[0]) for _ in range(THREADS - 1)]
         until(lambda: len(waits) == THREADS)
         go.append(True)
         assert {it.answer for it in calls} == {SUBJECT if is_away else "Withdrawn"}

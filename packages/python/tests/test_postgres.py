@@ -8,6 +8,7 @@ import logging
 import os
 import pathlib
 import re
+import select
 import socket
 import struct
 import subprocess
@@ -20,6 +21,7 @@ import pytest
 import svid
 from making import (
     PATIENCE,
+    Clocks,
     answering,
     bundle,
     entry,
@@ -31,6 +33,7 @@ from making import (
 )
 from svid import postgres
 from svid._group import End
+from svid._moments import Moment
 from svid.postgres import PostgresStore, StoreFault
 
 CLIENT = pathlib.Path(__file__).parent / "store_client.py"
@@ -362,7 +365,7 @@ def servers_of(*roles):
     urls = [f"postgres://u@h{n}/d" for n, _ in enumerate(roles)]
     servers = postgres._Servers(urls, "", End())
     for it, role in zip(servers.all, roles):
-        it.role, it.at = role, time.monotonic() + PATIENCE
+        it.role, it.at = role, Moment(time.monotonic() + PATIENCE, time.time() + PATIENCE)
     return servers
 
 
@@ -376,6 +379,94 @@ def test_primaries_of_two_clusters_are_named():
         servers_of(primary, standby, other)._primary()
     later = primary._replace(started="later", line="00000002")
     assert servers_of(primary, later)._primary().number == 2
+
+
+PRIMARY = postgres._Role(True, "1", "now", "00000001")
+STANDBY = PRIMARY._replace(primary=False, line="")
+
+
+@pytest.mark.parametrize("up, wall", [(0, 3), (3, 0), (3, 3), (3, -100)])
+def test_looks_that_are_old_do_not_count(up, wall, monkeypatch):
+    """By either clock: while the machine is suspended, the one that only goes ahead stands still.
+
+    Another server may have become the primary since.
+    """
+    clocks, servers = Clocks(monkeypatch), servers_of(PRIMARY, STANDBY)
+    for old in servers.all:
+        for it in servers.all:
+            it.at = Moment.now()
+        clocks.up, clocks.wall = clocks.up + min(up, 2.8), clocks.wall + min(wall, 2.8)
+        servers.counts(servers.all[0])
+        for it in servers.all:
+            it.at = it.at if it is old else Moment.now()
+        clocks.up, clocks.wall = clocks.up + max(up - 2.8, 0), clocks.wall + max(wall - 2.8, 0)
+        with pytest.raises(StoreFault, match="not all servers were looked at"):
+            servers.counts(servers.all[0])
+
+
+class Asked:
+    """A connection to a server whose answer comes after some time, or does not come."""
+
+    def __init__(self, monkeypatch):
+        self.clocks, self.fails, self.up, self.wall = Clocks(monkeypatch), False, 0, 0
+        monkeypatch.setattr(postgres, "_role", self.role)
+
+    def role(self, *_):
+        self.clocks.up, self.clocks.wall = self.clocks.up + self.up, self.clocks.wall + self.wall
+        if self.fails:
+            raise StoreFault("silent")
+        return STANDBY
+
+    def close(self):
+        """Nothing is open."""
+
+
+@pytest.mark.parametrize("fails", [False, True])
+def test_a_look_during_which_the_machine_was_suspended_does_not_count(fails, monkeypatch):
+    """The server may have become the primary meanwhile, whatever it had answered before."""
+    asked, servers = Asked(monkeypatch), servers_of(PRIMARY, STANDBY)
+    asked.fails, asked.wall = fails, 3
+    servers._look(servers.all[1], asked, Moment.now())
+    with pytest.raises(StoreFault, match="not all servers were looked at"):
+        servers.counts(servers.all[0])
+
+
+def test_a_look_at_a_server_that_hangs_counts_from_its_end(monkeypatch):
+    """Until then it has answered nobody. An answer may have been given when the look began."""
+    asked, servers = Asked(monkeypatch), servers_of(PRIMARY, STANDBY)
+    asked.up = asked.wall = 2
+    for asked.fails in True, False:
+        servers._look(servers.all[1], asked, Moment.now())
+        servers.counts(servers.all[0])
+        asked.clocks.up, asked.clocks.wall = asked.clocks.up + 1, asked.clocks.wall + 1
+        if asked.fails:
+            servers.counts(servers.all[0])
+            continue
+        with pytest.raises(StoreFault, match="not all servers were looked at"):
+            servers.counts(servers.all[0])
+
+
+def test_an_answer_of_a_server_that_is_gone_after_a_suspension(machine, group, monkeypatch):
+    """It does not count: another one may stand in its place, and lack what it has stored."""
+    monkeypatch.setattr(PostgresStore, "_watch", lambda _: None)
+    clocks, call = Clocks(monkeypatch), postgres._Connection.call
+
+    def suspended(one, text, *rest):
+        rows = call(one, text, *rest)
+        if text == store._statements["put one"]:
+            clocks.wall += 100
+            machine.tell("kill")
+            until(lambda: select.select([one._pg.socket], [], [], 0)[0])  # (it has ended)
+        return rows
+
+    with store_of(machine, group) as store:
+        put(store, claim(1))
+        monkeypatch.setattr(postgres._Connection, "call", suspended)
+        try:
+            with pytest.raises(StoreFault):
+                store.put([claim(2)])
+        finally:
+            machine.tell("start")
 
 
 def test_each_server_has_one_thread(monkeypatch):

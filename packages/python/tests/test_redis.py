@@ -21,7 +21,7 @@ import of_go
 import pytest
 import redis
 import svid
-from making import PATIENCE, Authority, fresh, joined, status_of, until, validator
+from making import PATIENCE, Authority, Clocks, fresh, joined, status_of, until, validator
 from svid import _scripts
 from svid import redis as store_of_redis
 from svid._group import End, GroupStore
@@ -388,6 +388,25 @@ def unwatched(*servers):
     store = RedisStore.__new__(RedisStore)
     store._begin(servers, "svid", 1, PATIENCE, (7200, 60, 60), 500)
     return store
+
+
+def test_an_answer_of_a_server_that_is_gone_after_a_suspension(machine, monkeypatch):
+    """It does not count: another one may stand in its place, and lack what it has stored."""
+    clocks = Clocks(monkeypatch)
+    with unwatched(machine.url) as store:
+        put(store, claim(1))
+        run = store._run
+
+        def suspended(one, name, *rest):
+            answers = run(one, name, *rest)
+            if name == "put":
+                clocks.wall += 100
+                machine.kill()
+            return answers
+
+        store._run = suspended
+        with pytest.raises(StoreFault):
+            store.put([claim(2)])
 
 
 def test_a_look_that_a_late_answer_overtook(machine):
