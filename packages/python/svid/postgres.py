@@ -643,6 +643,9 @@ class _Servers:
 
     def _look(self, at: _Server, one: _Connection | None, begun: Moment) -> _Connection | None:
         role, fault, end = None, "", begun.up + _statements.LOOK_WAIT / 1000
+        if one and at.at and at.at.until(begun) > _statements.MOST_AGE / 1000:
+            one.close()
+            one = None  # (it may have ended meanwhile, which says nothing of the server)
         try:
             if one is None:
                 one, role = _reach(at, self.role, self._ends, end)

@@ -407,6 +407,8 @@ def test_looks_that_are_old_do_not_count(up, wall, monkeypatch):
 class Asked:
     """A connection to a server whose answer comes after some time, or does not come."""
 
+    is_open = True
+
     def __init__(self, monkeypatch):
         self.clocks, self.fails, self.up, self.wall = Clocks(monkeypatch), False, 0, 0
         monkeypatch.setattr(postgres, "_role", self.role)
@@ -418,7 +420,7 @@ class Asked:
         return STANDBY
 
     def close(self):
-        """Nothing is open."""
+        self.is_open = False
 
 
 @pytest.mark.parametrize("fails", [False, True])
@@ -444,6 +446,20 @@ def test_a_look_at_a_server_that_hangs_counts_from_its_end(monkeypatch):
             continue
         with pytest.raises(StoreFault, match="not all servers were looked at"):
             servers.counts(servers.all[0])
+
+
+@pytest.mark.parametrize("is_suspended", [False, True])
+def test_a_connection_from_before_a_suspension_says_nothing(is_suspended, monkeypatch):
+    """It may have ended meanwhile, though the server is there. So a look connects again."""
+    made, asked, servers = object(), Asked(monkeypatch), servers_of(PRIMARY, STANDBY)
+    asked.fails = is_suspended
+    monkeypatch.setattr(postgres, "_reach", lambda *_: (made, PRIMARY))
+    one = servers.all[1]
+    one.at = Moment.now()
+    asked.clocks.wall += 100 if is_suspended else 1
+    kept = servers._look(one, asked, Moment.now())
+    assert (kept, one.role) == ((made, PRIMARY) if is_suspended else (asked, STANDBY))
+    assert asked.is_open != is_suspended
 
 
 def test_an_answer_of_a_server_that_is_gone_after_a_suspension(machine, group, monkeypatch):
