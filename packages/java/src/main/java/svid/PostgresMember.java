@@ -25,6 +25,7 @@ import java.util.concurrent.CountDownLatch;
 import java.util.concurrent.Semaphore;
 import java.util.concurrent.TimeUnit;
 import java.util.concurrent.locks.ReentrantLock;
+import java.util.function.Supplier;
 import java.util.regex.Pattern;
 import svid.PostgresStore.Fault;
 import svid.Store.Claim;
@@ -46,6 +47,9 @@ final class PostgresMember implements AutoCloseable {
     private static final int WITHDRAWAL = 40;
     private static final int LONGEST_ERROR = 1024;
     private static final Object[] NONE = {};
+
+    /** What says how long ago something was. */
+    volatile Supplier<Moment> clock = Moment::now; // (a test gives another one)
 
     private final String group;
     private final int replicas;
@@ -401,13 +405,13 @@ final class PostgresMember implements AutoCloseable {
         Session one = taken(end);
         List<Object[]> rows;
         boolean isWhole = false;
-        long begun = Times.up();
+        Moment begun = clock.get();
         try {
             rows = one.call(text, end, values);
             if (confirm && replicas > 1 && (long) only(one.call(Statements.KEPT, end, replicas), 1)[0] != 1) {
                 throw new Fault(Statements.IS_ALONE);
             }
-            if (confirm && Times.up() - begun > Statements.SOON) {
+            if (confirm && begun.isOld(Statements.SOON, clock.get())) {
                 one.role(end); // (it may be gone, and who was away would see that later than its answer)
             }
             isWhole = true;
@@ -585,7 +589,7 @@ final class PostgresMember implements AutoCloseable {
         private final String url;
         private Role role;
         private String fault = "";
-        private long at = -1;
+        private Moment at; // null before the first look
 
         Server(int number, String url) {
             this.number = number;
@@ -778,8 +782,8 @@ final class PostgresMember implements AutoCloseable {
         }
 
         private boolean isLookedAt() {
-            long now = Times.up();
-            return all.stream().allMatch(it -> it.at >= 0 && now - it.at <= Statements.MOST_AGE);
+            Moment now = clock.get();
+            return all.stream().allMatch(it -> it.at != null && !it.at.isOld(Statements.MOST_AGE, now));
         }
 
         /** The primary by the last looks. */
@@ -818,9 +822,14 @@ final class PostgresMember implements AutoCloseable {
         private void watch(Server at) {
             Session session = null;
             while (!isClosed()) {
-                long begun = Times.up();
+                long next = Times.up() + Statements.LOOK_EVERY;
+                Moment begun = clock.get();
+                if (session != null && at.at.isOld(Statements.MOST_AGE, begun)) {
+                    session.close(); // (that it has ended meanwhile would say nothing about the server of now)
+                    session = null;
+                }
                 session = look(at, session, begun);
-                await(Math.max(0, begun + Statements.LOOK_EVERY - Times.up()));
+                await(Math.max(0, next - Times.up()));
             }
             if (session != null) {
                 session.close();
@@ -828,12 +837,12 @@ final class PostgresMember implements AutoCloseable {
             wake();
         }
 
-        private Session look(Server at, Session known, long begun) {
-            long end = begun + Statements.LOOK_WAIT;
+        private Session look(Server at, Session known, Moment begun) {
+            long end = Times.up() + Statements.LOOK_WAIT;
             Session session = known;
             Role role = null;
             String fault = "";
-            long when = begun;
+            Moment when = begun;
             try {
                 if (session == null) {
                     session = new Session(at, end);
@@ -845,7 +854,7 @@ final class PostgresMember implements AutoCloseable {
                     session.close();
                 }
                 session = null;
-                when = Times.up(); // (it answered nobody until now)
+                when = begun.unlessSuspended(clock.get()); // (it answered nobody until now)
             }
             synchronized (this) {
                 at.role = role;

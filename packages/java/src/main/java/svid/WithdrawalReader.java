@@ -7,9 +7,6 @@ import java.util.concurrent.TimeUnit;
 final class WithdrawalReader {
     static final String THREAD = "svid-withdrawals";
 
-    /** How much the clock of a validator leaves out, which gives whole seconds. */
-    private static final long ROUNDING = 1;
-
     /** How many milliseconds lie between two looks. */
     volatile long every = 1000; // (a test gives another one)
 
@@ -26,14 +23,6 @@ final class WithdrawalReader {
     private String said; // what the last fault said, until a page is heard
     private volatile boolean isWhole; // they were read to the end once
     private final CountDownLatch announced = new CountDownLatch(1); // the member knows that
-
-    /** A moment: in milliseconds by the clock that only goes ahead, and in seconds by the one that may be wrong, and go back. */
-    private record Moment(long up, long wall) {
-        /** Whether it was too long ago, by either clock: while the machine is suspended, the first one stands still. */
-        boolean isOld(Moment now) {
-            return now.up - up > Statements.MOST_UNLOOKED || now.wall - wall > Statements.MOST_UNLOOKED / 1000 + ROUNDING;
-        }
-    }
 
     WithdrawalReader(Store store, Member member) {
         this.store = store;
@@ -81,7 +70,7 @@ final class WithdrawalReader {
      */
     boolean isDue(long time) {
         Moment last = looked;
-        return last != null && last.isOld(momentOf(time));
+        return last != null && isOld(last, momentOf(time));
     }
 
     /**
@@ -94,7 +83,7 @@ final class WithdrawalReader {
             if (!isDue(time)) {
                 return;
             }
-            long one = began.isOld(now) ? begun + 1 : begun;
+            long one = isOld(began, now) ? begun + 1 : begun;
             want(one);
             for (long left = most; over < one && !isClosing && left > 0; left = end - Times.up()) {
                 gate.wait(left);
@@ -130,7 +119,11 @@ final class WithdrawalReader {
     }
 
     private Moment momentOf(long time) {
-        return new Moment(member.up.getAsLong(), time);
+        return new Moment(member.up.getAsLong(), Times.instantOf(time));
+    }
+
+    private static boolean isOld(Moment then, Moment now) {
+        return then.isOld(Statements.MOST_UNLOOKED, now);
     }
 
     /** A call of the store begins. */

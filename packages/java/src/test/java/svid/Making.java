@@ -16,6 +16,7 @@ import java.util.concurrent.Callable;
 import java.util.concurrent.CountDownLatch;
 import java.util.concurrent.Future;
 import java.util.concurrent.FutureTask;
+import java.util.concurrent.Semaphore;
 import java.util.concurrent.TimeUnit;
 import java.util.concurrent.TimeoutException;
 
@@ -82,6 +83,17 @@ final class Making {
     static void await(CountDownLatch latch) {
         try {
             if (!latch.await(PATIENCE, TimeUnit.SECONDS)) {
+                throw new AssertionError("nobody lets it go on");
+            }
+        } catch (InterruptedException why) {
+            throw new AssertionError(why);
+        }
+    }
+
+    /** Waits in such a call until a test lets one more go on. */
+    static void await(Semaphore permits) {
+        try {
+            if (!permits.tryAcquire(PATIENCE, TimeUnit.SECONDS)) {
                 throw new AssertionError("nobody lets it go on");
             }
         } catch (InterruptedException why) {

@@ -32,7 +32,11 @@ import java.util.concurrent.CompletableFuture;
 import java.util.concurrent.ConcurrentHashMap;
 import java.util.concurrent.CopyOnWriteArrayList;
 import java.util.concurrent.CountDownLatch;
+import java.util.concurrent.Semaphore;
 import java.util.concurrent.TimeUnit;
+import java.util.concurrent.atomic.AtomicInteger;
+import java.util.concurrent.atomic.AtomicReference;
+import java.util.function.Supplier;
 import java.util.regex.Matcher;
 import java.util.regex.Pattern;
 import java.util.stream.Stream;
@@ -475,6 +479,194 @@ public class PostgresTest {
             put(store, 2); // (members have compared by then)
             assertEquals(Owner.WITHDRAWN, member.withdraw(claim(1).key(), claim(1).expiry(), Times.up() + 1000 * Making.PATIENCE));
             Making.until(() -> put(store, 1).owner().equals(Owner.WITHDRAWN));
+        }
+    }
+
+    /** The clocks of a machine that sleeps where a test wants that: the one that only goes ahead stands still then, and here always. */
+    private static final class Suspended implements Supplier<Moment> {
+        private final AtomicReference<Moment> now = new AtomicReference<>(Moment.now());
+        private final Semaphore mayGoOn = new Semaphore(0, true);
+        private final AtomicInteger looks = new AtomicInteger();
+        private volatile boolean isHolding;
+
+        @Override
+        public Moment get() {
+            Moment it = now.get();
+            if (Thread.currentThread().getName().equals("svid-server")) {
+                looks.incrementAndGet();
+                if (isHolding) {
+                    Making.await(mayGoOn);
+                }
+            }
+            return it;
+        }
+
+        /** Lets so many milliseconds pass, and the machine sleep for some more. */
+        void pass(long millis, long slept) {
+            now.updateAndGet(it -> new Moment(it.up() + millis, it.wall().plusMillis(millis + slept)));
+        }
+
+        /** Lets a look at each of two servers begin, but not go on. */
+        void hold() throws Exception {
+            isHolding = true;
+            Making.until(() -> mayGoOn.getQueueLength() == 2);
+        }
+
+        /** Lets each of these looks end, and the next one begin. */
+        void look() throws Exception {
+            int before = looks.get();
+            mayGoOn.release(2);
+            Making.until(() -> looks.get() == before + 2 && mayGoOn.getQueueLength() == 2);
+        }
+
+        void goOn() {
+            isHolding = false;
+            mayGoOn.release(1000);
+        }
+    }
+
+    /** A member whose clocks these are, once it has put a claim. */
+    private static PostgresMember running(Supplier<Moment> clock, String... urls) throws Exception {
+        PostgresMember member = member(group(), urls);
+        member.clock = clock;
+        Making.until(() -> member.put(List.of(claim(1)), Times.up() + 1000 * Making.PATIENCE).get(0).found() != null);
+        return member;
+    }
+
+    /** What a claim finds, or why it has no answer, or that it waits for looks at the servers. */
+    private static String found(PostgresMember member, int n) throws Exception {
+        AtomicReference<PostgresMember.Put> put = new AtomicReference<>();
+        Thread call = new Thread(() -> put.set(member.put(List.of(claim(n)), Times.up() + 9000 * Making.PATIENCE).get(0)));
+        call.setDaemon(true);
+        call.start();
+        Making.until(() -> !call.isAlive() || isWaiting(call));
+        PostgresMember.Put it = put.get();
+        return it == null ? "it waits" : it.fault() == null ? it.found().owner().toString() : it.fault().getMessage();
+    }
+
+    private static boolean isWaiting(Thread call) {
+        return call.getState() == Thread.State.TIMED_WAITING
+                && Stream.of(call.getStackTrace()).anyMatch(it -> it.getMethodName().equals("primary"));
+    }
+
+    /** The group may have another primary since then, which an older one does not know. */
+    @Test
+    public void whatWasSeenBeforeASuspensionDoesNotCount() throws Exception {
+        Suspended clock = new Suspended();
+        try (PostgresMember member = running(clock, url, url + "&ApplicationName=x")) {
+            clock.hold();
+            clock.look();
+            clock.pass(0, Statements.MOST_AGE);
+            assertEquals(OWNER.toString(), found(member, 2));
+            clock.pass(0, 1);
+            assertEquals("it waits", found(member, 3));
+            clock.look(); // (these looks had begun before)
+            assertEquals("it waits", found(member, 4));
+            clock.look();
+            assertEquals(OWNER.toString(), found(member, 5));
+        } finally {
+            clock.goOn();
+        }
+    }
+
+    /** A server that did not answer a look answered nobody until then, unless the machine was suspended meanwhile. */
+    @Test
+    public void aLookThatFailsAfterASuspensionDoesNotCount() throws Exception {
+        Suspended clock = new Suspended();
+        Semaphore tried = new Semaphore(0);
+        Semaphore mayFail = new Semaphore(1000);
+        Driver driver = new org.postgresql.Driver() {
+            @Override
+            public Connection connect(String address, Properties with) throws SQLException {
+                tried.release();
+                Making.await(mayFail);
+                throw new SQLException("nobody is there");
+            }
+        };
+        DriverManager.registerDriver(driver); // (it is asked after PostgreSQL's, which finds no server)
+        try (PostgresMember member = running(clock, url, "jdbc:postgresql://127.0.0.1:1/d")) {
+            mayFail.drainPermits();
+            Making.until(() -> mayFail.getQueueLength() == 1);
+            tried.drainPermits();
+            for (int slept : List.of(0, Statements.MOST_AGE, 0)) {
+                clock.pass(Statements.LOOK_WAIT, slept);
+                mayFail.release();
+                Making.await(tried); // (the next look has begun)
+                clock.pass(Statements.MOST_AGE - Statements.LOOK_WAIT + 1, 0);
+                int looks = clock.looks.get();
+                Making.until(() -> clock.looks.get() > looks + 1); // (of the other server)
+                assertEquals(slept == 0 ? OWNER.toString() : "it waits", found(member, 2));
+            }
+        } finally {
+            mayFail.release(1000);
+            DriverManager.deregisterDriver(driver);
+        }
+    }
+
+    /** That such a connection has ended does not say that its server answers nobody: it may have been started again. */
+    @Test
+    public void aConnectionFromBeforeASuspensionSaysNothing() throws Exception {
+        Suspended clock = new Suspended();
+        List<Connection> made = new CopyOnWriteArrayList<>();
+        Driver its = DriverManager.getDriver(url);
+        Driver driver = new org.postgresql.Driver() {
+            @Override
+            public Connection connect(String address, Properties with) throws SQLException {
+                Connection one = super.connect(address, with);
+                if (Thread.currentThread().getName().equals("svid-server")) {
+                    made.add(one);
+                }
+                return one;
+            }
+        };
+        DriverManager.deregisterDriver(its);
+        DriverManager.registerDriver(driver);
+        try (PostgresMember member = running(clock, url, url + "&ApplicationName=x")) {
+            clock.hold();
+            clock.pass(0, Statements.MOST_AGE + 1);
+            clock.look();
+            assertEquals(2, made.size());
+            for (Connection it : made) {
+                it.close();
+            }
+            clock.look();
+            assertEquals(OWNER.toString(), found(member, 2));
+        } finally {
+            clock.goOn();
+            DriverManager.deregisterDriver(driver);
+            DriverManager.registerDriver(its);
+        }
+    }
+
+    /** The answer of a call during which the machine was suspended counts if the server is still there. */
+    @Test
+    public void anAnswerFromBeforeASuspension() throws Exception {
+        for (int slept : List.of(Statements.SOON, Statements.SOON + 1)) {
+            Suspended clock = new Suspended();
+            AtomicInteger readings = new AtomicInteger(1000);
+            Supplier<Moment> its = () -> {
+                if (readings.incrementAndGet() == 2) { // (the server has answered)
+                    clock.pass(0, slept);
+                    assertEquals("done", told("kill"));
+                }
+                return clock.get();
+            };
+            try (PostgresMember member = running(its, url)) {
+                readings.set(0);
+                PostgresMember.Put put = member.put(List.of(claim(2)), Times.up() + 1000 * Making.PATIENCE).get(0);
+                assertTrue(readings.get() >= 2);
+                assertEquals(slept == Statements.SOON, put.fault() == null);
+            } finally {
+                assertEquals("done", tell("start"));
+            }
+        }
+    }
+
+    private static String told(String what) {
+        try {
+            return tell(what);
+        } catch (Exception why) {
+            throw new AssertionError(why);
         }
     }
 
