@@ -11,6 +11,7 @@ import (
 	"github.com/gomodule/redigo/redis"
 
 	"svid.example/go/v3/claims"
+	"svid.example/go/v3/internal/clocks"
 	"svid.example/go/v3/svid"
 )
 
@@ -275,7 +276,7 @@ func (s *Store) adopt(it *shard, v view) bool {
 // tick notes the store's time.
 func (it *shard) tick(seconds uint64) {
 	it.latest = maximum(it.latest, seconds)
-	it.clock = clock{seconds, time.Now()}
+	it.clock = clock{seconds, clocks.Now()}
 }
 
 // swap writes a record in the place of one that was read, if nobody else has written meanwhile.

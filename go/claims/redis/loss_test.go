@@ -1379,7 +1379,8 @@ func TestWhatAMemberKnows(t *testing.T) {
 	}
 }
 
-// A token that lives for too long is not even put where the store's time is known, and where it was another one, it has no answer.
+// A token that lives for too long is not even put where the store's time is known, and where it was another one, it has no answer. One that comes just
+// after a suspension of the computer is no such token: the store's time went on.
 func TestATokenThatLivesTooLong(t *testing.T) {
 	t.Parallel()
 	s := start(t)
@@ -1399,6 +1400,14 @@ func TestATokenThatLivesTooLong(t *testing.T) {
 	}
 	if f := claimstest.Try(a, patience.Long, c)[0]; !errors.Is(f.Err, errTooLong) {
 		t.Errorf("by another time: %+v", f)
+	}
+	own, c := openedOwn(t, Options{URLs: []string{s.URL}}), claim(1)
+	own.mu.Lock()
+	was := &own.shards[0].clock
+	*was = clock{was.store - 5000, clocks.Moment{Up: was.own.Up, Wall: was.own.Wall - 5000*time.Second}}
+	own.mu.Unlock()
+	if f := claimstest.Try(own, patience.Long, c)[0]; claimstest.Judge(c, f, 60) != claimstest.Mine {
+		t.Errorf("after a suspension: %+v", f)
 	}
 }
 

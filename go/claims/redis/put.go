@@ -121,11 +121,11 @@ func (s *Store) putPart(ctx context.Context, p *part, these []claims.Claim, foun
 	}
 	known := make([]sent, len(p.shards))
 	s.mu.Lock()
+	begun := s.now()
 	for i, it := range p.shards {
-		known[i] = sent{it.record, it.clock.store + uint64(time.Since(it.clock.own)/time.Second), it.claimed}
+		known[i] = sent{it.record, it.clock.store + uint64(begun.Since(it.clock.own)/time.Second), it.claimed}
 	}
 	s.mu.Unlock()
-	begun := s.now()
 	again, err := s.putNew(ctx, c, p, known, these, found)
 	if err == nil && len(again) > 0 {
 		err = s.readOthers(ctx, c, p, again, known, these, found)

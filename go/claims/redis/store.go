@@ -102,7 +102,7 @@ type shard struct {
 
 type clock struct {
 	store uint64
-	own   time.Time
+	own   clocks.Moment
 }
 
 // An evidence is an entry that the server must have until it expires.
