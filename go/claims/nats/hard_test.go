@@ -24,6 +24,7 @@ import (
 	"svid.example/go/v3/claims"
 	"svid.example/go/v3/claims/claimstest"
 	"svid.example/go/v3/internal/broker"
+	"svid.example/go/v3/internal/clocks"
 	"svid.example/go/v3/internal/logtest"
 	"svid.example/go/v3/internal/natstest"
 	"svid.example/go/v3/internal/patience"
@@ -660,6 +661,32 @@ func TestADoubtWhileAClaimIsOnItsWay(t *testing.T) {
 	wantOwner(t, claimstest.Put(t, a, c)[0], c.Owner)
 	if settled := a.settled.Load(); doubted == 0 || settled < doubted {
 		t.Errorf("answered by a server that was looked at before doubt %d, and not behind %d", settled, doubted)
+	}
+}
+
+// An answer that came before a suspension of the computer may be of a server that is gone: that is asked once more.
+func TestAnAnswerFromBeforeASuspension(t *testing.T) {
+	t.Parallel()
+	a := open(t, newMachine(t), claimstest.Options{Name: "suspended", Terms: claimstest.Usual})
+	claimstest.Put(t, a, one(1))
+	asked := func() uint64 { // how often any member has asked for the store's time
+		all, err := a.infos(patient(t))
+		if err != nil {
+			t.Fatal(err)
+		}
+		return all[ofClock].State.Last
+	}
+	for _, suspended := range []time.Duration{0, time.Hour} {
+		before, wall := asked(), time.Duration(0)
+		a.now = func() clocks.Moment {
+			wall += suspended
+			return clocks.Moment{Wall: wall}
+		}
+		c := one(1)
+		wantOwner(t, claimstest.Put(t, a, c)[0], c.Owner)
+		if isAsked := asked() > before; isAsked != (suspended > 0) {
+			t.Errorf("suspended for %v: asked once more: %v", suspended, isAsked)
+		}
 	}
 }
 

@@ -27,6 +27,7 @@ import (
 
 	"svid.example/go/v3/claims"
 	"svid.example/go/v3/internal/brief"
+	"svid.example/go/v3/internal/clocks"
 	"svid.example/go/v3/internal/pause"
 	"svid.example/go/v3/svid"
 )
@@ -76,6 +77,7 @@ type Store struct {
 	news  sync.Mutex           // of who reads what told has
 	life  context.Context
 	end   context.CancelFunc
+	now   func() clocks.Moment
 
 	mu        sync.Mutex // of these
 	conn      *client.Conn
@@ -136,7 +138,7 @@ func New(o Options) (*Store, error) {
 	if o.Replicas == 0 {
 		o.Replicas = 1
 	}
-	s := &Store{o: o, base: "$KV." + o.Name + "-claims.", inbox: client.NewInbox(), random: bufio.NewReaderSize(rand.Reader, 1<<10), waiting: map[string]slot{}, every: lookEvery}
+	s := &Store{o: o, base: "$KV." + o.Name + "-claims.", inbox: client.NewInbox(), random: bufio.NewReaderSize(rand.Reader, 1<<10), waiting: map[string]slot{}, every: lookEvery, now: clocks.Now}
 	s.forRun.Store(int64(waitRun))
 	s.forNew.Store(int64(waitNew))
 	s.life, s.end = context.WithCancel(context.Background())

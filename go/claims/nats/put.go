@@ -222,7 +222,11 @@ func (s *Store) settleThese(ctx context.Context, these []claims.Claim, outcomes 
 				open = append(open, i)
 			}
 		}
+		begun := s.now()
 		if last, all := s.put(ctx, ready, these, outcomes, open); all {
+			if s.now().Since(begun) > attemptWait {
+				last = stored{} // The computer was suspended, and the server that answered may be gone: it is asked once more.
+			}
 			if now, k, err = s.decided(ctx, ready, last); err == nil {
 				if k.Epoch != epoch {
 					return 0, nil, claims.ErrEpoch
