@@ -1,17 +1,17 @@
 // The withdrawals that others tell the store of a group, which are read again and again.
 
 import { atMost, withdrawalsOf } from "./given.js";
+import { isOver, momentOf } from "./moments.js";
 import { MOST_UNLOOKED } from "./statements.js";
 
 const PAUSE = 1000; // milliseconds
-const ROUNDING = 1; // second of the clock of a validator, which gives whole ones
+const SECOND = 1000; // milliseconds
 
-// A moment by two clocks: in milliseconds by the one that only goes ahead, which stands still while the machine is suspended, and in seconds by the one
-// that may be wrong, and go back.
-const momentOf = (time) => ({ up: performance.now(), wall: Number(time) });
+// A moment by the clock of a validator, which gives whole seconds.
+const momentAt = (time) => momentOf(Number(time) * SECOND);
 
-// Whether it was too long ago, by either clock.
-const isOld = (moment, now) => now.up - moment.up > MOST_UNLOOKED || now.wall - moment.wall > MOST_UNLOOKED / 1000 + ROUNDING;
+// Whether it was too long ago.
+const isOld = (moment, now) => isOver(MOST_UNLOOKED, moment, now, SECOND);
 
 /** What a validator hears of the withdrawals of a store. */
 export class Hearing {
@@ -54,12 +54,12 @@ export class Hearing {
    * where the process was stopped, or the machine suspended: tokens may have been withdrawn meanwhile.
    */
   isDue(time) {
-    return this.#looked !== undefined && !this.#ending.signal.aborted && isOld(this.#looked, momentOf(time));
+    return this.#looked !== undefined && !this.#ending.signal.aborted && isOld(this.#looked, momentAt(time));
   }
 
   /** Waits until they are read, for at most so many seconds. What the store was asked before the process was stopped does not count. */
   async look(time, most) {
-    const now = momentOf(time), one = this.#begun + (isOld(this.#began, now) ? 1 : 0);
+    const now = momentAt(time), one = this.#begun + (isOld(this.#began, now) ? 1 : 0);
     const request = { one }, read = new Promise((resolve) => (request.resolve = resolve));
     this.#waiting.add(request);
     if (this.#timer !== undefined) {
@@ -105,7 +105,7 @@ export class Hearing {
   // Reads a page, and says whether there may be another one.
   async #readPage() {
     this.#begun += 1;
-    this.#began = momentOf(this.#member.now());
+    this.#began = momentAt(this.#member.now());
     const { these, last } = withdrawalsOf(await this.#store.withdrawals(this.#after, { signal: this.#ending.signal }));
     if (this.#ending.signal.aborted) return false;
     this.#member.heard(these);

@@ -4,6 +4,7 @@ import { createRequire } from "node:module";
 import { readFileSync } from "node:fs";
 import * as tls from "node:tls";
 import { CELL, Gate, StoreFault, brief, bytesOf, foundOf, now, until, withdrawalsOf } from "./answers.js";
+import { isOver, later, momentOf } from "./moments.js";
 import * as said from "./statements.js";
 
 const HEAD = 33, OWNER = 32; // bytes of an answer's head, and of an owner
@@ -170,7 +171,7 @@ class Servers {
   }
 
   #isLookedAt() {
-    return this.#all.every((it) => it.at !== undefined && now() - it.at <= said.MOST_AGE);
+    return this.#all.every((it) => it.at !== undefined && !isOver(said.MOST_AGE, it.at));
   }
 
   /** The primary by the last looks. */
@@ -193,7 +194,7 @@ class Servers {
 
   /** Looks at a server until the end. */
   async #watch(at, connection) {
-    const begun = now(), end = begun + said.LOOK_WAIT;
+    const begun = momentOf(), end = begun.up + said.LOOK_WAIT;
     let role, fault = "", when = begun;
     try {
       if (connection) role = await roleOf(connection, this.#role, end);
@@ -202,12 +203,12 @@ class Servers {
       fault = brief(String(why.message));
       connection?.close();
       connection = undefined;
-      when = now(); // (it answered nobody until now)
+      when = later(begun, Math.min(now() - begun.up, said.LOOK_WAIT)); // (it answered nobody until then)
     }
     Object.assign(at, { role, fault, at: when });
     this.#tell();
     if (this.#ended) return connection?.close();
-    setTimeout(() => this.#watch(at, connection), Math.max(0, begun + said.LOOK_EVERY - now())).unref();
+    setTimeout(() => this.#watch(at, connection), Math.max(0, begun.up + said.LOOK_EVERY - now())).unref();
   }
 }
 
@@ -354,7 +355,7 @@ export class Member {
 
   /** Makes a call on a connection to the primary, whose answer counts. `confirm`: other servers must have what it commits. */
   async #call(name, values, end, confirm = false) {
-    const one = await this.#taken(end), begun = now();
+    const one = await this.#taken(end), begun = momentOf();
     let rows;
     try {
       rows = await one.call(this.#statements[name], values, end);
@@ -362,7 +363,7 @@ export class Member {
         const [[kept]] = await one.call(this.#statements.kept, [this.#replicas], end);
         if (kept !== 1n) throw new StoreFault("alone");
       }
-      if (confirm && now() - begun > said.SOON) await one.call(this.#statements.role, [], end); // (it may be gone, and who was away would see that later than its answer)
+      if (confirm && isOver(said.SOON, begun)) await one.call(this.#statements.role, [], end); // (it may be gone, and who was away would see that later than its answer)
     } catch (why) {
       throw await this.#failed(one, why, name, end);
     }

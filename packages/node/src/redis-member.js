@@ -4,6 +4,7 @@ import { createHash, randomBytes } from "node:crypto";
 import { readFileSync } from "node:fs";
 import { createRequire } from "node:module";
 import { CELL, Gate, StoreFault, brief, bytesOf, foundOf, now, until, withdrawalsOf } from "./answers.js";
+import { isOver, momentOf } from "./moments.js";
 import * as said from "./scripts.js";
 import { DIAL_WAIT, MOST_CALLS, MOST_MARKS, STATE_WAIT } from "./statements.js";
 
@@ -555,8 +556,8 @@ export class Member {
           await this.#agree(one, others, end);
           continue;
         }
-        const calls = new Map([...values].map(([it, its]) => [it, { known: it.known, values: its }])), begun = now(), answers = await this.#run(one, name, calls, end);
-        if (now() - begun > this.#compare / 3) await one.checked([["TIME"]], end); // (the server may be gone, and who was away would see that later than its answer)
+        const calls = new Map([...values].map(([it, its]) => [it, { known: it.known, values: its }])), begun = momentOf(), answers = await this.#run(one, name, calls, end);
+        if (isOver(this.#compare / 3, begun)) await one.checked([["TIME"]], end); // (the server may be gone, and who was away would see that later than its answer)
         const what = answers.map((it) => String(it[0]));
         [...values.keys()].forEach((it, n) => what[n] !== "ok" && (it.agreed = ""));
         const fault = what.find((it) => it !== "ok" && it !== "look");

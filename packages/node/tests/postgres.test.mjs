@@ -11,7 +11,7 @@ import { createInterface } from "node:readline";
 import { after, test } from "node:test";
 import { TLSSocket } from "node:tls";
 import { authority, certificate } from "./certificates.mjs";
-import { PATIENCE, ended, imported, issuer, now, run, said, token, until, within } from "./making.mjs";
+import { PATIENCE, ended, gate, imported, issuer, now, run, said, token, until, within } from "./making.mjs";
 import { OfGo, roomy } from "./of-go.mjs";
 
 const pg = createRequire(import.meta.url)("pg");
@@ -228,6 +228,39 @@ function roles(t, of) {
 const end = () => performance.now() + PATIENCE * 1000;
 const PRIMARY = [1n, "1", "now", "00000001"], STANDBY = [0n, "1", "now", ""];
 
+/**
+ * A member of a primary `a` and a standby `b`, or of `a` alone, that are simulated as the two clocks are. `pass` lets time pass by each of them. `asked` has
+ * the statements, each with its host, in the order in which they came: what `before` gives for one is awaited before it is answered. A connection that makes
+ * calls asks `again` what its server is.
+ */
+function simulated(t, ...hosts) {
+  const it = { asked: [], before: () => {} }, epoch = "00000000-0000-0000-0000-000000000001", begun = performance.now();
+  let up = begun, wall = Date.now();
+  t.mock.method(performance, "now", () => up);
+  t.mock.method(Date, "now", () => wall);
+  it.pass = (upward, more) => {
+    up += upward;
+    wall += more;
+  };
+  const head = Buffer.concat([Buffer.alloc(17), Buffer.from(epoch.replaceAll("-", ""), "hex")]);
+  const answers = {
+    role: (host) => (host === "a" ? PRIMARY : STANDBY), again: () => PRIMARY, session: () => ["on", "1 now"], state: () => [epoch, 0n, 1000n, 0n, 3660n, 120n, 0n, null], put: () => [head],
+  };
+  t.mock.method(pg.Client.prototype, "connect", async () => {});
+  t.mock.method(pg.Client.prototype, "query", async function ({ text }) {
+    const name = text.includes("set_config") ? "session" : text.includes(".state(") ? "state" : text.includes(".put(") ? "put" : this.isOfCalls ? "again" : "role";
+    this.isOfCalls ||= name === "session";
+    it.asked.push(`${name} ${this.host}`);
+    await it.before(name, this.host);
+    return { rows: [answers[name](this.host)] };
+  });
+  it.member = memberOf("svid", ...hosts.map((host) => `postgres://u@${host}/d`));
+  it.put = async () => (await within("a claim", it.member.put([claim(1)], begun + 1000 * PATIENCE)))[0];
+  return it;
+}
+
+const HOUR = 3_600_000;
+
 test("the first call of a member may be a withdrawal", async () => {
   const name = await group();
   await withStores([{ group: name }], async (store) => {
@@ -242,6 +275,54 @@ test("two primaries are named by the numbers of their addresses", async (t) => {
   for (const [hosts, due] of [["abac", /addresses 2 and 4 are primaries of two database clusters/], ["bad", /addresses 1 and 3 are both primaries/]]) {
     const [why] = await memberOf("svid", ...[...hosts].map((it) => `postgres://u@${it}/d`)).put([claim(1)], end());
     assert.match(why.message, due);
+  }
+});
+
+test("after a suspension no answer counts until each server was looked at again, by a look that began since", async (t) => {
+  // (while the machine is suspended the one clock stands still, and while the process is stopped neither does)
+  for (const upward of [0, 10_000]) {
+    for (const fails of [false, true]) {
+      const it = simulated(t, "a", "b"), looks = gate(), answers = gate();
+      let since; // how much was asked before the suspension
+      assert((await it.put()).owner);
+      it.pass(0, -HOUR); // (a clock may be set back)
+      assert((await it.put()).owner);
+      it.pass(0, HOUR);
+      it.before = (name, host) => {
+        if (name === "put") return answers.passed;
+        return name === "role" && since === undefined && looks.passed.then(() => fails && host === "b" && Promise.reject(new Error("it says nothing")));
+      };
+      const from = it.asked.length, call = it.put();
+      await until(() => ["put a", "role a", "role b"].every((one) => it.asked.slice(from).includes(one)));
+      it.pass(upward, HOUR);
+      answers.open();
+      assert.match((await call).message, /not all servers were looked at/);
+      since = it.asked.length;
+      const next = it.put();
+      looks.open(); // (what these say was so before the suspension)
+      assert((await next).owner);
+      const later = it.asked.slice(since), before = later.slice(0, later.indexOf("put a"));
+      assert(["role a", "role b"].every((one) => before.includes(one)), `${later}`);
+      it.member.close();
+      t.mock.restoreAll();
+    }
+  }
+});
+
+test("a server whose answer came over a suspension is asked whether it is still there", async (t) => {
+  const it = simulated(t, "a");
+  assert((await it.put()).owner);
+  for (const [upward, more, isLong] of [[0, 0, false], [0, -HOUR, false], [0, 1001, true], [1001, 0, true], [1001, -HOUR, true]]) {
+    const hold = gate(), from = it.asked.length;
+    it.before = (name) => (name === "put" ? hold.passed : Promise.reject(new Error("it is gone")));
+    const call = it.put();
+    await until(() => it.asked.length > from);
+    it.pass(upward, more);
+    hold.open();
+    const { owner, message = "" } = await call;
+    assert.deepEqual([it.asked.slice(from), Boolean(owner), message.includes("it is gone")], [isLong ? ["put a", "again a"] : ["put a"], !isLong, isLong], `${upward} ${more}`);
+    it.before = () => {};
+    assert((await it.put()).owner);
   }
 });
 

@@ -408,6 +408,41 @@ test("an answer counts that came while the process had no processor", () =>
     });
   }));
 
+test("a server whose answer came over a suspension is asked whether it is still there", (t) =>
+  withServer(async (machine) => {
+    const connected = redis.createClient, up = performance.now(), wall = Date.now(), time = { up, wall }, asked = [], about = Buffer.from(claim(1).key);
+    let before = () => {};
+    t.mock.method(redis, "createClient", (options) => {
+      const client = connected(options), send = client.sendCommand.bind(client);
+      client.sendCommand = async (words, ...more) => {
+        const name = words.some((it) => Buffer.isBuffer(it) && it.equals(about)) ? "put" : words[0], answer = await send(words, ...more);
+        asked.push(name);
+        await before(name);
+        return answer;
+      };
+      return client;
+    });
+    const member = new Member({ servers: [machine.url], group: "svid", replicas: 1 }, { lasts: 7200n, margin: 120n, back: 60n });
+    after(() => member.close());
+    await until(async () => (await member.put([claim(1)], end()))[0].owner); // (members have compared by then)
+    t.mock.method(performance, "now", () => time.up);
+    t.mock.method(Date, "now", () => time.wall);
+    // (while the machine is suspended the one clock stands still, and the other one may be set back)
+    for (const [upward, more, isLong] of [[0, 0, false], [0, -3_600_000, false], [0, 1001, true], [1001, 0, true], [1001, -3_600_000, true]]) {
+      const hold = gate(), from = asked.length;
+      before = (name) => (name === "put" ? hold.passed : Promise.reject(new Error("it is gone")));
+      const call = member.put([claim(1)], up + 1000 * PATIENCE);
+      await until(() => asked.length > from);
+      time.up += upward;
+      time.wall += more;
+      hold.open();
+      const [{ owner, message = "" }] = await within("a claim", call);
+      assert.deepEqual([asked.slice(from), Boolean(owner), message.includes("it is gone")], [isLong ? ["put", "TIME"] : ["put"], !isLong, isLong], `${upward} ${more}`);
+      before = () => {};
+      assert((await within("a claim", member.put([claim(1)], up + 1000 * PATIENCE)))[0].owner);
+    }
+  }));
+
 /** A server that takes connections, and says nothing. */
 async function silent(make, ...given) {
   const open = new Set();
