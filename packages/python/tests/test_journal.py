@@ -31,7 +31,7 @@ from making import (
     status_of,
     validator,
 )
-from svid import _folder, _journal
+from svid import _folder, _journal, _library
 
 BEGUN = int(time.time())
 FRAME = 120  # bytes of a frame with one use
@@ -791,6 +791,18 @@ def test_a_folder_of_an_older_version(tmp_path):
     (tmp_path / "frames").write_text("7\n")
     with pytest.raises(ValueError, match="older svidd"):
         svid.Journal(tmp_path)
+
+
+def test_a_start_without_memory_is_told_of_no_older_version(tmp_path, monkeypatch):
+    """An operator would look for one, and the file may be torn alone."""
+    with contextlib.closing(svid.Journal(tmp_path)) as journal:
+        append(journal, 1)
+    (tmp_path / "journal.2").write_bytes(b"torn" * 9)
+    with monkeypatch.context() as patched:
+        patched.setattr(_library.library, "svid_entries_read", lambda *_: _library.NO_MEMORY)
+        with pytest.raises(MemoryError):
+            svid.Journal(tmp_path)
+    assert found(tmp_path) == {1}
 
 
 def test_an_id_that_is_lost_or_bad(tmp_path):

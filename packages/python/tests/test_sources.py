@@ -559,6 +559,23 @@ def test_a_workload_api(agent, quick, caplog, monkeypatch):
     assert not [it for it in threading.enumerate() if it.name == "svid-bundles"]
 
 
+@pytest.mark.parametrize(
+    "text",
+    [b" " * (1 << 20) + FROM_AGENT, b'{"keys":[%s]}' % b",".join([b"[]"] * 40_000)],
+    ids=["long", "many brackets"],
+)
+def test_a_workload_api_whose_bundle_takes_much_memory(agent, quick, caplog, text):
+    """It is not read, and the last good one stays. The others of the answer count."""
+    other = token(sub="spiffe://other.example/a")
+    with validator(svid.WorkloadApi(agent.address)) as checks:
+        agent.given.put({"spiffe://example.org": FROM_AGENT})
+        soon(checks, ACCEPTED)
+        agent.given.put({"spiffe://example.org": text, "spiffe://other.example": FROM_AGENT})
+        until(lambda: judged(checks, other).startswith("accepted"))
+        assert [it for it in told(caplog) if "it has more than" in it]
+        assert judged(checks, token()) == ACCEPTED
+
+
 def test_a_workload_api_that_goes_is_asked_again(agent, quick, caplog):
     with validator(svid.WorkloadApi(agent.address)) as checks:
         agent.given.put({"spiffe://example.org": FROM_AGENT})
