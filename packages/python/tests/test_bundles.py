@@ -1,6 +1,7 @@
 """Bundles: every form in which they are given, and how they are renewed."""
 
 import contextlib
+import gc
 import json
 import logging
 import os
@@ -640,6 +641,7 @@ def threads():
 
 def test_no_thread_stays(tmp_path):
     """Of a validator that is closed, that has other bundles by now, or that nobody has."""
+    until(lambda: gc.collect() >= 0 and not threads())  # (those of earlier tests)
     (tmp_path / "example.org.json").write_text(json.dumps(SPIRE))
     checks = validator(tmp_path)
     assert len(threads()) == 1

@@ -1125,6 +1125,7 @@ def test_who_reads_withdrawals_ends():
     def threads():
         return [it for it in threading.enumerate() if it.name == "svid-withdrawals"]
 
+    until(lambda: gc.collect() >= 0 and not threads())  # (those of earlier tests)
     with validator(mode="reuse", store=Pages()):
         assert len(threads()) == 1
     until(lambda: not threads())

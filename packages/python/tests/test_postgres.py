@@ -485,6 +485,27 @@ def test_an_answer_of_a_server_that_is_gone_after_a_suspension(machine, group, m
             machine.tell("start")
 
 
+def test_a_server_that_starts_again_fails_one_call(machine, group, monkeypatch):
+    """With it all connections end that wait for a call."""
+    monkeypatch.setattr(PostgresStore, "_watch", lambda _: None)
+    with store_of(machine, group) as store:
+        put(store, claim(1))
+        for it in [store._taken(time.monotonic() + PATIENCE) for _ in range(3)]:
+            store._give(it, keep=True)
+        machine.tell("kill")
+        machine.tell("start")
+        faults = []
+
+        def is_put():
+            try:
+                return store.put([claim(2)])
+            except StoreFault as why:
+                faults.append(why.name)
+
+        until(is_put)
+        assert faults.count("server") == 1, faults
+
+
 def test_each_server_has_one_thread(monkeypatch):
     """However often the primary is asked for."""
     made = []

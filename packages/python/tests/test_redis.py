@@ -636,6 +636,27 @@ def test_a_connection_whose_answer_is_late_ends(machine):
         assert not any(it.idle for it in store._pools.values())
 
 
+def test_a_server_that_starts_again_fails_one_call(machine):
+    """With it all connections end that wait for a call."""
+    with unwatched(machine.url) as store:
+        put(store, claim(1))
+        shards, end = dict.fromkeys(store._shards), time.monotonic() + PATIENCE
+        for it in [store._taken(shards, end) for _ in range(3)]:
+            store._give(it, True)
+        machine.kill()
+        machine.start()
+        faults = []
+
+        def is_put():
+            try:
+                return store.put([claim(2)])
+            except StoreFault as why:
+                faults.append(why.name)
+
+        until(is_put)
+        assert faults.count("server") == 1, faults
+
+
 def test_members_compare_with_pauses(machine):
     with unwatched(machine.url) as store:
         compare, compared = store._compare, []
