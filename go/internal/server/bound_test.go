@@ -17,6 +17,7 @@ import (
 
 	"svid.example/go/v3/claims"
 	"svid.example/go/v3/claims/memory"
+	"svid.example/go/v3/internal/patience"
 	"svid.example/go/v3/svid"
 )
 
@@ -303,12 +304,13 @@ func TestAWithdrawalWhileTheComputerWasSuspended(t *testing.T) {
 	}
 }
 
-// waitIn is how many goroutines wait for a lock in a call of this name.
+// waitIn is how many goroutines wait for something in a call of this name.
 func waitIn(call string) (n int) {
 	stacks := make([]byte, 1<<20)
 	stacks = stacks[:runtime.Stack(stacks, true)]
 	for _, stack := range strings.Split(string(stacks), "\n\n") {
-		if _, frames, _ := strings.Cut(stack, "\n"); strings.HasPrefix(frames, "sync.runtime_Semacquire") && strings.Contains(frames, call) {
+		header, frames, _ := strings.Cut(stack, "\n")
+		if first, _, _ := strings.Cut(frames, "\n"); strings.Contains(header, "[select") && strings.Contains(first, call) {
 			n++
 		}
 	}
@@ -349,6 +351,55 @@ func TestRequestsBesideTheFirstLookWaitForIt(t *testing.T) {
 			t.Errorf("answer %d: %v", i, err)
 		}
 	}
+}
+
+// A look before a request takes at most three quarters of the time for which requests wait, which begins behind it: who asks svidd waits for both.
+func TestALookBeforeARequestIsShort(t *testing.T) {
+	const wait = time.Second
+	store := &watchedShop{shop: newShop()}
+	var suspended atomic.Uint64
+	e := ready(t, engine(t, inBound(t, "header:X-Caller", Options{Wait: wait, Now: func() uint64 { return moment + suspended.Load() }})))
+	state, err := store.shop.Open(context.Background())
+	if err != nil {
+		t.Fatal(err)
+	}
+	e.UseStore(store, state)
+	before := store.looks.Load()
+	suspended.Store(250)
+	_ = by(e, "owner", token("a"))
+	if store.looks.Load() == before {
+		t.Fatal("nobody looks")
+	}
+	if state, withdrawals := time.Duration(store.state.Load()), time.Duration(store.withdrawals.Load()); state+withdrawals > wait/4*3 {
+		t.Errorf("of %v, a look may take %v and %v", wait, state, withdrawals)
+	}
+}
+
+// A look that hangs holds up each request for part of its time alone: what the store says then of the token counts.
+func TestALookThatHangsHoldsUpNobody(t *testing.T) {
+	store := &watchedShop{shop: newShop()}
+	var suspended atomic.Uint64
+	e := ready(t, engine(t, inBound(t, "header:X-Caller", Options{Wait: 100 * time.Millisecond, Now: func() uint64 { return moment + suspended.Load() }})))
+	state, err := store.shop.Open(context.Background())
+	if err != nil {
+		t.Fatal(err)
+	}
+	e.UseStore(store, state)
+	store.goOn = make(chan struct{})
+	before, looked := store.looks.Load(), make(chan struct{})
+	go func() { defer close(looked); e.lookAhead() }()
+	await(t, "a look", func() bool { return store.looks.Load() > before })
+	suspended.Store(250)
+	answered := make(chan struct{})
+	go func() { defer close(answered); _ = by(e, "owner", token("a")); _ = by(e, "owner", token("b")) }()
+	select {
+	case <-answered:
+	case <-time.After(patience.Long):
+		t.Error("requests wait for a look that hangs")
+	}
+	close(store.goOn)
+	<-looked
+	<-answered
 }
 
 // A token that may have been claimed before a loss of the store is refused for good, so the store is asked once.

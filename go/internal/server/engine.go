@@ -169,6 +169,7 @@ func NewEngine(o Options) (*Engine, error) {
 	}
 	e := &Engine{Options: o, keyring: keyring, validator: validator, start: time.Now(), isReal: isReal, armed: never,
 		verified: newVerified(), ending: make(chan struct{}), ended: make(chan struct{})}
+	e.outlook.looking = make(chan struct{}, 1)
 	e.life, e.end = context.WithCancel(context.Background())
 	e.usable.Store(&usable{})
 	if e.machine, err = newMachine(&e.Options, &e.Metrics, validator, e.time()); err != nil {

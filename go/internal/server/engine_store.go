@@ -101,24 +101,33 @@ func (e *Engine) lookAtStore() {
 	if store == nil {
 		return
 	}
-	e.outlook.looking.Lock()
-	defer e.outlook.looking.Unlock()
-	e.lookNow(store)
+	e.outlook.looking <- struct{}{}
+	defer func() { <-e.outlook.looking }()
+	e.lookNow(store, e.Wait)
 }
 
 // mostUnlooked is after how long without a look at the store a request looks first. Only a process that was stopped comes that far, or a computer that
 // was suspended, since even a store that is away is looked at again: tokens may have been withdrawn meanwhile.
 const mostUnlooked = 2*(lookWithin+hearWithin) + 2*tickEvery
 
-// lookFirst looks at the store before a token is judged, where nobody has for long.
+// lookFirst looks at the store before a token is judged, where nobody has for long. It takes at most three quarters of Options.Wait, also where another
+// look is under way: after it the request has its own time.
 func (e *Engine) lookFirst() {
 	if e.Mode == Strict || !e.isUnlooked() {
 		return
 	}
-	e.outlook.looking.Lock()
-	defer e.outlook.looking.Unlock()
-	if e.isUnlooked() { // (else another request has, or Run)
-		e.lookNow(e.store.Load())
+	from, at, most := time.Now(), e.time(), e.Wait/4*3
+	timer := time.NewTimer(most)
+	defer timer.Stop()
+	select {
+	case e.outlook.looking <- struct{}{}:
+		defer func() { <-e.outlook.looking }()
+	case <-timer.C:
+		e.outlook.looked.Store(&at) // (who comes next does not wait for a store that hangs)
+		return
+	}
+	if e.isUnlooked() { // (else another request has looked, or Run)
+		e.lookNow(e.store.Load(), (most-time.Since(from))/2)
 	}
 }
 
@@ -128,11 +137,11 @@ func (e *Engine) isUnlooked() bool {
 	return last != nil && !e.time().isWithin(mostUnlooked, *last)
 }
 
-// lookNow looks at the store. The caller holds looking.
-func (e *Engine) lookNow(store claims.Store) {
+// lookNow looks at the store, by two calls that may take so long each, or less. The caller has looking.
+func (e *Engine) lookNow(store claims.Store, most time.Duration) {
 	from, at := time.Now(), e.time()
 	defer e.outlook.looked.Store(&at)
-	ctx, cancel := e.within(lookWithin)
+	ctx, cancel := e.within(lookWithin, most)
 	defer cancel()
 	state, err := store.State(ctx)
 	if err == nil {
@@ -140,7 +149,7 @@ func (e *Engine) lookNow(store claims.Store) {
 		e.tryClaim(ctx, store)
 	}
 	if e.Mode != Strict {
-		if heard := e.hearFromStore(store); err == nil {
+		if heard := e.hearFromStore(store, most); err == nil {
 			err = heard
 		}
 	}
@@ -150,18 +159,18 @@ func (e *Engine) lookNow(store claims.Store) {
 	e.storeAnswered(from, err)
 }
 
-// within is a context that ends with the engine, after most, or after Options.Wait where that is less.
-func (e *Engine) within(most time.Duration) (context.Context, context.CancelFunc) {
-	if e.Wait < most {
-		most = e.Wait
+// within is a context that ends with the engine, or after the lesser of these times.
+func (e *Engine) within(one, other time.Duration) (context.Context, context.CancelFunc) {
+	if one > other {
+		one = other
 	}
-	return context.WithTimeout(e.life, most)
+	return context.WithTimeout(e.life, one)
 }
 
 // hearFromStore reads the withdrawals that the store had since the last time, page by page. Where there are more than can be read now, the
 // next look goes on.
-func (e *Engine) hearFromStore(store claims.Store) error {
-	ctx, cancel := e.within(hearWithin)
+func (e *Engine) hearFromStore(store claims.Store, most time.Duration) error {
+	ctx, cancel := e.within(hearWithin, most)
 	defer cancel()
 	for pages := 0; ; pages++ {
 		these, last, err := store.Withdrawals(ctx, e.outlook.heard)

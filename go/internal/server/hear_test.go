@@ -26,13 +26,13 @@ func TestAWithdrawalThatFoundNoMemoryComesAgain(t *testing.T) {
 			t.Fatal(err)
 		}
 		var heard error
-		refused := scarce.During(n, false, func() { heard = e.hearFromStore(s) })
+		refused := scarce.During(n, false, func() { heard = e.hearFromStore(s, time.Minute) })
 		if refused > 0 && heard == nil {
 			if err := check(e, gone); err != svid.Withdrawn {
 				t.Errorf("allocation %d is refused, and the withdrawal is heard: %v", n, err)
 			}
 		}
-		if err := e.hearFromStore(s); err != nil {
+		if err := e.hearFromStore(s, time.Minute); err != nil {
 			t.Fatal(err)
 		}
 		if err := check(e, gone); err != svid.Withdrawn {

@@ -4,7 +4,6 @@ import (
 	"context"
 	"errors"
 	"net/http"
-	"sync"
 	"sync/atomic"
 	"time"
 
@@ -22,10 +21,10 @@ type outlook struct {
 
 	looked atomic.Pointer[Time] // when the last look at the store began that has ended; nil before it
 
-	looking sync.Mutex   // held over a look at the store; guards the fields below
-	said    bool         // that the store has been away for too long
-	causes  brief.Causes // of that
-	heard   string       // the position of the last withdrawal that was read
+	looking chan struct{} // has one who looks at the store, and only then uses the fields below
+	said    bool          // that the store has been away for too long
+	causes  brief.Causes  // of that
+	heard   string        // the position of the last withdrawal that was read
 }
 
 // An absence is since when a store does not do what it is there for, and why.
