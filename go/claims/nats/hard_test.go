@@ -984,6 +984,50 @@ func TestAStreamIsMadeAnewInANewStore(t *testing.T) {
 	}
 }
 
+// Somebody removed the store, and a member that knows nothing of it makes a new one. That one answers nobody until members that know the one before had time
+// to look: they have accepted tokens.
+func TestANewStoreWaitsForMembersOfTheOneBefore(t *testing.T) {
+	t.Parallel()
+	m := newMachine(t)
+	proxy := logtest.NewProxy(t, m.Address())
+	o := claimstest.Options{Name: "new", Terms: claimstest.Usual, Address: proxy.Address}
+	a := open(t, m, o)
+	before, c := claimstest.State(t, a), one(1)
+	wantOwner(t, claimstest.Put(t, a, c)[0], c.Owner)
+	proxy.Shut(true)
+	m.Empty(t, o.Name)
+	o.Address, o.Compares = "", true
+	late := m.Store(t, o).(*Store)
+	t.Cleanup(func() { late.Close() })
+	opened := make(chan error, 1)
+	go func() {
+		_, err := late.Open(patient(t))
+		opened <- err
+	}()
+	js := admin(t, m.URL)
+	natstest.Await(t, "the new store to wait, or to answer", func() bool {
+		const looks = 20 // at the time, of who waits: who does not has some alone
+		clock, err := js.StreamInfo(late.stream(ofClock))
+		return len(opened) > 0 || err == nil && clock.State.LastSeq >= looks
+	})
+	if len(opened) > 0 {
+		t.Fatal("a new store answers while a member that knows the one before is away")
+	}
+	proxy.Shut(false)
+	is := claimstest.State(t, a)
+	if err := <-opened; err != nil {
+		t.Fatal(err)
+	}
+	if of := claimstest.State(t, late); of.Epoch != is.Epoch || of.Deaf < before.Time+o.Terms.Lasts {
+		t.Errorf("%+v and %+v, and before %+v", is, of, before)
+	}
+	again := c
+	again.Owner = claimstest.Own(2)
+	if f := claimstest.Put(t, late, again)[0]; claimstest.Judge(again, f, 60) == claimstest.Mine {
+		t.Errorf("accepted twice: %+v", f)
+	}
+}
+
 // A member that ends the epoch where another stream stands by now does not wait for its record there: a new store answers soon.
 func TestARecordInAnotherStream(t *testing.T) {
 	t.Parallel()
