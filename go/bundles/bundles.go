@@ -67,6 +67,7 @@ type Options struct {
 	Roots *x509.CertPool
 
 	after func(time.Duration) <-chan time.Time // is time.After, except in tests of pauses
+	calm  time.Duration                        // is usualCalm, except in tests
 }
 
 // A Watcher keeps bundles up to date until its context ends. Its methods may be called from many goroutines at once.
@@ -85,6 +86,7 @@ type Watcher struct {
 	mu     sync.Mutex // guards the fields below
 	held   map[string]*bundle
 	faults map[string]string                     // by source: what was last wrong with it
+	words  map[string]*words                     // by source: what the log says of a Workload API
 	said   map[string]map[[sha256.Size]byte]bool // by domain: the passed over entries of its bundle that were logged
 	live   bool                                  // the Workload API has given its bundles, and would tell of a change
 	had    bool                                  // it has given bundles before
@@ -119,12 +121,18 @@ func Watch(ctx context.Context, specs []Spec, onChange func(domains map[string]j
 	if o.after == nil {
 		o.after = time.After
 	}
+	if o.calm == 0 {
+		o.calm = usualCalm
+	}
 	w := &Watcher{specs: specs, onChange: onChange, options: o, client: httpsOnly(o.Roots), again: map[string]chan struct{}{},
-		held: map[string]*bundle{}, faults: map[string]string{}, said: map[string]map[[sha256.Size]byte]bool{}}
+		held: map[string]*bundle{}, faults: map[string]string{}, words: map[string]*words{}, said: map[string]map[[sha256.Size]byte]bool{}}
 	w.readFiles()
 	for _, s := range specs {
 		if s.isAddress() || s.api {
 			w.again[s.Domain] = make(chan struct{}, 1)
+		}
+		if s.api {
+			w.words[s.Source] = &words{at: map[string]time.Time{}}
 		}
 	}
 	for _, s := range specs {
@@ -215,6 +223,7 @@ func (w *Watcher) look(ctx context.Context) {
 			return
 		case <-tick.C:
 			w.readFiles()
+			w.reportHeld()
 		}
 	}
 }
@@ -493,16 +502,60 @@ func (w *Watcher) fault(source string, err error) {
 	switch {
 	case err == nil && last != "":
 		delete(w.faults, source)
-		w.log("bundle source is well again", "source", source)
 	case err != nil && brief.Cause(err) != last:
 		w.faults[source] = brief.Cause(err)
-		event := "bundle not read"
+	default:
+		return
+	}
+	w.report(source, err)
+}
+
+// report logs how it is with a source. The caller holds mu.
+func (w *Watcher) report(source string, err error) {
+	event, fields := "bundle source is well again", []any{"source", source}
+	if err != nil {
+		event = "bundle not read"
 		for _, b := range w.held {
 			if b.source == source || strings.HasSuffix(b.source, " of "+source) {
 				event = "bundle not read; the last good one stays"
 			}
 		}
-		w.log(event, "source", source, "why", err)
+		fields = append(fields, "why", err)
+	}
+	if of := w.words[source]; of != nil {
+		now := time.Now()
+		if of.err = err; now.Sub(of.at[event]) < w.options.calm {
+			of.held++
+			return
+		}
+		if of.held > 0 {
+			fields = append(fields, "unlogged", of.held)
+		}
+		of.at[event], of.said, of.held = now, w.faults[source], 0
+	}
+	w.log(event, fields...)
+}
+
+// usualCalm is the least time between two lines of a kind about a Workload API, which may end each stream at once.
+const usualCalm = 10 * time.Second
+
+// words are what the log says of a Workload API.
+type words struct {
+	at   map[string]time.Time // when each event had a line last
+	said string               // what was wrong with it by the last line; "" where nothing was
+	err  error                // what is wrong now
+	held int                  // so many changes have had no line since the last one
+}
+
+// reportHeld logs how it is with a Workload API by now, where the last line says something else.
+func (w *Watcher) reportHeld() {
+	w.mu.Lock()
+	defer w.mu.Unlock()
+	for source, of := range w.words {
+		if of.held > 0 && of.said != w.faults[source] {
+			of.held-- // (this change has its line, or is held again)
+			w.report(source, of.err)
+		}
 	}
 }
 

@@ -110,7 +110,7 @@ func TestPausesOfAnAddress(t *testing.T) {
 func TestPausesOfAWorkloadAPI(t *testing.T) {
 	agent, c := agenttest.Start(t), newClock()
 	agent.Refuse(t, "UNAVAILABLE", "soon")
-	w, o := watch(t, func(o *Options) { o.after = c.after }, ofAgent(t, agent.Address))
+	w, o := watch(t, func(o *Options) { o.after, o.calm = c.after, 1 }, ofAgent(t, agent.Address))
 	for _, seconds := range []time.Duration{1, 2, 4, 8, 16, 30, 30} {
 		c.want(t, "an agent that is not ready", seconds*time.Second)
 		o.wantLines(t, 1, "bundle not read source "+agent.Address+" why it is not ready (Unavailable): soon")
@@ -143,6 +143,49 @@ func TestPausesOfAWorkloadAPI(t *testing.T) {
 		t.Errorf("after a refusal for good there is a pause of %v", pause)
 	default:
 	}
+}
+
+// A Workload API may come and go many times a second. The log has a line of each kind once in a while, with the number of those left out, and how it is in
+// the end.
+func TestAWorkloadAPIThatComesAndGoes(t *testing.T) {
+	agent := agenttest.Start(t)
+	w, o := watch(t, func(o *Options) {
+		o.after, o.calm, o.Every = func(time.Duration) <-chan time.Time { return time.After(time.Millisecond) }, time.Hour, 10*time.Millisecond
+	}, ofAgent(t, agent.Address))
+	until := func(what string, is func() bool) { // (without the lock of the observer, which the watcher takes for each line)
+		t.Helper()
+		for end := time.Now().Add(patience.Long); !is(); time.Sleep(time.Millisecond) {
+			if time.Now().After(end) {
+				t.Fatalf("waited in vain for %s", what)
+			}
+		}
+	}
+	const rounds = 10
+	for i := 0; i < rounds; i++ {
+		agent.Give(t, map[string]string{"spiffe://example.org": bare})
+		until("bundles", func() bool { return w.Answered() && w.Fault() == nil })
+		agent.Refuse(t, "UNAVAILABLE", "soon")
+		until("the end of them", func() bool { return w.Fault() != nil })
+	}
+	o.wantLines(t, 1, "bundle not read; the last good one stays source "+agent.Address)
+	o.wantLines(t, 1, "bundle source is well again source "+agent.Address)
+	calm := func(is time.Duration) {
+		w.mu.Lock()
+		w.options.calm = is
+		w.mu.Unlock()
+	}
+	twice := func(text string) {
+		t.Helper()
+		o.await(t, "another line of "+text, func() bool { return strings.Count(strings.Join(o.lines, "\n"), text) == 2 })
+	}
+	calm(1)
+	twice("bundle not read; the last good one stays source " + agent.Address)
+	o.wantLines(t, 1, "unlogged")
+	calm(time.Hour)
+	agent.Give(t, map[string]string{"spiffe://example.org": spire})
+	until("bundles again", func() bool { return w.Fault() == nil })
+	calm(1)
+	twice("bundle source is well again source " + agent.Address)
 }
 
 // Bundles that were not taken, because memory ran out, are given again at each look at the files, until they are. The log says it once.
