@@ -26,6 +26,7 @@ from making import (
     bundle,
     entry,
     fresh,
+    joined,
     private_key,
     status_of,
     until,
@@ -446,6 +447,43 @@ def test_a_look_at_a_server_that_hangs_counts_from_its_end(monkeypatch):
             continue
         with pytest.raises(StoreFault, match="not all servers were looked at"):
             servers.counts(servers.all[0])
+
+
+def test_looks_at_a_server_share_a_connection(monkeypatch):
+    """It ends with a look that fails, and with the store."""
+    Clocks(monkeypatch)
+    made, looks, fails = [], [], []
+
+    class Kept:
+        is_open = True
+
+        def close(self):
+            self.is_open = False
+
+    def reach(*_):
+        made.append(Kept())
+        return made[-1], role(made[-1])
+
+    def role(one, *_):
+        looks.append(one)
+        if fails:
+            raise StoreFault(fails.pop())
+        return STANDBY
+
+    monkeypatch.setattr(postgres, "_reach", reach)
+    monkeypatch.setattr(postgres, "_role", role)
+    monkeypatch.setattr("svid.postgres._statements.LOOK_EVERY", 1)
+    servers = servers_of(PRIMARY, STANDBY)
+    thread = threading.Thread(target=servers._watch, args=(servers.all[1],), daemon=True)
+    thread.start()
+    until(lambda: len(looks) > 20)
+    assert len(made) == 1
+    fails.append("silent")
+    until(lambda: len(made) > 1)
+    assert [it.is_open for it in made] == [False, True]
+    servers._ends.set()
+    joined(thread)
+    assert not made[1].is_open and servers.all[1].role is STANDBY
 
 
 @pytest.mark.parametrize("is_suspended", [False, True])
