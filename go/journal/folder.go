@@ -341,33 +341,32 @@ func readID(sys system) (id svid.ValidatorID, err error) {
 	return id, nil
 }
 
-// findID reads the validator ID, or makes one at random, and keeps it where nothing else is kept yet.
+// findID reads the validator ID, or makes one at random. Until there is a snapshot it keeps the ID again: no start may have gone well yet.
 func findID(sys system, dir string) (id svid.ValidatorID, err error) {
-	isNew := false
-	if id, err = readID(sys); err == nil {
-		isNew, err = keepsNothing(sys)
-	} else if errors.Is(err, os.ErrNotExist) {
-		isNew = true
+	if id, err = readID(sys); errors.Is(err, os.ErrNotExist) {
 		id, err = makeID(sys, dir)
 	}
-	if err == nil && isNew {
-		err = keepID(sys, id)
+	if err != nil {
+		return id, err
 	}
-	return id, err
+	hasSnapshot, hasJournal, err := keeps(sys)
+	if err != nil || hasSnapshot {
+		return id, err
+	}
+	return id, keepID(sys, id, !hasJournal)
 }
 
-// keepsNothing says whether the folder has neither a snapshot nor a journal.
-func keepsNothing(sys system) (bool, error) {
+// keeps says what the folder keeps.
+func keeps(sys system) (hasSnapshot, hasJournal bool, err error) {
 	names, err := sys.names()
 	if err != nil {
-		return false, fmt.Errorf("journal: %w", err)
+		return false, false, fmt.Errorf("journal: %w", err)
 	}
 	for _, name := range names {
-		if name == snapshotName || strings.HasPrefix(name, journalPrefix) {
-			return false, nil
-		}
+		hasSnapshot = hasSnapshot || name == snapshotName
+		hasJournal = hasJournal || strings.HasPrefix(name, journalPrefix)
 	}
-	return true, nil
+	return hasSnapshot, hasJournal, nil
 }
 
 // makeID makes a validator ID, where no file needs the one that is missing.
@@ -386,11 +385,13 @@ func makeID(sys system, dir string) (id svid.ValidatorID, err error) {
 }
 
 // keepID keeps the validator ID, before anything is kept that can't be read without it. A start that failed or was killed may have left
-// a file that has it, and the folder itself: no later sync vouches for a name whose sync failed. So the file is made again.
-func keepID(sys system, id svid.ValidatorID) error {
-	// (Who may not read the folder above has not made this one. Where that folder is only read, it may have no sync.)
-	if err := sys.syncAbove(); err != nil && !errors.Is(err, os.ErrPermission) && !errors.Is(err, syscall.EINVAL) {
-		return unsure(sys, err)
+// a file that has it, and an empty folder itself: no later sync vouches for a name whose sync failed. So the file is made again.
+func keepID(sys system, id svid.ValidatorID, isEmpty bool) error {
+	if isEmpty {
+		// (Who may not read the folder above has not made this one. Where that folder is only read, it may have no sync.)
+		if err := sys.syncAbove(); err != nil && !errors.Is(err, os.ErrPermission) && !errors.Is(err, syscall.EINVAL) {
+			return unsure(sys, err)
+		}
 	}
 	return keepText(sys, placeName, id.String())
 }

@@ -42,7 +42,16 @@ func removed(d *disk, why error) *disk {
 	return empty
 }
 
-// A new folder keeps what is appended to it, whichever call of the starts before failed: its own name lasts, and that of the validator ID.
+// freshDisk is the disk after an older version made its folder, and kept nothing there.
+func freshDisk() *disk {
+	d := newDisk()
+	d.here = settled(true)
+	*d.journal(1) = journalOnDisk{atRest(nil), settled(true)}
+	return d
+}
+
+// A new folder, also of an older version, keeps what is appended to it, whichever call of the starts before failed: its own name lasts, and that of the
+// validator ID.
 func TestANewFolderWhoseFirstStartsFail(t *testing.T) {
 	r := rand.New(rand.NewSource(1))
 	well := func(string, string, int) (int, error) { return 0, nil }
@@ -65,20 +74,24 @@ func TestANewFolderWhoseFirstStartsFail(t *testing.T) {
 			}
 		}
 	}
-	for first, before := range ends {
-		for second, beforeNext := range ends {
-			for n, over := 0, false; !over; n++ {
-				for m, overNext := 0, false; !overNext; m++ {
-					d := newDisk()
-					d.before = before(n)
-					_, err := begin(d)
-					over, d = err == nil, removed(d, err)
-					d.before = beforeNext(m)
-					_, err = begin(d)
-					overNext, d = err == nil, removed(d, err)
-					lasts(d, fmt.Sprintf("call %d of the first start %s, and call %d of the next one %s", n, first, m, second))
-				}
+	starts := func(made func() *disk, first, second string) {
+		for n, over := 0, false; !over; n++ {
+			for m, overNext := 0, false; !overNext; m++ {
+				d := made()
+				d.before = ends[first](n)
+				_, err := begin(d)
+				over, d = err == nil, removed(d, err)
+				d.before = ends[second](m)
+				_, err = begin(d)
+				overNext, d = err == nil, removed(d, err)
+				lasts(d, fmt.Sprintf("call %d of the first start %s, and call %d of the next one %s", n, first, m, second))
 			}
+		}
+	}
+	for first := range ends {
+		for second := range ends {
+			starts(newDisk, first, second)
+			starts(freshDisk, first, second)
 		}
 	}
 }
