@@ -77,6 +77,7 @@ static void answer_all(void) {
         { "the first key", 3, 1, 0, 0, 1, SVID_OK }, { "the second key", 3, 2, 0, 0, 2, SVID_OK }, { "the last key", 3, 3, 0, 0, 3, SVID_OK },
         { "no key", 3, 9, 0, 0, 3, SVID_BAD_SIGNATURE }, { "the last one that is tried", 6, SVID_MOST_CANDIDATES, 0, 0, SVID_MOST_CANDIDATES, SVID_OK },
         { "one that is not tried", 6, SVID_MOST_CANDIDATES + 1, 0, 0, SVID_MOST_CANDIDATES, SVID_BAD_SIGNATURE }, { "a long key in front", 3, 2, 65536, 65536, 2, SVID_OK },
+        { "a key of some hundred bytes in front", 3, 2, 0x102, 0x102, 2, SVID_OK },
     };
     int jti = 0;
     at = "svid_validator_verify";

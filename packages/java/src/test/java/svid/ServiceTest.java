@@ -608,7 +608,9 @@ public class ServiceTest {
                     return null;
                 };
                 withdrawnMeanwhile(store, token, 100);
-                List<MemberTest.Soon> calls = Stream.generate(() -> soon(validator, token)).limit(32).toList();
+                List<MemberTest.Soon> calls = new ArrayList<>(List.of(soon(validator, token)));
+                until(() -> store.asked.size() > asked); // (who comes now finds a look that began after it)
+                Stream.generate(() -> soon(validator, token)).limit(31).forEach(calls::add);
                 until(() -> calls.stream().allMatch(it -> it.thread.getState() == Thread.State.TIMED_WAITING));
                 go.release(1000);
                 for (MemberTest.Soon it : calls) {
