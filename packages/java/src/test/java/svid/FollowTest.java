@@ -349,6 +349,18 @@ public class FollowTest {
         return SECRETS.getRoot().toPath().resolve(name);
     }
 
+    private static SSLContext context(String identity) throws Exception {
+        KeyStore store = KeyStore.getInstance("PKCS12");
+        try (InputStream file = Files.newInputStream(secret(identity + ".p12"))) {
+            store.load(file, "secret".toCharArray());
+        }
+        KeyManagerFactory keys = KeyManagerFactory.getInstance(KeyManagerFactory.getDefaultAlgorithm());
+        keys.init(store, "secret".toCharArray());
+        SSLContext context = SSLContext.getInstance("TLS");
+        context.init(keys.getKeyManagers(), null, null);
+        return context;
+    }
+
     /** A server that answers each request as the test wants. */
     private static final class Server implements AutoCloseable {
         final List<String> asked = new CopyOnWriteArrayList<>();
@@ -360,16 +372,8 @@ public class FollowTest {
         private final ExecutorService threads = Executors.newCachedThreadPool();
 
         Server(String identity) throws Exception {
-            KeyStore store = KeyStore.getInstance("PKCS12");
-            try (InputStream file = Files.newInputStream(secret(identity + ".p12"))) {
-                store.load(file, "secret".toCharArray());
-            }
-            KeyManagerFactory keys = KeyManagerFactory.getInstance(KeyManagerFactory.getDefaultAlgorithm());
-            keys.init(store, "secret".toCharArray());
-            SSLContext context = SSLContext.getInstance("TLS");
-            context.init(keys.getKeyManagers(), null, null);
             server = HttpsServer.create(new InetSocketAddress(InetAddress.getLoopbackAddress(), 0), 0);
-            server.setHttpsConfigurator(new HttpsConfigurator(context));
+            server.setHttpsConfigurator(new HttpsConfigurator(context(identity)));
             server.setExecutor(threads);
             server.createContext("/", exchange -> {
                 asked.add(exchange.getRequestURI().toString());
@@ -550,6 +554,34 @@ public class FollowTest {
         }
     }
 
+    /**
+     * While authorities are exchanged there are several, and the server has a certificate of one of them. An entry may be no certificate.
+     */
+    @Test
+    public void oneOfSeveralAuthorities() throws Exception {
+        String none = new String(withAuthorities("ca", "stranger")).replaceFirst("\"x5c\":\\[\"", "$0AAAA");
+        try (Server server = new Server("strange"); Server web = new Server("web")) {
+            server.answer = issuer.bundle();
+            web.answer = issuer.bundle();
+            List<Sources> all = new ArrayList<>();
+            for (byte[] it : List.of(withAuthorities("ca", "stranger"), withAuthorities("stranger", "ca"), none.getBytes())) {
+                Path first = Files.write(path("first" + all.size() + ".json"), it);
+                all.add(Sources.spiffe("example.org", server.address(), SpiffeId.parse(SERVER), first));
+            }
+            for (String it : List.of("ca stranger", "stranger ca")) {
+                Path file = path(it + ".pem");
+                Files.writeString(
+                        file, Files.readString(secret(it.split(" ")[0] + ".pem")) + Files.readString(secret(it.split(" ")[1] + ".pem")));
+                all.add(Sources.web("example.org", web.address(), file));
+            }
+            for (Sources it : all) {
+                try (Validator validator = Validator.open(Vectors.ledger(), it)) {
+                    until(validator::isReady);
+                }
+            }
+        }
+    }
+
     /** The last good bundle has the authorities, once there is one: the file does not count then. */
     @Test
     public void theAuthoritiesFollowToo() throws Exception {
@@ -612,6 +644,36 @@ public class FollowTest {
                 follower.close();
                 until(() -> Said.threads() == 0);
             }
+        }
+    }
+
+    /** A server that sends a byte now and then is left in time, and what asks it again by itself is ended too. */
+    @Test
+    public void anAnswerThatNeverEnds() throws Exception {
+        try (ServerSocket slow = context("web").getServerSocketFactory().createServerSocket(0, 5, InetAddress.getLoopbackAddress())) {
+            Thread serves = new Thread(() -> {
+                while (!slow.isClosed()) {
+                    try (Socket one = slow.accept()) {
+                        one.getOutputStream().write("HTTP/1.1 200 OK\r\nX: ".getBytes());
+                        while (true) {
+                            one.getOutputStream().write('x');
+                            Thread.sleep(10); // (so long a header is taken)
+                        }
+                    } catch (IOException | InterruptedException why) {
+                        // (the client has gone, or the test is over)
+                    }
+                }
+            });
+            serves.setDaemon(true);
+            serves.start();
+            Sources sources = Sources.web("example.org", URI.create("https://localhost:" + slow.getLocalPort() + "/"), secret("ca.pem"));
+            Follower follower = new Follower(sources, (text, count) -> {});
+            follower.limit = 1000;
+            Endpoint endpoint = new Endpoint(sources.all.get(0), follower);
+            until(() -> {
+                String why = Making.given("the end of a request", () -> assertThrows(IOException.class, endpoint::fetched).getMessage());
+                return why.equals("it did not answer within 1000 milliseconds"); // (a busy machine may let it read nothing for so long)
+            });
         }
     }
 
