@@ -31,14 +31,13 @@ final class Follower {
     private static final long LONGEST_PAUSE = 60_000;
     /** The longest one of a Workload API. */
     private static final long LONGEST_OF_API = 30_000;
-    /** For how many milliseconds a close waits for a thread. */
-    private static final long CLOSING = 5000;
-
     /** How many characters of a fault are logged: a server may have said much. */
     private static final int SAID = 500;
 
     /** How many milliseconds one answer of an address may take. */
     volatile int limit = 15_000;
+    /** For how many milliseconds a close waits for its threads. (A test gives another one.) */
+    volatile long closing = 5000;
     /** What makes the pauses. (A test makes others.) */
     volatile Pausing pausing = (source, millis) -> millis;
 
@@ -129,7 +128,7 @@ final class Follower {
     /** Lets its threads end, and waits for that, but not for a file system that hangs. */
     void close() {
         drop();
-        long end = Times.up() + CLOSING;
+        long end = Times.up() + closing;
         for (Thread it : threads) {
             try {
                 it.join(Math.max(1, end - Times.up()));

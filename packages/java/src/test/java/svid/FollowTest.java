@@ -41,6 +41,7 @@ import org.junit.BeforeClass;
 import org.junit.ClassRule;
 import org.junit.Rule;
 import org.junit.Test;
+import org.junit.function.ThrowingRunnable;
 import org.junit.rules.TemporaryFolder;
 import svid.testing.Issuer;
 
@@ -270,6 +271,48 @@ public class FollowTest {
         follower.close();
         assertTrue(Thread.interrupted());
         goes.countDown();
+    }
+
+    /** Once a validator is closed nothing is handed on to it any more. */
+    @Test
+    public void aCloseWaitsForWhatIsHandedOn() throws Exception {
+        Path file = path("a.json");
+        CountDownLatch comes = new CountDownLatch(1);
+        CountDownLatch goes = new CountDownLatch(1);
+        Follower follower = new Follower(Sources.file("example.org", file), (text, count) -> {
+            comes.countDown();
+            Making.await(goes);
+        });
+        follower.closing = 1000 * Making.PATIENCE;
+        follower.begin();
+        write(file, issuer.bundle());
+        Making.await(comes);
+        Thread closes = new Thread(follower::close);
+        closes.setDaemon(true);
+        closes.start();
+        until(() -> !closes.isAlive() || closes.getState() == Thread.State.TIMED_WAITING);
+        assertTrue(closes.isAlive());
+        goes.countDown();
+        Making.joined(closes);
+    }
+
+    /** Whoever names a trust domain wrongly hears that at once: no token would be one of it. */
+    @Test
+    public void whatIsNoNameOfATrustDomain() {
+        URI address = URI.create("https://localhost/");
+        SpiffeId server = SpiffeId.parse(SERVER);
+        for (String it : List.of("", "Example.org", "spiffe://example.org", "example.org/x", "example.org.json/..")) {
+            for (ThrowingRunnable call : List.<ThrowingRunnable>of(()
+                                                                           -> Sources.file(it, path("a")),
+                         ()
+                                 -> Sources.web(it, address),
+                         ()
+                                 -> Sources.web(it, address, path("a")),
+                         () -> Sources.spiffe(it, address, server), () -> Sources.spiffe(it, address, server, path("a")))) {
+                RuntimeException why = assertThrows(it, RuntimeException.class, call);
+                assertTrue(why.toString(), why instanceof IllegalArgumentException || why instanceof SvidException.BadId);
+            }
+        }
     }
 
     @Test

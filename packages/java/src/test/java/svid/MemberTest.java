@@ -1053,6 +1053,18 @@ public class MemberTest {
         }
     }
 
+    /** It is asked until it answers, also where nobody looks whether the validator is ready. */
+    @Test
+    public void aStoreThatComesLater() throws Exception {
+        Fickle store = new Fickle();
+        store.before = AWAY;
+        try (Validator validator = open(strict(store).wait(Duration.ofMillis(100)))) {
+            until(() -> store.calls.get() > 2);
+            store.before = NOTHING;
+            until(() -> soon(() -> validator.check(token())).equals(SUBJECT));
+        }
+    }
+
     /** Who has looked before does not say later that it was not reached. */
     @Test
     public void aStoreThatIsReachedMeanwhile() throws Exception {

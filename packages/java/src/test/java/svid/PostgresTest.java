@@ -13,6 +13,9 @@ import java.io.OutputStream;
 import java.io.PrintWriter;
 import java.io.StringWriter;
 import java.io.UncheckedIOException;
+import java.lang.reflect.InvocationHandler;
+import java.lang.reflect.InvocationTargetException;
+import java.lang.reflect.Proxy;
 import java.nio.charset.StandardCharsets;
 import java.nio.file.Files;
 import java.nio.file.Path;
@@ -667,6 +670,54 @@ public class PostgresTest {
             return tell(what);
         } catch (Exception why) {
             throw new AssertionError(why);
+        }
+    }
+
+    /** A program may end that closes no store. */
+    @Test
+    public void noThreadOfAStoreHoldsUpTheEndOfAProgram() throws Exception {
+        try (PostgresMember member = running(new Suspended(), url, url + "&ApplicationName=x");
+                PostgresStore store = PostgresStore.at(url).group("none").open()) {
+            List<Thread> all = Thread.getAllStackTraces().keySet().stream().filter(it -> it.getName().startsWith("svid-s")).toList();
+            assertTrue(all.stream().map(Thread::getName).toList().containsAll(List.of("svid-server", "svid-store")));
+            assertTrue(all.stream().allMatch(Thread::isDaemon));
+        }
+    }
+
+    /**
+     * A server that hangs is looked at for two seconds, and then counts as one that answers nobody: no claim counts while a look is older
+     * than three.
+     */
+    @Test
+    public void aLookAtAServerHasAnEnd() throws Exception {
+        List<Integer> waits = new CopyOnWriteArrayList<>();
+        Driver its = DriverManager.getDriver(url);
+        Driver driver = new org.postgresql.Driver() {
+            @Override
+            public Connection connect(String address, Properties with) throws SQLException {
+                Connection one = super.connect(address, with);
+                boolean isLook = Thread.currentThread().getName().equals("svid-server");
+                InvocationHandler told = (proxy, method, words) -> {
+                    if (isLook && method.getName().equals("setNetworkTimeout")) {
+                        waits.add((int) words[1]);
+                    }
+                    try {
+                        return method.invoke(one, words);
+                    } catch (InvocationTargetException why) {
+                        throw why.getCause();
+                    }
+                };
+                return (Connection) Proxy.newProxyInstance(getClass().getClassLoader(), new Class<?>[] {Connection.class}, told);
+            }
+        };
+        DriverManager.deregisterDriver(its);
+        DriverManager.registerDriver(driver);
+        try (PostgresMember member = running(Moment::now, url, url + "&ApplicationName=x")) {
+            Making.until(() -> waits.size() > 4);
+            assertEquals(List.of(), waits.stream().filter(it -> it > 2000).toList());
+        } finally {
+            DriverManager.deregisterDriver(driver);
+            DriverManager.registerDriver(its);
         }
     }
 

@@ -19,11 +19,14 @@ import java.net.InetSocketAddress;
 import java.net.URL;
 import java.nio.ByteBuffer;
 import java.nio.charset.StandardCharsets;
+import java.nio.file.Files;
+import java.nio.file.Path;
 import java.time.Duration;
 import java.time.Instant;
 import java.util.ArrayList;
 import java.util.Base64;
 import java.util.Collections;
+import java.util.HashMap;
 import java.util.List;
 import java.util.Map;
 import java.util.concurrent.Callable;
@@ -723,6 +726,21 @@ public class ServiceTest {
             until(validator::isReady);
         }
         assertEquals(due.stream().sorted().toList(), said.lines.stream().sorted().toList());
+    }
+
+    /** A program may end that closes nothing. */
+    @Test
+    public void noThreadHoldsUpTheEndOfAProgram() throws Exception {
+        Path file = Files.write(room.getRoot().toPath().resolve("a.json"), issuer.bundle());
+        Options all = options().mode(Mode.BOUND).store(new Telling());
+        try (Validator one = Validator.open(all, Sources.file("example.org", file));
+                Validator other = open(options().state(room.getRoot().toPath().resolve("state")))) {
+            Map<String, Boolean> threads = new HashMap<>();
+            Thread.getAllStackTraces().keySet().forEach(it -> threads.merge(it.getName(), it.isDaemon(), (here, there) -> here && there));
+            for (String it : List.of(Claims.THREADS, WithdrawalReader.THREAD, Follower.THREAD, Journal.THREAD)) {
+                assertEquals(it, true, threads.get(it));
+            }
+        }
     }
 
     // -- What tests of a service use
