@@ -111,7 +111,9 @@ impl Servers {
     /// Looks at a server, by a connection if there is one, and gives that which is there then.
     pub(super) async fn look(&self, at: usize, session: Option<Session>, end: Instant) -> Option<Session> {
         let begun = self.now();
-        let looked = match session {
+        // (one of before a suspension may have ended, which says nothing of the server)
+        let is_young = self.seen()[at].at.map_or(false, |at| !at.is_older_than(OLDEST, &begun));
+        let looked = match session.filter(|_| is_young) {
             None => self.reach(at, end).await,
             Some(mut it) => it.role(end).await.map(|role| (it, role)),
         };

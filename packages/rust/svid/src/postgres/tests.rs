@@ -544,8 +544,7 @@ fn a_primary_by_the_last_looks() {
 #[test]
 fn a_look_that_began_before_a_suspension_is_old() {
     let machine = Machine::new();
-    let runtime = Builder::new_current_thread().enable_all().build().expect("it can wait");
-    for url in [machine.url.as_str(), "postgres://127.0.0.1:1/d"] {
+    for (url, is_there) in [(machine.url.as_str(), true), ("postgres://127.0.0.1:1/d", false)] {
         let (begun, hours, sleeps) = (Moment::now(), AtomicU32::new(0), Arc::new(AtomicBool::new(false)));
         let is_asleep = Arc::clone(&sleeps);
         let now = move || {
@@ -555,17 +554,27 @@ fn a_look_that_began_before_a_suspension_is_old() {
         };
         let addresses = [url; 2].map(|it| Address::of(it).expect("it is one"));
         let servers = Servers::new(addresses.into(), String::new(), Arc::new(now));
-        let looks = |at| drop(runtime.block_on(servers.look(at, None, Instant::now() + patience())));
+        let look = |at, session| {
+            // (the connection ends with it)
+            let runtime = Builder::new_current_thread().enable_all().build().expect("it can wait");
+            runtime.block_on(servers.look(at, session, Instant::now() + patience()))
+        };
         let is_unlooked = || servers.counts(1).map_or_else(|why| why.text == UNLOOKED, |()| false);
-        looks(0);
-        looks(1);
+        look(0, None);
+        look(1, None);
         assert!(!is_unlooked(), "{url}");
         sleeps.store(true, Ordering::Release);
-        looks(1);
-        looks(0);
+        look(1, None);
+        look(0, None);
         assert!(is_unlooked(), "{url}");
-        looks(1);
-        assert!(!is_unlooked(), "{url}");
+        let session = look(1, None);
+        assert!(!is_unlooked() && session.is_some() == is_there, "{url}");
+        // That a connection of before has ended says nothing of the server.
+        sleeps.store(true, Ordering::Release);
+        servers.now();
+        look(0, None);
+        look(1, session);
+        assert_eq!(servers.counts(1).is_ok(), is_there, "{url}");
     }
 }
 
