@@ -214,3 +214,23 @@ pub(crate) async fn follow(shared: &Shared, api: &WorkloadApi) {
         pause = (pause * 2).min(PAUSES.1);
     }
 }
+
+#[cfg(test)]
+mod tests {
+    use super::*;
+
+    /// A message of so many bytes, as gRPC frames it.
+    fn framed(len: usize) -> Vec<u8> {
+        let of = |text: usize| Response { bundles: [(String::new(), vec![b' '; text])].into() };
+        let response = of(2 * len - of(len).encoded_len());
+        assert_eq!(response.encoded_len(), len);
+        [&[0], &u32::try_from(len).expect("it is short").to_be_bytes()[..], &response.encode_to_vec()].concat()
+    }
+
+    #[test]
+    fn the_longest_message() {
+        let mut received = framed(MOST_MESSAGE);
+        assert!(first(&mut received).expect("it is read").is_some() && received.is_empty());
+        assert!(first(&mut framed(MOST_MESSAGE + 1)).is_err());
+    }
+}

@@ -38,6 +38,19 @@ fn sources_that_are_followed_no_more_hand_nothing_on() {
     assert_eq!(why, Error::Refused(crate::Refusal::UnknownDomain));
 }
 
+#[test]
+fn of_a_long_file_no_more_is_read_than_a_bundle_has() {
+    let room = Room::new("long");
+    let path = room.0.join("bundle.json");
+    for (len, is_good) in [(MOST, true), (MOST + 1, false), (3 * MOST, false)] {
+        let bundle = r#"{"keys":[]}"#;
+        std::fs::write(&path, bundle.to_owned() + &" ".repeat(len - bundle.len())).expect("it is written");
+        let text = super::read(&path).expect("it is a file");
+        assert_eq!(text.len(), len.min(MOST + 1));
+        assert_eq!(judge("example.org", &text, Form::Bundle).is_ok(), is_good, "{len}");
+    }
+}
+
 /// An error, and what it comes from.
 #[cfg(feature = "https")]
 #[derive(Debug)]

@@ -1279,6 +1279,24 @@ fn a_store_that_goes_away() {
     until(|| unready(&guard).is_empty()); // (each look asks the store)
 }
 
+/// Each time is told, and its claims are put again as soon as the first time: an answer ends the pauses that have grown.
+#[test]
+fn a_store_that_goes_away_again_and_again() {
+    let store = Fickle::new();
+    let (options, heard) = hearing(strict(&store).wait(LONG));
+    let guard = opened(&options);
+    let told = || heard.lock().unwrap().iter().filter(|it| it.starts_with("the group's store does not answer")).count();
+    for times in 1..=3 {
+        let before = store.counts().len();
+        store.before(away);
+        let call = soon(&guard, &fresh(another()));
+        until(|| store.counts().len() > before + 3 && told() == times);
+        store.is_well();
+        assert_eq!(answer(call), "accepted");
+    }
+    assert_eq!(told(), 3);
+}
+
 /// A store that answers claims, and whose withdrawals can't be read, is away: in mode bound nobody is to send it tokens, in the others it is well.
 #[test]
 fn a_store_that_tells_no_withdrawals_any_more() {

@@ -195,7 +195,7 @@ fn a_server_with_a_certificate_for_its_name() {
     let (first, request) = endpoint.asked.lock().unwrap()[0].clone();
     let port = endpoint.address.split(':').nth(2).and_then(|it| it.split('/').next()).unwrap();
     assert!(request.starts_with("GET /bundle?of=all HTTP/1.1\r\n"), "{request}");
-    assert!(request.contains(&format!("host: localhost:{port}\r\n")), "{request}");
+    assert!(request.contains(&format!("\r\nhost: localhost:{port}\r\n")), "{request}");
     issuer.rotate();
     endpoint.answers(hinted(&issuer));
     until("the new key", || is_good(&guard, &issuer));
@@ -234,6 +234,8 @@ fn an_answer_that_is_no_bundle() {
         ("HTTP/1.1 404 Not Found\r\ncontent-length: 0\r\n\r\n".to_owned(), "it answers 404"),
         (leads.to_owned(), "it answers 302"),
         (good(&long), "more than 1048576 bytes"),
+        // (an answer that goes on is not read to its end)
+        (good(&long).replacen("content-length: 1", "content-length: 9", 1), "more than 1048576 bytes"),
         (good("[]"), "no JSON object"),
         ("no HTTP\r\n\r\n".to_owned(), "invalid HTTP"),
         (format!("HTTP/1.1 200 OK\r\nx: {}\r\n\r\n", "x".repeat(1 << 17)), "too large"),
@@ -244,6 +246,18 @@ fn an_answer_that_is_no_bundle() {
         let said = warning(Sources::new().https_web("example.org", &endpoint.address, file(&room, pem(&by))));
         assert!(said.contains(why), "{said}, and not {why}");
     }
+}
+
+#[test]
+fn the_longest_bundle() {
+    let (room, by, issuer) = (Room::new("longest"), authority(), Issuer::new("example.org"));
+    let shows = certified(&Of { names: vec!["localhost"], ..Of::default() }, Some(&by));
+    let bundle = issuer.bundle();
+    let spaces = " ".repeat((1 << 20) - bundle.len());
+    let endpoint = Endpoint::begin(&shows, good(&(bundle + &spaces)));
+    let (guard, heard) = opened(Sources::new().https_web("example.org", &endpoint.address, file(&room, pem(&by))));
+    until("an answer", || is_good(&guard, &issuer) || !heard.all().is_empty());
+    assert!(heard.all().is_empty(), "{:?}", heard.all());
 }
 
 /// The last good bundle stays. It is asked again soon, and then less and less often, until it answers.
