@@ -38,6 +38,39 @@ fn sources_that_are_followed_no_more_hand_nothing_on() {
     assert_eq!(why, Error::Refused(crate::Refusal::UnknownDomain));
 }
 
+/// What a guard follows without threads, so that nobody looks but this test.
+fn quiet(requests: &Arc<Requests>, sources: Sources, state: State) -> Shared {
+    Shared {
+        requests: Arc::downgrade(requests),
+        sources,
+        state: Mutex::new(state),
+        telling: Mutex::new(()),
+        comes: Condvar::new(),
+        #[cfg(any(feature = "https", feature = "workload"))]
+        closing: tokio::sync::watch::channel(false).0,
+    }
+}
+
+/// It is that of the source that gives it now, though its text is the same.
+#[test]
+fn a_bundle_stays_when_the_source_goes_that_gave_it_first() {
+    let (requests, room) = (Requests::open(&ledger(), false).expect("it opens"), Room::new("first"));
+    let (folder, file) = (room.0.join("folder"), room.0.join("file"));
+    std::fs::create_dir(&folder).expect("nothing is there");
+    let first = folder.join("example.org.json");
+    for path in [&first, &file] {
+        std::fs::write(path, r#"{"keys":[]}"#).expect("it is written");
+    }
+    let shared = quiet(&requests, Sources::new().folder(&folder), State::default());
+    shared.look();
+    let state = std::mem::take(&mut *shared.state());
+    let shared = quiet(&requests, Sources::new().file("example.org", &file).folder(&folder), state);
+    shared.look();
+    std::fs::remove_file(&first).expect("it is there");
+    shared.look();
+    assert_eq!(shared.state().held.keys().collect::<Vec<_>>(), ["example.org"]);
+}
+
 #[test]
 fn of_a_long_file_no_more_is_read_than_a_bundle_has() {
     let room = Room::new("long");
@@ -75,6 +108,10 @@ impl std::error::Error for Of {
 fn why_a_source_gave_nothing_has_its_causes_and_an_end() {
     let of = |text: &str, source| Of(text.to_owned(), source);
     let deep = of("no connection", Some(of("connection refused", Some(of("refused", None).into())).into()));
-    assert_eq!(told(&deep), "no connection: connection refused");
-    assert_eq!(told(&of(&"x".repeat(5000), None)), "x".repeat(1024));
+    let long = of(&"x".repeat(5000), None);
+    let (tell, says) = std::sync::mpsc::channel();
+    thread::spawn(move || [deep, long].iter().try_for_each(|it| tell.send(told(it))));
+    let next = || says.recv_timeout(patience()).expect("it has an end");
+    assert_eq!(next(), "no connection: connection refused");
+    assert_eq!(next(), "x".repeat(1024));
 }
