@@ -658,6 +658,7 @@ def test_close_ends_calls(machine, group):
     for call in (lambda: store.put([claim(1)]), store.state, store.withdrawals):
         with pytest.raises(StoreFault, match="closed"):
             call()
+    assert [it.name for it in store.put_each([claim(1), claim(2)])] == ["closed", "closed"]
 
 
 def test_nothing_of_a_store_stays(machine, group):

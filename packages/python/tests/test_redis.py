@@ -306,6 +306,7 @@ def test_close_ends_calls(machine):
     for call in (lambda: store.put([claim(1)]), store.state, store.withdrawals):
         with pytest.raises(StoreFault, match="closed"):
             call()
+    assert [it.name for it in store.put_each([claim(1), claim(2)])] == ["closed", "closed"]
 
 
 def test_a_store_that_is_closed_has_no_connection(machine):
