@@ -105,19 +105,14 @@ class Folder:
             )
         return bytes.fromhex(found[1].decode())
 
-    def keep_folder_id(self, folder_id: bytes) -> None:
+    def keep_folder_id(self, folder_id: bytes, is_empty: bool) -> None:
         """Keeps the ID, before anything is kept that can't be read without it.
 
-        A start that failed or was killed may have left a file that has it, and the folder itself:
-        no later sync vouches for a name whose sync failed. So the file is made again.
+        A start that failed or was killed may have left a file that has it, and an empty folder
+        itself: no later sync vouches for a name whose sync failed. So the file is made again.
         """
-        try:
-            _sync_folder(self.path.parent)
-        except OSError as why:
-            # (Who may not read the folder above has not made this one. Where that folder is only
-            # read, it may have no sync.)
-            if why.errno not in (errno.EACCES, errno.EPERM, errno.EINVAL):
-                raise self._unsure(why) from why
+        if is_empty:
+            self._sync_above()
         file = self.create(ID_FILE + UNFINISHED)
         try:
             write(file, folder_id.hex().encode() + b"\n", 0)
@@ -126,6 +121,15 @@ class Folder:
             os.close(file)
         self.rename(ID_FILE + UNFINISHED, ID_FILE)
         self.sync()
+
+    def _sync_above(self) -> None:
+        try:
+            _sync_folder(self.path.parent)
+        except OSError as why:
+            # (Who may not read the folder above has not made this one. Where that folder is only
+            # read, it may have no sync.)
+            if why.errno not in (errno.EACCES, errno.EPERM, errno.EINVAL):
+                raise self._unsure(why) from why
 
     def _make(self) -> None:
         """Makes the folder where it is not there, so that its name lasts.

@@ -270,16 +270,17 @@ class _Keeper:
         files = [File(folder, journal_name(it), it, folder_id) for it in journals]
         self._older = sum(it.at for it in files)
         self._wants = len(journals) >= _MANY_JOURNALS
+        has_snapshot = True
         try:
             files.insert(0, File(folder, SNAPSHOT, 0, folder_id))
             self._kept = files[0].at
         except FileNotFoundError:
-            self._wants = True
+            self._wants, has_snapshot = True, False
         self.torn = tuple(it.name for it in files if it.is_torn)
         self._found = [messages for it in files for messages in it.messages]
         self.folder_id = os.urandom(16) if folder_id is None else folder_id
-        if folder_id is None or not files:
-            folder.keep_folder_id(self.folder_id)
+        if folder_id is None or not has_snapshot:  # (an older svidd may have left an empty journal)
+            folder.keep_folder_id(self.folder_id, not files)
         return Numbers(self.folder_id, min(journals, default=1), max(journals, default=0))
 
     def _make_calls(self, parts: _Parts | None) -> None:

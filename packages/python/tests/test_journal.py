@@ -1058,17 +1058,24 @@ def test_a_new_folder_whose_first_starts_end_anywhere(tmp_path, disk, monkeypatc
             pass
         return True
 
-    for first in Killed(), OSError(errno.EIO, "no disk"):
+    no_disk = OSError(errno.EIO, "no disk")
+    for first, is_old in (Killed(), False), (no_disk, False), (no_disk, True):
         for at in range(100):
             for next_at in range(100):
                 made = disk(lambda number, name: None)
+                if is_old:  # (as an older version leaves a folder that keeps nothing)
+                    state.mkdir()
+                    (state / "journal.1").touch()
+                    made.is_there, made.sure = True, {
+                        "journal.1": (state / "journal.1").stat().st_ino
+                    }
                 is_over = not ends(made, at, first)
-                is_next_over = not ends(made, next_at, OSError(errno.EIO, "no disk"))
+                is_next_over = not ends(made, next_at, no_disk)
                 made.before = lambda number, name: None
                 with contextlib.closing(svid.Journal(state)) as journal:
                     append(journal, 1)
                 monkeypatch.undo()
-                assert found(made.lost(lost)) == {1}, (first, at, next_at)
+                assert found(made.lost(lost)) == {1}, (first, is_old, at, next_at)
                 shutil.rmtree(lost)
                 shutil.rmtree(state)
                 if is_next_over:
