@@ -426,6 +426,61 @@ func TestSettingsThatLose(t *testing.T) {
 	}
 }
 
+// Settings lose entries once, are put right, and lose entries again: another member has accepted a token in between. A member that saw both losses, and nothing
+// of that, does not accept it.
+func TestSettingsThatLoseTwice(t *testing.T) {
+	t.Parallel()
+	m := newMachine(t)
+	o := claimstest.Options{Name: "twice", Terms: claims.Terms{Lasts: claimstest.Usual.Lasts, Margin: claimstest.Usual.Margin, Back: 1}}
+	a, b := open(t, m, o), open(t, m, o)
+	js := admin(t, m.URL)
+	i, err := js.StreamInfo(a.stream(ofClaims))
+	if err != nil {
+		t.Fatal(err)
+	}
+	due := i.Config.MaxAge
+	i.Config.Duplicates = 0
+	keepFor := func(now time.Duration) {
+		t.Helper()
+		i.Config.MaxAge = now
+		if _, err := js.UpdateStream(&i.Config); err != nil {
+			t.Fatal(err)
+		}
+	}
+	isWrong := func() {
+		t.Helper()
+		var unfit *claims.Unfit
+		if _, err := a.State(patient(t)); !errors.As(err, &unfit) {
+			t.Fatal(err)
+		}
+	}
+	keepFor(time.Second)
+	isWrong()
+	keepFor(due)
+	c := one(1)
+	c.Expires = claimstest.State(t, b).Deaf + 1
+	natstest.Await(t, "a time at which such a token is made", func() bool { return claimstest.State(t, b).Time+o.Terms.Lasts > c.Expires })
+	if f := claimstest.Put(t, b, c)[0]; claimstest.Judge(c, f, 60) != claimstest.Mine {
+		t.Fatalf("%+v", f)
+	}
+	b.Close()
+	keepFor(time.Second)
+	natstest.Await(t, "the claim to go", func() bool {
+		is, err := js.StreamInfo(a.stream(ofClaims))
+		return err == nil && is.State.Msgs == 0
+	})
+	natstest.Await(t, "looks while the settings are wrong, by which nothing is too young to go", func() bool {
+		isWrong()
+		return a.samples[ofClaims][0].last > 0
+	})
+	keepFor(due)
+	again := c
+	again.Owner = claimstest.Own(2)
+	if f := claimstest.Put(t, a, again)[0]; claimstest.Judge(again, f, 60) == claimstest.Mine {
+		t.Errorf("accepted twice: %+v", f)
+	}
+}
+
 // Entries that left too early end one epoch, and not each one that follows: for who saw that, and for who starts later.
 func TestWhatLeftTooEarlyEndsOneEpoch(t *testing.T) {
 	t.Parallel()
