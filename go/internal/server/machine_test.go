@@ -457,6 +457,38 @@ func TestAPauseIsShortAgainAfterAnAnswer(t *testing.T) {
 	}
 }
 
+// One server of several is away, so each call has some answers. A claim of that server is put again after a short pause each time: it may be back.
+func TestAPauseStaysShortWhereTheStoreAnswersSome(t *testing.T) {
+	b := newBench(t)
+	answersBut := func(call int, gone claims.Claim) {
+		t.Helper()
+		batch := b.batches[call]
+		for i, one := range batch.Claims {
+			if batch.Found[i] = (claims.Found{Owner: one.Owner, Time: b.now.Wall}); one == gone {
+				batch.Found[i] = claims.Found{Err: errors.New("connection refused")}
+			}
+		}
+		b.step(Claimed{batch})
+		if pause := b.machine.Due() - b.now.Up; pause != firstRetry {
+			t.Errorf("after call %d it is due after %v", call, pause)
+		}
+	}
+	b.asks("1")
+	b.asks("2")
+	b.asks("3")
+	b.answers(0, nil)
+	gone := b.batches[1].Claims[1]
+	answersBut(1, gone)
+	b.asks("4")
+	b.asks("5")
+	b.pass(firstRetry)
+	b.pass(nextCall - firstRetry)
+	if len(b.batches) != 4 || len(b.batches[3].Claims) != 2 || b.batches[3].Claims[1] != gone {
+		t.Fatalf("%d calls", len(b.batches))
+	}
+	answersBut(3, gone)
+}
+
 // Claims that have no room in a call go out with the next one, also where no answer comes.
 func TestClaimsWithoutRoomGoOutByThemselves(t *testing.T) {
 	b := newBench(t)
