@@ -78,6 +78,9 @@ func TestDevMintsTokensAndTriesThem(t *testing.T) {
 			t.Errorf("a line does not say what it is for: %q", line)
 		}
 	}
+	if n := strings.Count(p.log.String(), "ready. Now:"); n != 1 {
+		t.Errorf("it says %d times that it is ready", n)
+	}
 	if _, err := os.Stat(p.room); !os.IsNotExist(err) {
 		t.Errorf("its folder is left: %v", err)
 	}

@@ -379,7 +379,7 @@ func TestATokenThatIsTooLong(t *testing.T) {
 	p.want(token(t, "good", lasting), 200, "")
 }
 
-// An address that is taken is said at the start.
+// An address that is taken is said at the start, which leaves no socket.
 func TestAnAddressThatIsTaken(t *testing.T) {
 	t.Parallel()
 	admin := filepath.Join(t.TempDir(), "admin.sock")
@@ -391,6 +391,14 @@ func TestAnAddressThatIsTaken(t *testing.T) {
 	args[6] = freeAddress(t)
 	if status, _, err := svidd(t, "", args...); status != 2 || !strings.Contains(err, "another process answers there") {
 		t.Errorf("the same admin socket: %d %q", status, err)
+	}
+	socket := filepath.Join(t.TempDir(), "listen.sock")
+	args[6] = "unix:" + socket
+	if status, _, err := svidd(t, "", args...); status != 2 || !strings.Contains(err, "another process answers there") {
+		t.Errorf("the same admin socket, beside a socket that nobody has: %d %q", status, err)
+	}
+	if _, err := os.Lstat(socket); !os.IsNotExist(err) {
+		t.Errorf("the other socket is left: %v", err)
 	}
 	p.want(token(t, "good", lasting), 200, "")
 }
