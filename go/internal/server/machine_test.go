@@ -279,6 +279,18 @@ func TestClaimsEndOnce(t *testing.T) {
 	}
 }
 
+// A store that has lost entries says so when it is opened: nobody is sent here whose token can't be accepted, also where the first look fails.
+func TestAStoreThatIsDeafWhenItIsOpened(t *testing.T) {
+	b := newBench(t)
+	if err := b.machine.Ready(b.now, false, false); err != nil {
+		t.Fatal(err)
+	}
+	b.step(StoreOpened{claims.State{Epoch: "two", Time: moment, Deaf: svid.StaysUntil(moment, 3600)}})
+	if err := b.machine.Ready(b.now, false, false); err == nil || !strings.Contains(err.Error(), "lost entries") {
+		t.Errorf("%v", err)
+	}
+}
+
 // Claims without an answer are put again, after a pause that grows, until their time is over. Others do not wait for them.
 func TestClaimsWithoutAnswerArePutAgain(t *testing.T) {
 	b := newBench(t)

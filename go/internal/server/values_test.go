@@ -4,6 +4,7 @@ import (
 	"bytes"
 	"fmt"
 	"strings"
+	"sync/atomic"
 	"testing"
 
 	"svid.example/go/v3/carriers"
@@ -65,6 +66,33 @@ func TestASummaryRepairsWhatWasNotTold(t *testing.T) {
 	}
 	if err := check(there, token("a")); err != svid.Replayed {
 		t.Error(err)
+	}
+}
+
+// What expires while a summary is on its way makes no difference: the other one answers nothing.
+func TestWhatExpiresOnTheWayOfASummary(t *testing.T) {
+	var later atomic.Uint64
+	there := ready(t, engine(t, Options{Mode: Once, ValidatorID: svid.ValidatorID{1}}))
+	here := ready(t, engine(t, Options{Mode: Once, ValidatorID: svid.ValidatorID{2}, Now: func() uint64 { return moment + later.Load() }}))
+	soon := svid.Use{Key: svid.TokenKey{1, 1}, Expires: moment + 2, At: moment, ValidatorID: svid.ValidatorID{3}}
+	last := svid.Use{Key: svid.TokenKey{1, 2}, Expires: moment + 300, At: moment, ValidatorID: svid.ValidatorID{3}}
+	for _, e := range []*Engine{there, here} {
+		if errs := e.Take([]carriers.Value{{Kind: carriers.Uses, Message: batchOf(soon)}, {Kind: carriers.Uses, Message: batchOf(last)}}); errs != nil {
+			t.Fatal(errs)
+		}
+	}
+	summary, err := there.Summary()
+	if err != nil {
+		t.Fatal(err)
+	}
+	for later.Store(0); later.Load() < mostSettle; later.Add(1) {
+		here.step(doing(func(m *Machine) { m.tick() }))
+		if answer, err := here.machine.Answer(summary); err != nil || len(answer) > 0 {
+			t.Errorf("after %d s: %d bytes, %v", later.Load(), len(answer), err)
+		}
+	}
+	if size, err := here.machine.validator.Size(); err != nil || size.Uses != 1 {
+		t.Errorf("%+v: one of two has expired (%v)", size, err)
 	}
 }
 
