@@ -110,12 +110,12 @@ export class Folder {
   }
 
   /**
-   * Keeps the ID, before anything is kept that can't be read without it. A start that failed or was killed may have left a file that has it, and the
-   * folder itself: no later sync vouches for a name whose sync failed. So the file is made again.
+   * Keeps the ID, before anything is kept that can't be read without it. A start that failed or was killed may have left a file that has it, and an
+   * empty folder itself: no later sync vouches for a name whose sync failed. So the file is made again.
    */
-  async keepId(id) {
+  async keepId(id, isEmpty) {
     // (Who may not read the folder above has not made this one. Where that folder is only read, it may have no sync.)
-    await syncFolder(dirname(this.path)).catch((why) => orNull(why, "EACCES", "EPERM", "EINVAL")).catch((why) => this.#unsure(why));
+    if (isEmpty) await syncFolder(dirname(this.path)).catch((why) => orNull(why, "EACCES", "EPERM", "EINVAL")).catch((why) => this.#unsure(why));
     const file = await this.create(ID_FILE + UNFINISHED);
     try {
       await write(file, Buffer.from(`${Buffer.from(id).toString("hex")}\n`), 0);

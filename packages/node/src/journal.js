@@ -111,11 +111,11 @@ export class Journal {
     if ((await folder.read(FRAMES)) !== null) throw new BadFolder(`${folder.path} is of an older svidd: start a newer one in it once`);
     const known = await folder.id(), journals = await folder.journals(), library = await Library.start();
     try {
-      let count = 0;
-      for (const number of [0n, ...journals]) count += await this.#take(library, known, number);
+      const hasSnapshot = await this.#take(library, known, 0n);
+      for (const number of journals) await this.#take(library, known, number);
       this.#wants = journals.length >= MANY_JOURNALS || !this.#kept;
       this.id = known ?? (await random());
-      if (!known || !count) await folder.keepId(this.id);
+      if (!known || !hasSnapshot) await folder.keepId(this.id, !journals.length); // (an older svidd may have left an empty journal)
     } finally {
       library.close(); // (with the memory that files took)
     }
@@ -123,10 +123,10 @@ export class Journal {
     this.#numbers = this.#library.folder(this.id, journals[0] ?? 1n, journals.at(-1) ?? 0n);
   }
 
-  // Reads a file: a journal, or the snapshot as number 0. Says how many files were there.
+  // Reads a file: a journal, or the snapshot as number 0. Says whether it is there.
   async #take(library, known, number) {
     const folder = this.#folder, name = number ? journalName(number) : SNAPSHOT, bytes = await folder.read(name), path = folder.at(name);
-    if (bytes === null) return 0;
+    if (bytes === null) return false;
     const { status, at, format, messages } = library.framesOf(known ?? new Uint8Array(16), number, bytes);
     if (status !== FILE_END && status !== FILE_OTHER && !at && library.beginsAsMessages(bytes)) {
       throw new BadFolder(`${path} is of an older svidd: start a newer one in the folder once`);
@@ -140,7 +140,7 @@ export class Journal {
     for (const it of messages) this.#found.push(it);
     if (number) this.#older += at;
     else this.#kept = at;
-    return 1;
+    return true;
   }
 
   // -- Writes, one after the other

@@ -668,8 +668,10 @@ class Disk {
   #synced = new Map(); // by inodes
   #sure = new Map(); // inodes by names
   #stuck = new Set();
+  #folder;
 
   constructor(folder, before) {
+    this.#folder = folder;
     disturbed(async (name, file, given) => {
       const number = this.calls++;
       if (name === "sync") await this.#sync(folder, file, () => before(number, name));
@@ -695,6 +697,14 @@ class Disk {
     }
     if (isAbove) this.isThere ||= !this.#isStuck;
     else this.#sure = new Map([...[...this.#sure].filter(([it]) => this.#stuck.has(it)), ...[...is].filter(([it]) => !this.#stuck.has(it))]);
+  }
+
+  // Has the folder, with an empty file.
+  async has(name) {
+    await REAL.mkdir(this.#folder);
+    await writeFile(join(this.#folder, name), "");
+    this.isThere = true;
+    this.#sure.set(name, (await stat(join(this.#folder, name))).ino);
   }
 
   // A folder with what a loss of power surely leaves, or none.
@@ -772,9 +782,10 @@ test("a new folder whose first starts end anywhere keeps its own name, and that 
   };
   let disk, ending = () => {};
   unlocked();
-  for (const isKill of [true, false]) for (let at = 0, isOver = false; !isOver; at++) {
-    for (let nextAt = isKill ? 99 : 0, isNextOver = false; !isNextOver; nextAt += 1 + (at % 2)) {
+  for (const [isKill, isOld] of [[true, false], [false, false], [false, true]]) for (let at = 0, isOver = false; !isOver; at++) {
+    for (let nextAt = isKill || isOld ? 99 : 0, isNextOver = false; !isNextOver; nextAt += 1 + (at % 2)) {
       disk = new Disk(state, (number) => ending(number));
+      if (isOld) await disk.has("journal.1"); // (as an older version leaves a folder that keeps nothing)
       isOver = !(await ends(at, isKill));
       isNextOver = !(await ends(nextAt, false));
       const journal = await Journal.open(state);
@@ -782,7 +793,7 @@ test("a new folder whose first starts end anywhere keeps its own name, and that 
       await journal.close();
       mended();
       const lost = await disk.lost(join(dirname(state), "lost"));
-      assert.deepEqual(await found(lost), [1], `calls ${at} and ${nextAt}, ${isKill}`);
+      assert.deepEqual(await found(lost), [1], `calls ${at} and ${nextAt}, ${isKill}, ${isOld}`);
       await Promise.all([lost, state].map((it) => rm(it, { recursive: true })));
       await Promise.all(files.splice(0).map((it) => it.close().catch(() => {})));
     }

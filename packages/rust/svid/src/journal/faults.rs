@@ -121,6 +121,13 @@ impl Faults {
         Ok(())
     }
 
+    /// Lets the disk have a folder, with a file of this name.
+    pub fn has(&self, name: &str) {
+        let mut disk = self.0.lock().unwrap();
+        disk.here = Some(Name::Lasts);
+        disk.names.insert(name.to_owned(), Name::Lasts);
+    }
+
     /// What a loss of power surely leaves of a folder, in another one.
     pub fn lost(&self, folder: &Path, to: &Path) {
         let disk = self.0.lock().unwrap();

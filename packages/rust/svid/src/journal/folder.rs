@@ -168,14 +168,16 @@ impl Folder {
     }
 
     /// Keeps the validator ID, before anything is kept that can't be read without it. A start that failed or was killed may have left a file
-    /// that has it, and the folder itself: no later sync vouches for a name whose sync failed. So the file is made again.
-    pub fn keep_validator_id(&self, id: ValidatorId) -> Result<(), JournalError> {
-        match sync_above(&self.path, &self.faults) {
-            // (Who may not read the folder above has not made this one. Where that folder is only read, it may have no sync.)
-            Err(why) if !matches!(why.kind(), ErrorKind::PermissionDenied | ErrorKind::InvalidInput) => {
-                return Err(unsure(&self.path, why))
+    /// that has it, and an empty folder itself: no later sync vouches for a name whose sync failed. So the file is made again.
+    pub fn keep_validator_id(&self, id: ValidatorId, is_empty: bool) -> Result<(), JournalError> {
+        if is_empty {
+            match sync_above(&self.path, &self.faults) {
+                // (Who may not read the folder above has not made this one. Where that folder is only read, it may have no sync.)
+                Err(why) if !matches!(why.kind(), ErrorKind::PermissionDenied | ErrorKind::InvalidInput) => {
+                    return Err(unsure(&self.path, why))
+                }
+                _ => {}
             }
-            _ => {}
         }
         let unfinished = format!("{ID_FILE}{UNFINISHED}");
         let kept = self.create(&unfinished).and_then(|file| {

@@ -172,8 +172,10 @@ impl Journal {
         }
         let made = || ValidatorId::random().map_err(|why| JournalError::io(folder.path(ID_FILE), why));
         let validator_id = known.map_or_else(made, Ok)?;
-        if known.is_none() || found.is_empty() {
-            folder.keep_validator_id(validator_id)?;
+        let has_snapshot = found.len() > journals.len();
+        // (an older svidd may have left an empty journal)
+        if known.is_none() || !has_snapshot {
+            folder.keep_validator_id(validator_id, journals.is_empty())?;
         }
         let (oldest, newest) = (journals.first().copied().unwrap_or(1), journals.last().copied().unwrap_or(0));
         let writing = Writing {

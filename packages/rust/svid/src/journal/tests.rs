@@ -541,10 +541,11 @@ fn fails(path: &Path, faults: &Faults, call: usize, is_killed: bool) -> bool {
     came
 }
 
-// A new folder keeps what is appended to it, whichever call of the starts before failed: its own name lasts, and that of the validator ID.
+// A new folder, also of an older version, keeps what is appended to it, whichever call of the starts before failed: its own name lasts, and that of the
+// validator ID.
 #[test]
 fn a_new_folder_whose_first_starts_fail() {
-    for is_killed in [false, true] {
+    for (is_killed, is_old) in [(false, false), (true, false), (false, true)] {
         let (mut first, mut comes) = (0, true);
         while comes {
             first += 1;
@@ -553,6 +554,11 @@ fn a_new_folder_whose_first_starts_fail() {
                 second += 1;
                 let (room, faults) = (Room::new("first"), Faults::default());
                 let (path, lost) = (room.0.join("state"), room.0.join("lost"));
+                if is_old {
+                    fs::create_dir(&path).unwrap();
+                    fs::write(path.join("journal.1"), "").unwrap();
+                    faults.has("journal.1");
+                }
                 comes = fails(&path, &faults, first, is_killed);
                 next_comes = fails(&path, &faults, second, false);
                 let journal = opened(&path, &faults).expect("the disk is well");
@@ -560,7 +566,7 @@ fn a_new_folder_whose_first_starts_fail() {
                 drop(journal);
                 faults.lost(&path, &lost);
                 let found = Journal::open(&lost).map(|mut journal| uses(&mut loaded(&mut journal)));
-                assert!(matches!(found, Ok(1)), "calls {first} ({is_killed}) and {second}: {found:?}");
+                assert!(matches!(found, Ok(1)), "calls {first} ({is_killed}, {is_old}) and {second}: {found:?}");
             }
         }
         assert!(first > 10, "{first}");

@@ -138,11 +138,13 @@ final class Folder {
 
     /**
      * Keeps the ID, before anything is kept that can't be read without it. A start that failed or was killed may have left a file that has
-     * it, and the folder itself: no later sync vouches for a name whose sync failed. So the file is made again.
+     * it, and an empty folder itself: no later sync vouches for a name whose sync failed. So the file is made again.
      */
-    void keepId(byte[] id) throws IOException {
+    void keepId(byte[] id, boolean isEmpty) throws IOException {
         try {
-            syncAbove();
+            if (isEmpty) {
+                syncAbove();
+            }
         } catch (Disk.Failure why) {
             // (Who may not read the folder above has not made this one. Where that folder is only read, it may have no sync.)
             if (why.number != Disk.EACCES && why.number != Disk.EPERM && why.number != Disk.EINVAL) {

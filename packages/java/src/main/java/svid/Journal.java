@@ -119,8 +119,9 @@ final class Journal implements AutoCloseable {
             torn = files.stream().filter(it -> it.isTorn).map(it -> it.name).toList();
             files.forEach(it -> found.addAll(it.messages));
             folderId = known == null ? Options.random() : known;
-            if (known == null || files.isEmpty()) {
-                folder.keepId(folderId);
+            boolean hasSnapshot = files.size() > journals.size();
+            if (known == null || !hasSnapshot) { // (an older svidd may have left an empty journal)
+                folder.keepId(folderId, journals.isEmpty());
             }
             numbers = new FolderSteps(
                     folderId, journals.isEmpty() ? 1 : journals.get(0), journals.isEmpty() ? 0 : journals.get(journals.size() - 1));

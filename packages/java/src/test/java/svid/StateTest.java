@@ -922,6 +922,13 @@ public class StateTest {
             stuck.remove(path.getFileName().toString());
         }
 
+        /** Has the folder, with an empty file. */
+        void has(String name) throws IOException {
+            Files.createDirectory(folder);
+            isThere = true;
+            sure.put(name, identity(Files.createFile(folder.resolve(name))));
+        }
+
         @Override
         void makeFolder(Path path) throws IOException {
             super.makeFolder(path);
@@ -1126,27 +1133,44 @@ public class StateTest {
     /** A new folder whose first starts end anywhere: its own name lasts, and that of its ID. */
     @Test
     public void aNewFolderWhoseFirstStartsEndAnywhere() throws Exception {
+        startsEndAnywhere(true, Sure::new);
+        startsEndAnywhere(false, Sure::new);
+    }
+
+    /** As before, of a folder in which an older version has kept nothing. */
+    @Test
+    public void anOldFolderWhoseFirstStartsEndAnywhere() throws Exception {
+        startsEndAnywhere(false, state -> {
+            Sure disk = new Sure(state);
+            disk.has("journal.1");
+            return disk;
+        });
+    }
+
+    private interface Disks {
+        Sure of(Path state) throws IOException;
+    }
+
+    private void startsEndAnywhere(boolean isKilled, Disks made) throws Exception {
         Path state = room().resolve("state");
         Path lost = room().resolve("lost");
-        for (boolean isKilled : List.of(true, false)) {
-            boolean isOver = false;
-            for (int at = 0; !isOver; at++) {
-                boolean isNextOver = false;
-                for (int next = 0; !isNextOver; next++) {
-                    Sure disk = new Sure(state);
-                    isOver = !ends(disk, at, isKilled);
-                    isNextOver = !ends(disk, next, false);
-                    disk.before = name -> {};
-                    try (Journal journal = new Journal(state, disk)) {
-                        append(journal, use(1));
-                    }
-                    disk.lost(lost);
-                    assertEquals(at + " " + next, Set.of(1), found(lost));
-                    removeAll(lost);
-                    removeAll(state);
+        boolean isOver = false;
+        for (int at = 0; !isOver; at++) {
+            boolean isNextOver = false;
+            for (int next = 0; !isNextOver; next++) {
+                Sure disk = made.of(state);
+                isOver = !ends(disk, at, isKilled);
+                isNextOver = !ends(disk, next, false);
+                disk.before = name -> {};
+                try (Journal journal = new Journal(state, disk)) {
+                    append(journal, use(1));
                 }
-                assertTrue(!isOver || at > 5);
+                disk.lost(lost);
+                assertEquals(at + " " + next, Set.of(1), found(lost));
+                removeAll(lost);
+                removeAll(state);
             }
+            assertTrue(!isOver || at > 5);
         }
     }
 
