@@ -637,6 +637,18 @@ def test_a_connection_whose_answer_is_late_ends(machine):
         assert not any(it.idle for it in store._pools.values())
 
 
+def test_looks_at_servers_share_their_connections(machine, monkeypatch):
+    monkeypatch.setattr(_scripts, "ASK_WAIT", 1000 * PATIENCE)
+    servers = store_of_redis._Servers([machine.url, machine.url], End())
+    with contextlib.closing(servers), machine.client() as client:
+
+        def made():
+            servers.look(time.monotonic() + 2 * PATIENCE)
+            return client.info("stats")["total_connections_received"]
+
+        assert len({made() for _ in range(9)}) == 1
+
+
 def test_a_server_that_starts_again_fails_one_call(machine):
     """With it all connections end that wait for a call."""
     with unwatched(machine.url) as store:
