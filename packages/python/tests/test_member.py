@@ -151,6 +151,19 @@ def test_a_wait_of_a_millisecond():
     validator(wait=0.001).close()
 
 
+@pytest.mark.parametrize("tells", [False, True])
+def test_a_validator_is_there_once_its_store_answers(tells):
+    """However long it may wait for that."""
+    made, store = [], Pages() if tells else svid.testing.MemoryStore()
+
+    def make():
+        made.append(validator(mode="reuse" if tells else "strict", store=store, wait=math.inf))
+
+    threading.Thread(target=make, daemon=True).start()
+    until(lambda: made)
+    made[0].close()
+
+
 @pytest.mark.parametrize("wait", [math.inf, 1e300])
 def test_a_wait_without_an_end(wait, tmp_path):
     """It is longer than the system's calls take."""
