@@ -42,6 +42,23 @@ export async function until(end, promise, undo = () => {}) {
   }
 }
 
+/** What several calls wait for together. It has the time of the call that began it: when that is over, a call that has more begins it again. */
+export class Shared {
+  #is; // what is under way
+
+  /** @param lastOf until when it would go on if this call began it now @param begin begins it, until a moment */
+  async within(end, lastOf, begin) {
+    for (;;) {
+      const last = lastOf(), one = (this.#is ??= { last, found: begin(last).finally(() => (this.#is = undefined)) });
+      try {
+        return await until(end, one.found);
+      } catch (why) {
+        if (last <= one.last || now() < one.last || now() >= end) throw why;
+      }
+    }
+  }
+}
+
 /** Lets so many go on at once. */
 export class Gate {
   #free;

@@ -3,7 +3,7 @@
 import { createHash, randomBytes } from "node:crypto";
 import { readFileSync } from "node:fs";
 import { createRequire } from "node:module";
-import { CELL, Gate, StoreFault, brief, bytesOf, foundOf, now, until, withdrawalsOf } from "./answers.js";
+import { CELL, Gate, Shared, StoreFault, brief, bytesOf, foundOf, now, until, withdrawalsOf } from "./answers.js";
 import { isOver, momentOf } from "./moments.js";
 import * as said from "./scripts.js";
 import { DIAL_WAIT, MOST_CALLS, MOST_MARKS, STATE_WAIT } from "./statements.js";
@@ -218,9 +218,9 @@ class Servers {
   #all;
   #kept = new Map();
   #primary;
-  #looking;
+  #looking = new Shared();
   #ranges; // where the slots of a Cluster are
-  #locating;
+  #locating = new Shared();
   #first = 0; // which server of a Cluster is asked first
   #ended = false;
 
@@ -250,11 +250,8 @@ class Servers {
 
   /** The server that has a slot of a Cluster. */
   async holder(slot, end) {
-    let ranges = this.#ranges;
-    if (!ranges) {
-      this.#locating ??= this.#any(this.#all, ["CLUSTER", "SLOTS"], end, (answer, at) => this.#rangesOf(answer, at)).finally(() => (this.#locating = undefined));
-      this.#ranges = ranges = await until(end, this.#locating);
-    }
+    const locate = (last) => this.#any(this.#all, ["CLUSTER", "SLOTS"], last, (answer, at) => this.#rangesOf(answer, at));
+    const ranges = (this.#ranges ??= await this.#locating.within(end, () => end, locate));
     const found = ranges.find(({ first, last }) => first <= slot && slot <= last);
     if (found) return found.at;
     this.lost();
@@ -312,14 +309,12 @@ class Servers {
   /** Asks all servers which one is the primary. */
   async look(end) {
     if (this.#all.length === 1 && !this.#all[0].service) return (this.#primary = this.#all[0]);
-    this.#looking ??= this.#find(end).finally(() => (this.#looking = undefined));
-    return until(end, this.#looking);
+    return this.#looking.within(end, () => Math.min(end, now() + said.ASK_WAIT, (now() + end) / 2), (last) => this.#find(last));
   }
 
   async #find(end) {
     this.#primary = undefined;
-    const soon = Math.min(end, now() + said.ASK_WAIT, (now() + end) / 2);
-    const answers = await Promise.all(this.#all.map((it) => this.#asked(it, soon).catch((why) => why)));
+    const answers = await Promise.all(this.#all.map((it) => this.#asked(it, end).catch((why) => why)));
     const found = new Map(answers.filter((it) => it instanceof Server).map((it) => [it.name, it]));
     if (found.size > 1) throw new StoreFault(this.#all[0].service ? "sentinels" : "primaries", `: ${[...found.keys()].join(" and ")}`);
     if (!found.size) throw new StoreFault("server", answers.map((it) => brief(String(it.message))).join("; "));

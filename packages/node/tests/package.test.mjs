@@ -5,8 +5,11 @@ import { copyFile, mkdir, mkdtemp, readFile, readdir, rm, writeFile } from "node
 import { tmpdir } from "node:os";
 import { join } from "node:path";
 import { after, before, test } from "node:test";
+import { fileURLToPath } from "node:url";
 import { PACKAGE, TOP, digest, imported, read, run } from "./making.mjs";
 
+// The sources of the package that is tested.
+const SOURCES = fileURLToPath(new URL("..", import.meta.url));
 const NODE = process.execArgv.filter((it) => !it.startsWith("--test"));
 let room;
 
@@ -17,10 +20,10 @@ before(async () => {
 after(() => rm(room, { recursive: true, force: true }));
 
 test("the archive is the same each time, and works by itself where it is unpacked", async () => {
-  const { name, version } = JSON.parse(read("packages/node/package.json"));
+  const { name, version } = JSON.parse(await readFile(join(SOURCES, "package.json"), "utf8"));
   const archives = [];
   for (const it of ["first", "second"]) {
-    await run(`${TOP}/packages/node/build`, [join(room, it)]);
+    await run("bash", [join(SOURCES, "build"), join(room, it)]);
     archives.push(join(room, it, `${name}-${version}.tgz`));
   }
   const [first, second] = await Promise.all(archives.map(async (it) => digest(await readFile(it))));
@@ -30,7 +33,7 @@ test("the archive is the same each time, and works by itself where it is unpacke
   const quiet = ["--offline", "--silent", "--no-audit", "--no-fund", "--no-update-notifier", "--cache", join(room, "cache")];
   await run("npm", ["install", ...quiet, archives[0]], { cwd: elsewhere });
   const files = (await run("tar", ["-tzf", archives[0]])).stdout.trim().split("\n").map((it) => it.replace("package/", "")).sort();
-  const src = (await readdir(`${TOP}/packages/node/src`)).map((it) => `src/${it}`);
+  const src = (await readdir(join(SOURCES, "src"))).map((it) => `src/${it}`);
   const types = ["index", "testing"].flatMap((it) => [`${it}.d.cts`, `${it}.d.ts`]);
   assert.deepEqual(files, ["README.md", "index.cjs", "index.js", "package.json", "testing.js", ...types, ...src, "svid.wasm"].sort());
   await Promise.all(["bundles.json", "token.txt"].map((it) => copyFile(`${TOP}/examples/${it}`, join(elsewhere, it))));

@@ -18,7 +18,7 @@ import { OfGo } from "./of-go.mjs";
 const redis = createRequire(import.meta.url)("redis");
 const { Validator } = await imported();
 const { RedisStore, StoreFault } = await imported("src/redis.js");
-const { GroupStore } = await imported("src/group-store.js"), { Gate, brief, until: answered } = await imported("src/answers.js");
+const { GroupStore } = await imported("src/group-store.js"), { Gate, Shared, brief, until: answered } = await imported("src/answers.js");
 const { Member } = await imported("src/redis-member.js");
 
 // The tests of go/claims/redis, in groups that take some time each.
@@ -350,6 +350,36 @@ test("a server that is slow is waited for as long as a call may take", () =>
     // (a look has two answers, and the one of each second ends before them)
     const servers = await through(machine, (_, go) => setTimeout(go, 800));
     await withStores({}, [{ servers, wait: PATIENCE }], (store) => put(store, claim(1)));
+  }));
+
+test("what several calls wait for does not end with the time of the first", async () => {
+  const shared = new Shared(), ends = [], begin = (last) => answered(last, (ends.push(last), ends.length > 1 ? Promise.resolve("found") : new Promise(() => {})));
+  const soon = performance.now() + 50, far = soon + 1000 * PATIENCE;
+  const calls = [soon, soon, far, far].map((end) => shared.within(end, () => end, begin).catch((why) => why.reason));
+  assert.deepEqual([await within("calls", Promise.all(calls)), ends], [["silent", "silent", "found", "found"], [soon, far]]);
+  let begun = 0;
+  const fail = async () => {
+    begun++;
+    throw new StoreFault("closed");
+  };
+  const failing = [far, far + 1, far + 2].map((end) => shared.within(end, () => end, fail).catch((why) => why.reason));
+  assert.deepEqual([await within("calls", Promise.all(failing)), begun], [["closed", "closed", "closed"], 1]); // (that took no time)
+});
+
+test("a search for the primary that others wait for does not end with the time of the first", () =>
+  withServer(async (machine) => {
+    let held = gate();
+    held.open();
+    const member = memberOf(await through(machine, (_, go) => held.passed.then(go)), "unix:///nowhere");
+    // (on a busy machine a second may be too short for a search)
+    await until(async () => {
+      await looked(member);
+      held = gate();
+      const first = member.look(performance.now() + 200), second = member.look(end()).then(() => true, () => false);
+      await assert.rejects(first, StoreFault);
+      held.open();
+      return second;
+    });
   }));
 
 test("an address whose server has become a replica is looked at again", () =>
