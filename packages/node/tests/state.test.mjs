@@ -201,6 +201,26 @@ test("one process holds a folder", async () => {
   }
 });
 
+test("a start that fails lets go of the folder, and of its files", async () => {
+  const held = async () => {
+    const all = await Promise.all((await readdir("/proc/self/fd")).map((it) => fs.readlink(`/proc/self/fd/${it}`).catch(() => "")));
+    return all.filter((it) => it.startsWith(dirname(state))).length;
+  };
+  FILE.write = async () => {
+    throw failed("ENOSPC");
+  };
+  await assert.rejects(opened(state), { code: "ENOSPC" }); // (it can't write who holds the folder)
+  mended();
+  assert.equal(await held(), 0);
+  const validator = await opened(state), before = await held();
+  for (let again = 0; again < 3; again++) await assert.rejects(opened(state), { name: "Held" });
+  assert.equal(await held(), before);
+  await validator.close();
+  await writeFile(join(state, "place"), "no ID\n");
+  for (let again = 0; again < 2; again++) await assert.rejects(opened(state), { name: "BadFolder" });
+  assert.equal(await held(), 0);
+});
+
 test("without the command flock no folder is opened", async () => {
   const { PATH } = process.env;
   try {
