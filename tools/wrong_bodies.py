@@ -4,8 +4,8 @@ go/wrong/run, packages/page/wrong/run and packages/python/wrong/run say what the
 wrong/PATH.edits of a language's folder lists those of its file PATH. tools/edits.py has the form; here each has a line
 'why:', and a line 'test:' for each test that must catch it.
 
-It is caught where a test fails. It is not caught where all its tests pass (it survived), where they don't end within ten
-minutes, or where the program does not compile with it, which says nothing of the test. All named tests must pass without a
+It is caught where a test fails. It is not caught where all its tests pass (it survived), where they don't end in time (it
+hangs), or where the program does not compile with it, which says nothing of the test. All named tests must pass without a
 wrong body, too; with --share nobody looks at that, since ./test runs these tests beside it. In each run all of them are looked
 at first, whether they can be applied. A wrong body is to be caught within two minutes: those that took longer are named at the end.
 
@@ -121,11 +121,20 @@ class Scripts:
         return json.loads(said) if said else "node does not read it"
 
 
+def testing(file, names, ends):
+    """The words that run the tests of a file of JavaScript whose names match. With `ends` they end whatever a test leaves open, if this node can do that."""
+    force = "--test-force-exit"
+    can = ends and subprocess.run(["node", force, "--version"], capture_output=True, check=False).returncode == 0
+    patterns = [f"--test-name-pattern=^{it}$" for it in names]
+    return ["node", "--test", "--test-reporter=tap", *([force] if can else []), *patterns, f"tests/{file}"]
+
+
 class Language:
     """What a language needs: subclasses say it."""
 
     name = ""  # for people
     folder = ""  # of its package, in the checkout
+    longest = LONGEST
 
     def __init__(self):
         self.package = f"{TOP}/{self.folder}"
@@ -206,12 +215,12 @@ def tried(language, it):
     """Why a wrong body is not caught, or nothing."""
     begun = time.monotonic()
     try:
-        status, said = outcome(language, it.changed, it.tests, LONGEST)
+        status, said = outcome(language, it.changed, it.tests, language.longest)
     except Unfit as why:
         return f"NOT CAUGHT: it can't be tried: {why}"
     it.took = time.monotonic() - begun
     if status is None:
-        return f"NOT CAUGHT: it took too long: its tests don't end within {LONGEST} seconds"
+        return f"NOT CAUGHT: it hangs: its tests don't end within {language.longest} seconds"
     if status == 0:
         return "NOT CAUGHT: it survived: its tests pass"
     if found := language.broken(status, said):
