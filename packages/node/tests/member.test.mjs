@@ -767,6 +767,29 @@ test("withdrawals are read page by page, and until they are no token is judged",
   for (const it of [validator, reader]) it.close();
 });
 
+test("opening waits until withdrawals are read, and while they are read again a validator is ready for as long as a check may take", async (t) => {
+  const text = token(one), reader = await Validator.open({ ...terms, mode: "reuse" }), { key, expires } = reader.says(text), hold = gate(), up = performance.now.bind(performance);
+  let asked = 0, isHeld = false, ahead = 0;
+  t.mock.method(performance, "now", () => up() + ahead);
+  const withdrawals = async (after) => {
+    asked += 1;
+    if (isHeld) await hold.passed;
+    await new Promise(setImmediate);
+    return { these: after === "8" ? [{ key, expires }] : [], last: String(Math.min(Number(after) + 1, 9)) };
+  };
+  const store = Object.assign(new MemoryStore(), { withdrawals }), validator = await within("opening", bound(store));
+  assert.deepEqual([validator.unready(), await said(validator.judge(text))], [null, "Withdrawn"]);
+  [asked, isHeld] = [0, true];
+  await until(() => asked);
+  ahead = 100 * LONG; // a tenth of the time, in milliseconds
+  assert.equal(validator.unready(), null);
+  ahead = 2000 * LONG;
+  assert.equal(validator.unready(), sentences("STORE_AWAY"));
+  hold.open();
+  await until(() => validator.ready);
+  for (const it of [validator, reader]) it.close();
+});
+
 test("withdrawals that fail, or are none, are read again, and tell that the store is away", async () => {
   const store = new MemoryStore(), text = token(one), read = store.withdrawals.bind(store);
   const wrong = [undefined, {}, { these: [], last: 7 }, { these: [{ key: new Uint8Array(31), expires: 1 }], last: "1" }, { these: [{ key: new Uint8Array(32), expires: -1 }], last: "1" }];
