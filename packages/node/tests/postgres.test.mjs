@@ -231,10 +231,10 @@ const PRIMARY = [1n, "1", "now", "00000001"], STANDBY = [0n, "1", "now", ""];
 /**
  * A member of a primary `a` and a standby `b`, or of `a` alone, that are simulated as the two clocks are. `pass` lets time pass by each of them. `asked` has
  * the statements, each with its host, in the order in which they came: what `before` gives for one is awaited before it is answered. A connection that makes
- * calls asks `again` what its server is.
+ * calls asks `again` what its server is. `made` has all connections.
  */
 function simulated(t, ...hosts) {
-  const it = { asked: [], before: () => {} }, epoch = "00000000-0000-0000-0000-000000000001", begun = performance.now();
+  const it = { asked: [], made: [], before: () => {} }, epoch = "00000000-0000-0000-0000-000000000001", begun = performance.now();
   let up = begun, wall = Date.now();
   t.mock.method(performance, "now", () => up);
   t.mock.method(Date, "now", () => wall);
@@ -246,7 +246,7 @@ function simulated(t, ...hosts) {
   const answers = {
     role: (host) => (host === "a" ? PRIMARY : STANDBY), again: () => PRIMARY, session: () => ["on", "1 now"], state: () => [epoch, 0n, 1000n, 0n, 3660n, 120n, 0n, null], put: () => [head],
   };
-  t.mock.method(pg.Client.prototype, "connect", async () => {});
+  t.mock.method(pg.Client.prototype, "connect", async function () { it.made.push(this); });
   t.mock.method(pg.Client.prototype, "query", async function ({ text }) {
     const name = text.includes("set_config") ? "session" : text.includes(".state(") ? "state" : text.includes(".put(") ? "put" : this.isOfCalls ? "again" : "role";
     this.isOfCalls ||= name === "session";
@@ -307,6 +307,15 @@ test("after a suspension no answer counts until each server was looked at again,
       t.mock.restoreAll();
     }
   }
+});
+
+test("a connection on which a look fails ends, and the next look makes another one", async (t) => {
+  const it = simulated(t, "a", "b"), made = () => it.made.filter(({ host }) => host === "b");
+  assert((await it.put()).owner);
+  it.before = (_, host) => host === "b" && Promise.reject(new Error("it says nothing"));
+  await until(() => made().length > 2);
+  assert(made().slice(0, -1).every((one) => one.connection.stream.destroyed));
+  assert((await it.put()).owner); // (it is no primary)
 });
 
 test("a server whose answer came over a suspension is asked whether it is still there", async (t) => {
