@@ -275,6 +275,14 @@ test("validators that hear of a use refuse the token", async () => {
   for (const it of [validator, other, late]) it.close();
 });
 
+test("blanks around a bearer token are no part of it", async () => {
+  const text = token(one), judges = await Promise.all([Validator.open(terms), Bundles.open(terms)]);
+  for (const it of judges) {
+    for (const value of [`Bearer ${text}`, `bearer   ${text} `, ` \tBearer ${text} \t `]) assert.equal(Buffer.from(it.bearer([value]).token).toString(), text);
+    it.close();
+  }
+});
+
 test("of a token that another one accepted too, a validator says so once", async () => {
   const keys = [], onTwice = (key) => {
     keys.push(hex(key));
