@@ -745,6 +745,42 @@ func TestAnAnswerFromBeforeASuspension(t *testing.T) {
 	}
 }
 
+// A look at the streams is as old as its beginning, by either clock: while the computer was suspended, another server may have taken the address.
+func TestALookAtTheStreamsFromBeforeASuspension(t *testing.T) {
+	t.Parallel()
+	a := open(t, newMachine(t), claimstest.Options{Name: "looks", Terms: claimstest.Usual})
+	a.every = time.Hour
+	first := a.looked.Load()
+	for _, row := range []struct {
+		up, wall time.Duration
+		looks    bool
+	}{
+		{time.Minute, time.Minute, false},
+		{time.Minute, -time.Hour, false}, // somebody set the clock back
+		{time.Hour, -time.Hour, true},
+		{time.Minute, time.Hour, true}, // the computer was suspended
+	} {
+		a.looked.Store(first)
+		a.now = func() clocks.Moment { return clocks.Moment{Up: first.Up + row.up, Wall: first.Wall + row.wall} }
+		claimstest.State(t, a)
+		if looks := a.looked.Load() != first; looks != row.looks {
+			t.Errorf("after %v and %v: another look: %v", row.up, row.wall, looks)
+		}
+	}
+	asked := 0
+	a.looked.Store(first)
+	a.now = func() clocks.Moment { // (it is suspended after the look has begun)
+		if asked++; asked > 2 {
+			return clocks.Moment{Up: first.Up, Wall: first.Wall + 2*time.Hour}
+		}
+		return clocks.Moment{Up: first.Up, Wall: first.Wall + time.Hour}
+	}
+	claimstest.State(t, a)
+	if begun := a.looked.Load(); begun.Wall != first.Wall+time.Hour {
+		t.Errorf("the look began %v late", begun.Wall-first.Wall-time.Hour)
+	}
+}
+
 // Each thing that a server may say of the streams, and that tells of a loss, is seen: of claims and of withdrawals.
 func TestWhatTellsOfALoss(t *testing.T) {
 	t.Parallel()

@@ -91,10 +91,10 @@ type Store struct {
 
 	settleMu sync.Mutex // of this
 	settling *settling
-	every    time.Duration // between two looks at the streams
-	forRun   atomic.Int64  // nanoseconds for which this member waits at a new run of the server for others that miss claims
-	forNew   atomic.Int64  // and in a new store, for others that know another one (tests end these waits)
-	looked   atomic.Int64  // when all was found to be as it must be, by this machine's clock, in nanoseconds since 1970
+	every    time.Duration                 // between two looks at the streams
+	forRun   atomic.Int64                  // nanoseconds for which this member waits at a new run of the server for others that miss claims
+	forNew   atomic.Int64                  // and in a new store, for others that know another one (tests end these waits)
+	looked   atomic.Pointer[clocks.Moment] // when the last look began that found all to be as it must be; nil before it
 
 	unsteady atomic.Uint64 // how often the server was away, or did not answer
 	doubts   atomic.Uint64 // how often it was unknown whether the server still has all

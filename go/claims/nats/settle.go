@@ -31,7 +31,7 @@ func (s *Store) settle() *settling {
 		s.settling = now
 		go func() {
 			for {
-				doubts := s.doubts.Load()
+				doubts, begun := s.doubts.Load(), s.now()
 				if now.err = s.check(s.life); now.err != nil {
 					s.doubts.Add(1)
 					if cause := brief.Cause(now.err); s.said != cause && s.life.Err() == nil {
@@ -41,7 +41,7 @@ func (s *Store) settle() *settling {
 					break
 				}
 				s.said = ""
-				s.looked.Store(time.Now().UnixNano())
+				s.looked.Store(&begun)
 				s.settled.Store(doubts)
 				if s.doubts.Load() == doubts {
 					break

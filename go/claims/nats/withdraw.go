@@ -7,7 +7,6 @@ import (
 	"fmt"
 	"strconv"
 	"strings"
-	"time"
 
 	client "github.com/nats-io/nats.go"
 
@@ -147,7 +146,7 @@ func (s *Store) State(ctx context.Context) (claims.State, error) {
 	if s.connection() == nil {
 		return claims.State{}, errors.New("claims: the store is not open")
 	}
-	if since := time.Now().UnixNano() - s.looked.Load(); since >= int64(s.every) || since < 0 {
+	if looked := s.looked.Load(); looked == nil || s.now().Since(*looked) >= s.every {
 		s.settleMu.Lock()
 		under := s.settling
 		s.settleMu.Unlock()
