@@ -125,6 +125,10 @@ func TestThePayloadHasTheMark(t *testing.T) {
 	if got := readFile(t, dir, snapshotName); !bytes.Equal(got, snapshot) {
 		t.Errorf("the snapshot is %x, want %x", got, snapshot)
 	}
+	// A crash leaves the next journal without a mark: that of the snapshot counts.
+	if found, err := Check(dir); err != nil || !found.InLog || found.Log != now {
+		t.Errorf("behind a snapshot Check finds %+v (%v), want %+v", found, err, now)
+	}
 	// The next journal begins with the mark again, since the one that had it is gone.
 	if err := j.AppendUses(ctx, useOf(1)); err != nil {
 		t.Fatal(err)

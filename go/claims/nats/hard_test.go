@@ -781,6 +781,25 @@ func TestALookAtTheStreamsFromBeforeASuspension(t *testing.T) {
 	}
 }
 
+// A question that can't be sent has no answer, and nothing is kept of it: while a server is away, there is one after the other.
+func TestAQuestionThatCantBeSentLeavesNothing(t *testing.T) {
+	t.Parallel()
+	a := open(t, newMachine(t), claimstest.Options{Name: "unsent", Terms: claimstest.Usual})
+	if err := a.Close(); err != nil {
+		t.Fatal(err)
+	}
+	for n := 0; n < 3; n++ {
+		if _, err := a.send(a.ticking(), slot{}); err == nil {
+			t.Fatal("a connection that is closed takes a question")
+		}
+	}
+	a.mu.Lock()
+	defer a.mu.Unlock()
+	if len(a.waiting) > 0 {
+		t.Errorf("%d questions wait for an answer", len(a.waiting))
+	}
+}
+
 // Each thing that a server may say of the streams, and that tells of a loss, is seen: of claims and of withdrawals.
 func TestWhatTellsOfALoss(t *testing.T) {
 	t.Parallel()
