@@ -781,6 +781,22 @@ func TestALookAtTheStreamsFromBeforeASuspension(t *testing.T) {
 	}
 }
 
+// A member whose tokens live for longer joins, and withdraws one. Another member that has not looked since hears of that: it would not read it again.
+func TestAWithdrawalOfLongerTerms(t *testing.T) {
+	t.Parallel()
+	m := newMachine(t)
+	o := claimstest.Options{Name: "longer", Terms: claimstest.Usual}
+	a := open(t, m, o)
+	o.Terms.Lasts *= 3
+	b := open(t, m, o)
+	w := claims.Withdrawal{Key: claimstest.Key(), Expires: claimstest.Now() + 2*claimstest.Usual.Lasts}
+	claimstest.Withdraw(t, b, w)
+	these, _, err := a.Withdrawals(patient(t), "")
+	if err != nil || len(these) != 1 || these[0] != w {
+		t.Errorf("%v %v", these, err)
+	}
+}
+
 // A question that can't be sent has no answer, and nothing is kept of it: while a server is away, there is one after the other.
 func TestAQuestionThatCantBeSentLeavesNothing(t *testing.T) {
 	t.Parallel()
