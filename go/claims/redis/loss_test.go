@@ -887,6 +887,31 @@ func TestALookThatALateAnswerOvertook(t *testing.T) {
 	}
 }
 
+// A member's number that is gone tells of a loss, until its key may have expired: members see time a bit late, and not all at once.
+func TestANumberThatExpires(t *testing.T) {
+	t.Parallel()
+	s := newOwn(t, Options{URLs: []string{"redis://127.0.0.1:1"}})
+	it := &shard{life: 5, lifeAt: 1000}
+	for _, row := range []struct {
+		after uint64
+		life  string
+		lacks bool
+	}{
+		{0, "5", false},
+		{0, "6", false},
+		{0, "4", true},
+		{0, "", true},
+		{lifeLasts / 2, "", true},
+		{lifeLasts - lifeSlack, "", false},
+		{lifeLasts - 1, "", false},
+		{lifeLasts, "", false},
+	} {
+		if lacks := s.lacks(it, view{time: it.lifeAt + row.after, life: row.life}); lacks != row.lacks {
+			t.Errorf("%q after %d s: lacks %v", row.life, row.after, lacks)
+		}
+	}
+}
+
 // A context that ends after its answer ends no later call on that connection.
 func TestAContextThatEndsLater(t *testing.T) {
 	t.Parallel()

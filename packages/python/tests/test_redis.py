@@ -58,6 +58,7 @@ OTHERS = {
     "TestACallThatIsCut",
     "TestFewEntriesAreKnown",
     "TestALateAnswerAfterASuspension",
+    "TestANumberThatExpires",
     "TestAKeyOfAnUnknownAlgorithm",
     "TestOptions",
     "TestRecords",
