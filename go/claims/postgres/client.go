@@ -64,8 +64,12 @@ func connector(text string) (c *pq.Connector, err error) {
 	return pq.NewConnector(u.String())
 }
 
-// A dialer connects, and has the connection that it made last.
-type dialer struct{ last net.Conn }
+// A dialer connects, and has the connection that it made last. What the library says and hears there at first ends with ctx, which the library does not see to.
+type dialer struct {
+	ctx  context.Context
+	last net.Conn
+	ends []func() // to be called once the library has connected, or failed
+}
 
 func (d *dialer) Dial(network, address string) (net.Conn, error) {
 	return d.DialContext(context.Background(), network, address)
@@ -81,6 +85,7 @@ func (d *dialer) DialContext(ctx context.Context, network, address string) (net.
 	if err == nil {
 		d.last = c
 		err = c.SetDeadline(time.Now().Add(dialWait)) // so that a server that hangs holds up nothing
+		d.ends = append(d.ends, ending(d.ctx, c))
 	}
 	return c, err
 }
@@ -108,12 +113,18 @@ func dial(ctx context.Context, url string) (*conn, error) {
 	}
 	ctx, cancel := context.WithTimeout(ctx, 2*dialWait)
 	defer cancel()
-	var d dialer
+	d := dialer{ctx: ctx}
 	c.Dialer(&d)
 	db, err := c.Connect(ctx)
+	for _, end := range d.ends {
+		end()
+	}
 	if err != nil {
 		if d.last != nil {
 			d.last.Close()
+		}
+		if ctx.Err() == context.Canceled {
+			return nil, ctx.Err()
 		}
 		return nil, shortened(err)
 	}
@@ -149,16 +160,21 @@ func (c *conn) within(ctx context.Context) (end func(), err error) {
 	if ctx.Done() == nil {
 		return func() {}, nil
 	}
+	return ending(ctx, c.raw), nil
+}
+
+// ending lets what a connection waits for end with ctx, until the function is called that it returns.
+func ending(ctx context.Context, c net.Conn) (end func()) {
 	ended, watched := make(chan struct{}), make(chan struct{})
 	go func() {
 		defer close(watched)
 		select {
 		case <-ctx.Done():
-			c.raw.SetDeadline(past)
+			c.SetDeadline(past)
 		case <-ended:
 		}
 	}()
-	return func() { close(ended); <-watched }, nil
+	return func() { close(ended); <-watched }
 }
 
 // query returns the rows that a query answers. It ends soon after ctx. After an error that is no answer of the server the connection is

@@ -3,6 +3,8 @@ package postgres
 import (
 	"context"
 	"errors"
+	"io"
+	"net"
 	"runtime"
 	"strings"
 	"testing"
@@ -145,6 +147,66 @@ func TestEachServerIsLookedAtOnce(t *testing.T) {
 	}
 	if n := runtime.NumGoroutine() - before; n >= 100 {
 		t.Errorf("%d goroutines more", n)
+	}
+}
+
+// A look at a server that hangs ends with its store, and not only after its own time: who closes a store waits for it.
+func TestALookEndsWithItsStore(t *testing.T) {
+	t.Parallel()
+	for try := 1; ; try++ { // (on a busy machine the look may be over before its store is)
+		hangs, err := net.Listen("tcp", "127.0.0.1:0")
+		if err != nil {
+			t.Fatal(err)
+		}
+		defer hangs.Close()
+		url := "postgres://a@" + hangs.Addr().String() + "/a?sslmode=disable"
+		s := newServers([]string{url, url}, make(chan struct{}))
+		s.begin()
+		for range s.all {
+			c, err := hangs.Accept()
+			if err != nil {
+				t.Fatal(err)
+			}
+			defer c.Close()
+		}
+		close(s.done)
+		s.wait()
+		if errors.Is(s.all[0].fault, context.Canceled) || errors.Is(s.all[1].fault, context.Canceled) {
+			return
+		}
+		if try == 10 {
+			t.Fatalf("looks end with %v and %v", s.all[0].fault, s.all[1].fault)
+		}
+	}
+}
+
+// A call ends soon after its context, also where a server takes the connection and says nothing.
+func TestAConnectionThatBeginsEndsWithItsContext(t *testing.T) {
+	t.Parallel()
+	hangs, err := net.Listen("tcp", "127.0.0.1:0")
+	if err != nil {
+		t.Fatal(err)
+	}
+	defer hangs.Close()
+	const times = 20 // (so that what a busy machine adds is less than what the connections would wait)
+	from := time.Now()
+	for i := 0; i < times; i++ {
+		ctx, cancel := context.WithCancel(context.Background())
+		go func() {
+			if c, err := hangs.Accept(); err == nil {
+				defer c.Close()
+				_, _ = c.Read(make([]byte, 8)) // (it has sent its first message)
+				cancel()
+				_, _ = io.Copy(io.Discard, c)
+			}
+		}()
+		if _, err := dial(ctx, "postgres://a@"+hangs.Addr().String()+"/a?sslmode=disable"); err == nil {
+			t.Fatal("it is connected")
+		}
+		cancel()
+	}
+	if took := time.Since(from); took > times*dialWait/2 {
+		t.Errorf("%d connections took %v", times, took)
 	}
 }
 

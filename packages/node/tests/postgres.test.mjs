@@ -98,7 +98,8 @@ test("go/claims/postgres: primaries", () => ofGo.passes("primaries"));
 
 test("each test of a store in Go is run", async () => {
   const others = ["TestAServerOfAnotherLanguage", "TestStandbys", "TestOptions", "TestOptionsOfTheEnvironment", "TestTheEpochsRowStays",
-    "TestAFewMarksAreKept", "TestAnOldLookDoesNotCount", "TestALookIsAsOldAsItsBeginning", "TestALateAnswerAfterASuspension", "TestLooksHavePauses", "TestTheLaterTimelineCounts",
+    "TestAFewMarksAreKept", "TestAnOldLookDoesNotCount", "TestALookIsAsOldAsItsBeginning", "TestALookEndsWithItsStore", "TestAConnectionThatBeginsEndsWithItsContext",
+    "TestALateAnswerAfterASuspension", "TestLooksHavePauses", "TestTheLaterTimelineCounts",
     "TestTwoPrimariesAreNamed", "TestServersThatNobodyLooksAt", "TestEachServerIsLookedAtOnce", "TestAServerThatDoesNotSayWhatItIsLeavesNothing",
     "TestAContextThatEndsWithItsAnswer", "TestASessionThatCantBeginLeavesNothing", "TestEachCallThatIsUnderWayMayBeTheLast", "TestEachClaimThatWasThereIsKept"];
   await ofGo.hasNoMore(others);

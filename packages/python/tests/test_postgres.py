@@ -161,6 +161,8 @@ def test_every_test_of_a_store_is_run(binary):
         "TestAFewMarksAreKept",
         "TestAnOldLookDoesNotCount",
         "TestALookIsAsOldAsItsBeginning",
+        "TestALookEndsWithItsStore",
+        "TestAConnectionThatBeginsEndsWithItsContext",
         "TestALateAnswerAfterASuspension",
         "TestLooksHavePauses",
         "TestTheLaterTimelineCounts",

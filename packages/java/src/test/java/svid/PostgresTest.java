@@ -218,7 +218,8 @@ public class PostgresTest {
                 "TestTheLaterTimelineCounts", "TestTwoPrimariesAreNamed", "TestServersThatNobodyLooksAt", "TestEachServerIsLookedAtOnce",
                 "TestAServerThatDoesNotSayWhatItIsLeavesNothing", "TestAContextThatEndsWithItsAnswer",
                 "TestASessionThatCantBeginLeavesNothing", "TestEachCallThatIsUnderWayMayBeTheLast", "TestEachClaimThatWasThereIsKept",
-                "TestALookIsAsOldAsItsBeginning", "TestALateAnswerAfterASuspension"));
+                "TestALookIsAsOldAsItsBeginning", "TestALateAnswerAfterASuspension", "TestALookEndsWithItsStore",
+                "TestAConnectionThatBeginsEndsWithItsContext"));
         assertEquals(new TreeSet<>(listed), run);
     }
 
