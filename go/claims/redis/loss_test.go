@@ -887,6 +887,35 @@ func TestALookThatALateAnswerOvertook(t *testing.T) {
 	}
 }
 
+// The entry of another member refuses a claim, and goes before it is read: whose the token is stays unknown, and nobody has withdrawn it.
+func TestAnEntryThatGoesMeanwhile(t *testing.T) {
+	t.Parallel()
+	s := start(t)
+	proxy := logtest.NewProxy(t, s.Redis.Address)
+	a, b := openedOwn(t, Options{URLs: []string{"redis://" + proxy.Address}}), openedOwn(t, Options{URLs: []string{s.URL}})
+	put(t, a, 1)
+	for end := time.Now().Add(patience.Long); ; {
+		c := claim(1)
+		other := c
+		other.Owner = claimstest.Own(2)
+		claimstest.Put(t, b, other)
+		release := proxy.Hold(t, c.Key[:])
+		found := make(chan claims.Found, 1)
+		go func() { found <- claimstest.Try(a, patience.Long, c)[0] }()
+		logtest.Await(t, "the claim to be sent", proxy.HasLost)
+		s.do(t, "DEL", keyOf(c))
+		release()
+		f := <-found
+		if f.Err == nil && f.Owner == c.Owner && time.Now().Before(end) {
+			continue // The entry was gone before the claim came.
+		}
+		if !errors.Is(f.Err, errNoEntry) {
+			t.Errorf("%+v", f)
+		}
+		return
+	}
+}
+
 // A member's number that is gone tells of a loss, until its key may have expired: members see time a bit late, and not all at once.
 func TestANumberThatExpires(t *testing.T) {
 	t.Parallel()

@@ -59,6 +59,7 @@ OTHERS = {
     "TestFewEntriesAreKnown",
     "TestALateAnswerAfterASuspension",
     "TestANumberThatExpires",
+    "TestAnEntryThatGoesMeanwhile",
     "TestAKeyOfAnUnknownAlgorithm",
     "TestOptions",
     "TestRecords",
