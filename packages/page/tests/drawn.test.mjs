@@ -235,13 +235,13 @@ test("of doubled members the last one counts", async () => {
 
 test("an entry of a bundle is shown by its short texts, as it names them", async () => {
   const key = await makeKey("ES256"), other = { use: "jwt-svid", kid: "k2", long: "x".repeat(17), short: "x".repeat(15), count: 5, ...Object.fromEntries([..."abcdefg"].map((it) => [it, it])) };
-  await page.write({ token: "", bundles: JSON.stringify({ "example.org": { keys: [key.entry, other, 7, {}] } }) });
+  await page.write({ token: "", bundles: JSON.stringify({ "example.org": { keys: [key.entry, other, 7, {}, { kid: "" }] } }) });
   assert.deepEqual(await page.run(() => [...document.querySelectorAll("#keys tr")].map((it) => [it.dataset.state, it.querySelector("th").textContent])), [
-    ["over", JSON.stringify(key.kid)], ["over", '"k2"'], ["over", "no kid"], ["over", "no kid"],
+    ["over", JSON.stringify(key.kid)], ["over", '"k2"'], ["over", "no kid"], ["over", "no kid"], ["over", '""'],
   ]);
   assert.deepEqual(await page.run(() => [...document.querySelectorAll("#keys tr")].map((it) => it.querySelector("td").textContent)), [
     Object.entries(key.entry).filter(([name, value]) => name !== "kid" && value.length < 20).map((it) => it.join(" ")).join(", "),
-    `use jwt-svid, short ${"x".repeat(15)}, a a, b b, c c, d d`, "–", "–",
+    `use jwt-svid, short ${"x".repeat(15)}, a a, b b, c c, d d`, "–", "–", "–",
   ]);
 });
 
