@@ -80,6 +80,13 @@ test("a key is shown by its answer, and each line of the audiences is one", asyn
   await page.write({ token: "", own: "ledger" });
 });
 
+test("blanks around what is in a field are no part of it", async () => {
+  const key = await makeKey("ES256"), token = await sign(key, { alg: "ES256", kid: key.kid }, { sub: "spiffe://example.org/a", aud: "ledger", exp: NOW + 300 });
+  await page.write({ token: ` ${token} `, bundles: ` ${JSON.stringify({ keys: [key.entry] })} `, domain: " example.org ", own: " ledger ", time: ` ${NOW} `, longest: " 600 " });
+  assert.deepEqual([await page.text("verdict-said"), await page.text("keys-of")], ["Accepted", "of example.org"]);
+  await page.write({ token: "", bundles: "", domain: "", own: "ledger", time: String(NOW), longest: "" });
+});
+
 test("a withdrawal is no use", async () => {
   await drop(use(1, 1, -10, 100), use(2, 1, -10, 200, 1));
   const rows = await drawn();
