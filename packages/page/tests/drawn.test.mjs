@@ -87,6 +87,19 @@ test("blanks around what is in a field are no part of it", async () => {
   await page.write({ token: "", bundles: "", domain: "", own: "ledger", time: String(NOW), longest: "" });
 });
 
+test("where nothing can be judged, a token is neither used nor withdrawn", async () => {
+  const key = await makeKey("ES256"), token = await sign(key, { alg: "ES256", kid: key.kid }, { sub: "spiffe://example.org/a", aud: "ledger", exp: NOW + 300 });
+  const good = { token, bundles: JSON.stringify({ "example.org": { keys: [key.entry] } }), own: "ledger", time: String(NOW), longest: "" };
+  const barred = () => page.run(() => ["use", "withdraw"].map((it) => document.getElementById(it).getAttribute("aria-disabled")).join());
+  for (const bad of [{ time: "soon" }, { longest: "an hour" }]) {
+    await page.write(good);
+    assert.equal(await barred(), "false,false");
+    await page.write(bad);
+    assert.equal(await barred(), "true,true");
+  }
+  await page.write({ ...good, token: "", bundles: "" });
+});
+
 test("a withdrawal is no use", async () => {
   await drop(use(1, 1, -10, 100), use(2, 1, -10, 200, 1));
   const rows = await drawn();
