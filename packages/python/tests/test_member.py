@@ -999,6 +999,30 @@ def test_a_store_that_tells_no_withdrawals_any_more(mode, is_silent, monkeypatch
         assert checks.ready
 
 
+@pytest.mark.parametrize("tells", [False, True])
+def test_a_store_that_fails_is_away_since_it_failed_first(tells, monkeypatch):
+    """Each of its answers may come at once."""
+    monkeypatch.setattr(_claims, "_HEARS", 0.001)
+    store, failed, now = Pages() if tells else Fickle(), [], [time.monotonic()]
+
+    def fails():
+        failed.append(now[0])
+        away()
+
+    with validator(mode="reuse" if tells else "strict", store=store) as checks:
+        until(lambda: checks.ready)
+        looks = claims_of(checks).look
+        moves = types.SimpleNamespace(monotonic=lambda: now[0])
+        monkeypatch.setattr(_claims, "time", moves)
+        store.before = fails
+        call = None if tells else Soon(checks.check, fresh())
+        for _ in range(3):
+            now[0] += 9
+            until(lambda: not looks(1e9) and failed.count(now[0]) > tells)
+        assert looks(17)
+    assert tells or call.answer == "Closed"
+
+
 def test_claims_wait_for_a_store_without_a_turn(monkeypatch):
     """A store that is away costs no processor, neither of the service nor of its own."""
     store, asked, turns, taken = Fickle(), [], [], _claims.Claims._taken
