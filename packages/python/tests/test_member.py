@@ -17,7 +17,17 @@ import weakref
 import pytest
 import svid
 import svid.testing
-from making import PATIENCE, SUBJECT, bundle, entry, fresh, private_key, until, validator
+from making import (
+    PATIENCE,
+    SUBJECT,
+    bundle,
+    entry,
+    fresh,
+    no_logger,
+    private_key,
+    until,
+    validator,
+)
 from svid import _claims, _journal, _looks, _member
 from test_threads import forked
 
@@ -1118,6 +1128,20 @@ def test_no_token_is_judged_before_withdrawals_are_read(monkeypatch, caplog):
         assert in_time(checks.check, token) == SUBJECT
     said = [it.getMessage() for it in caplog.records]
     assert said.count("the group's store tells no withdrawals: the store is away") == 1
+
+
+def test_withdrawals_are_read_though_nobody_can_be_warned(monkeypatch):
+    """The store was away, and the logger has failed."""
+    monkeypatch.setattr(_claims, "_HEARS", 0.01)
+    store, token = Pages(), fresh()
+    with no_logger(), validator(mode="reuse", store=store) as checks:
+        until(lambda: checks.ready)
+        store.before, asked = away, store.asked
+        until(lambda: store.asked > asked + 2)
+        store.before = lambda: None
+        with validator(mode="reuse", store=store) as other:
+            other.withdraw(token)
+        until(lambda: answer(checks.judge, token) == "Withdrawn")
 
 
 def test_a_withdrawal_that_has_expired_is_passed_over(monkeypatch):

@@ -21,10 +21,20 @@ import of_go
 import pytest
 import redis
 import svid
-from making import PATIENCE, Authority, Clocks, fresh, joined, status_of, until, validator
+from making import (
+    PATIENCE,
+    Authority,
+    Clocks,
+    fresh,
+    joined,
+    no_logger,
+    status_of,
+    until,
+    validator,
+)
 from svid import _scripts
 from svid import redis as store_of_redis
-from svid._group import End, GroupStore
+from svid._group import End, GroupStore, warn_of_end
 from svid.postgres import PostgresStore
 from svid.redis import RedisStore, State, StoreFault
 
@@ -750,6 +760,19 @@ class Told(GroupStore):
         """Waits until what a look has seen is known."""
         before = len(self.looks)
         until(lambda: len(self.looks) > before + 1)
+
+
+def test_a_store_is_looked_at_though_nobody_can_be_warned(monkeypatch):
+    """It was away, or its epoch has ended, and the logger has failed."""
+    monkeypatch.setattr("svid._group._statements.STATE_EVERY", 1)
+    with no_logger(), Told() as store:
+        store._watch()
+        store.look_again()
+        store.is_away = True
+        store.look_again()
+        store.is_away = False
+        store.look_again()
+        warn_of_end(1000)
 
 
 def test_a_store_is_looked_at_once_a_second(monkeypatch):
