@@ -233,7 +233,7 @@ class _Keeper:
             self._pause = time.monotonic() + _PAUSE
             with self._gate:
                 self._snapshots -= 1
-            _LOG.warning("the snapshot stays as it is: %s", why)
+            _warn_of_snapshot(why)
 
     def drop(self) -> None:
         """Lets the thread that writes end. Waits for nothing, since a collector may call it."""
@@ -363,7 +363,7 @@ class _Keeper:
         try:
             self.snapshot(parts)
         except (OSError, Error, MemoryError) as why:
-            _LOG.warning("the snapshot stays as it is: %s", why)
+            _warn_of_snapshot(why)
         finally:
             with self._gate:
                 self._snapshots -= 1
@@ -498,7 +498,13 @@ def _joined(payloads: list[bytes]) -> Iterable[bytes]:
 
 def _warn(why: Exception | None) -> None:
     if why is not None:
-        _LOG.warning("uses are not kept: %s", why)
+        with contextlib.suppress(Exception):  # (who is warned must not end a call)
+            _LOG.warning("uses are not kept: %s", why)
+
+
+def _warn_of_snapshot(why: BaseException) -> None:
+    with contextlib.suppress(Exception):  # (who is warned must not end a call)
+        _LOG.warning("the snapshot stays as it is: %s", why)
 
 
 def _close(file: int) -> None:

@@ -457,8 +457,11 @@ class Validator:
     def _start(self) -> None:
         """Takes the record that the state folder has."""
         if self._journal is not None:
-            for name in self._journal.torn:
-                _LOG.warning("a crash cut off a write at the end of %s: nobody had an answer", name)
+            with contextlib.suppress(Exception):  # (who is warned must not end a start)
+                for it in self._journal.torn:
+                    _LOG.warning(
+                        "a crash cut off a write at the end of %s: nobody had an answer", it
+                    )
             self._journal.load(self._join)
             if self._journal.wants_snapshot:
                 self._journal.snapshot(self.parts)

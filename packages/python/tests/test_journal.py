@@ -557,6 +557,22 @@ def test_a_snapshot_for_which_there_is_no_thread(tmp_path, monkeypatch, caplog):
     assert found(tmp_path) == {1}
 
 
+def test_a_warning_that_fails_ends_no_call(tmp_path, monkeypatch):
+    """The logger's server may be away. Whoever calls has done all that it should."""
+
+    def start(_):
+        raise RuntimeError("can't start new thread")
+
+    with no_logger(), contextlib.closing(svid.Journal(tmp_path)) as journal:
+        append(journal, 1)
+        with monkeypatch.context() as patch:
+            patch.setattr(threading.Thread, "start", start)
+            journal.snapshot_soon(lambda: [use(1).message])
+        journal.close()
+        journal.append_soon(use(2).message)
+    assert found(tmp_path) == {1}
+
+
 def test_a_folder_for_which_there_is_no_thread(tmp_path, monkeypatch):
     """Nobody holds it, and it takes no descriptor."""
 
@@ -685,6 +701,11 @@ def test_a_write_that_was_torn_is_told(tmp_path, caplog):
         told = [(it.levelname, it.getMessage()) for it in caplog.records]
         said = f"a crash cut off a write at the end of {file}: nobody had an answer"
         assert told == [("WARNING", said)] * cut
+    folder = crashed(tmp_path / "state", tmp_path / "untold")
+    (file,) = folder.glob("journal.*")
+    file.write_bytes(file.read_bytes()[: 2 * FRAME - 1])
+    with no_logger(), validator(state=folder) as checks:
+        assert len(checks.report().uses) == 1
 
 
 def test_each_changed_bit_is_found_and_named(tmp_path):
