@@ -273,6 +273,22 @@ public class FollowTest {
         goes.countDown();
     }
 
+    @Test
+    public void aValidatorThatIsForgottenFollowsNothing() throws Exception {
+        Path file = path("a.json");
+        write(file, issuer.bundle());
+        forgotten(Sources.file("example.org", file));
+        until(() -> {
+            System.gc();
+            return Said.threads() == 0;
+        });
+    }
+
+    private void forgotten(Sources sources) {
+        assertEquals(Making.SUBJECT, checked(Validator.open(Vectors.ledger(), sources), fresh()));
+        assertTrue(Said.threads() > 0);
+    }
+
     /** Once a validator is closed nothing is handed on to it any more. */
     @Test
     public void aCloseWaitsForWhatIsHandedOn() throws Exception {

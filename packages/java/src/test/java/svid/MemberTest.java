@@ -1017,19 +1017,26 @@ public class MemberTest {
 
     @Test
     public void aValidatorThatIsForgottenEndsItsThreads() throws Exception {
-        WeakReference<Validator> gone = new WeakReference<>(used());
-        until(() -> {
-            System.gc();
-            return gone.get() == null && claiming().isEmpty();
-        });
+        for (Mode mode : List.of(Mode.STRICT, Mode.REUSE)) { // (only the second one reads withdrawals)
+            WeakReference<Validator> gone = new WeakReference<>(used(mode));
+            until(() -> {
+                System.gc();
+                return gone.get() == null && claiming().isEmpty() && reading() == 0;
+            });
+        }
     }
 
-    private static Validator used() throws Exception {
+    private static long reading() {
+        return Thread.getAllStackTraces().keySet().stream().filter(it -> it.getName().equals(WithdrawalReader.THREAD)).count();
+    }
+
+    private static Validator used(Mode mode) throws Exception {
         List<Validator> held = new ArrayList<>(); // by a hook of its own
-        Validator validator = open(strict(new MemoryStore()).wait(patience()).denied(why -> held.clear()));
+        Validator validator = open(strict(new MemoryStore()).mode(mode).wait(patience()).denied(why -> held.clear()));
         held.add(validator);
         assertEquals(SUBJECT, soon(() -> validator.check(token())));
         assertFalse(claiming().isEmpty());
+        assertEquals(mode == Mode.REUSE, reading() > 0);
         assertTrue(claiming().stream().allMatch(Thread::isDaemon));
         return validator;
     }
