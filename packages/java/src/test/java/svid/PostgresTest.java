@@ -685,22 +685,18 @@ public class PostgresTest {
         }
     }
 
-    /**
-     * A server that hangs is looked at for two seconds, and then counts as one that answers nobody: no claim counts while a look is older
-     * than three.
-     */
+    /** However long calls may take, a look at a server that hangs ends soon, and the next one begins: other members wait for it. */
     @Test
-    public void aLookAtAServerHasAnEnd() throws Exception {
-        List<Integer> waits = new CopyOnWriteArrayList<>();
+    public void looksHaveAnEnd() throws Exception {
+        Map<String, Integer> waits = new ConcurrentHashMap<>(); // the longest one of each thread
         Driver its = DriverManager.getDriver(url);
         Driver driver = new org.postgresql.Driver() {
             @Override
             public Connection connect(String address, Properties with) throws SQLException {
                 Connection one = super.connect(address, with);
-                boolean isLook = Thread.currentThread().getName().equals("svid-server");
                 InvocationHandler told = (proxy, method, words) -> {
-                    if (isLook && method.getName().equals("setNetworkTimeout")) {
-                        waits.add((int) words[1]);
+                    if (method.getName().equals("setNetworkTimeout")) {
+                        waits.merge(Thread.currentThread().getName(), (int) words[1], Math::max);
                     }
                     try {
                         return method.invoke(one, words);
@@ -713,9 +709,21 @@ public class PostgresTest {
         };
         DriverManager.deregisterDriver(its);
         DriverManager.registerDriver(driver);
-        try (PostgresMember member = running(Moment::now, url, url + "&ApplicationName=x")) {
-            Making.until(() -> waits.size() > 4);
-            assertEquals(List.of(), waits.stream().filter(it -> it > 2000).toList());
+        try (PostgresStore store = PostgresStore.at(url, url + "&ApplicationName=x").group(group()).wait(Duration.ofHours(1)).open()) {
+            put(store, 1);
+            String own = Thread.currentThread().getName();
+            assertTrue(waits.toString(), waits.remove(own) > 1_000_000);
+            Making.until(() -> {
+                try {
+                    return store.state() != null;
+                } catch (PostgresStore.Fault why) {
+                    return false;
+                }
+            });
+            Making.until(() -> waits.size() > 2);
+            assertTrue(waits.toString(), waits.get("svid-server") <= 2000);
+            assertTrue(waits.toString(), waits.get("svid-store") <= 1500);
+            assertTrue(waits.toString(), waits.get(own) <= 1500);
         } finally {
             DriverManager.deregisterDriver(driver);
             DriverManager.registerDriver(its);
