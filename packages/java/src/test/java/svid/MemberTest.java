@@ -41,6 +41,7 @@ import java.util.concurrent.atomic.AtomicReference;
 import java.util.concurrent.locks.LockSupport;
 import java.util.stream.Stream;
 import org.junit.Test;
+import svid.testing.TestClock;
 
 /** Requests, and their answers: the modes, the store of a group, deadlines and readiness. */
 @SuppressWarnings("try") // (a Holding is only closed)
@@ -995,6 +996,21 @@ public class MemberTest {
 
     private static List<Thread> claiming() {
         return Thread.getAllStackTraces().keySet().stream().filter(it -> it.getName().equals(Claims.THREADS)).toList();
+    }
+
+    @Test
+    public void aTokenThatExpiresWhileItsClaimIsOnItsWay() throws Exception {
+        Fickle store = new Fickle();
+        TestClock clock = new TestClock();
+        try (Validator validator = open(strict(store).clock(clock).wait(patience()))) {
+            Soon call;
+            try (Holding held = new Holding(store)) {
+                call = new Soon(() -> validator.check(token(clock.instant().getEpochSecond() + 60)));
+                until(() -> !store.puts.isEmpty() || !call.thread.isAlive());
+                clock.advance(Duration.ofSeconds(60));
+            }
+            assertEquals("Expired", call.answer());
+        }
     }
 
     @Test
