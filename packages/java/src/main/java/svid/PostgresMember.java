@@ -792,7 +792,9 @@ final class PostgresMember implements AutoCloseable {
             List<String> faults = new ArrayList<>();
             for (Server one : all) {
                 if (one.role == null || !one.role.primary) {
-                    faults.add("address " + one.number + ": " + (one.role == null ? one.fault : Statements.IS_STANDBY));
+                    String name = "address " + one.number + ": ";
+                    String fault = one.role == null ? one.fault : Statements.IS_STANDBY;
+                    faults.add(fault.startsWith(name) ? fault : name + fault);
                 } else if (first == null) {
                     first = one;
                 } else if (!first.role.equals(one.role)) { // (one server may have two addresses)

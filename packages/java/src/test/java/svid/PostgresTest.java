@@ -37,6 +37,7 @@ import java.util.concurrent.CopyOnWriteArrayList;
 import java.util.concurrent.CountDownLatch;
 import java.util.concurrent.Semaphore;
 import java.util.concurrent.TimeUnit;
+import java.util.concurrent.atomic.AtomicBoolean;
 import java.util.concurrent.atomic.AtomicInteger;
 import java.util.concurrent.atomic.AtomicReference;
 import java.util.function.Supplier;
@@ -671,6 +672,42 @@ public class PostgresTest {
             return tell(what);
         } catch (Exception why) {
             throw new AssertionError(why);
+        }
+    }
+
+    /** Also not where another connection to it is there yet: another server may be the primary by now. */
+    @Test
+    public void aServerThatNoLookReachesIsNotThePrimary() throws Exception {
+        List<Connection> made = new CopyOnWriteArrayList<>();
+        AtomicBoolean isAway = new AtomicBoolean();
+        Driver its = DriverManager.getDriver(url);
+        Driver driver = new org.postgresql.Driver() {
+            @Override
+            public Connection connect(String address, Properties with) throws SQLException {
+                boolean isLook = Thread.currentThread().getName().equals("svid-server");
+                if (isLook && isAway.get()) {
+                    throw new SQLException("it is away");
+                }
+                Connection one = super.connect(address, with);
+                if (isLook) {
+                    made.add(one);
+                }
+                return one;
+            }
+        };
+        DriverManager.deregisterDriver(its);
+        DriverManager.registerDriver(driver);
+        try (PostgresMember member = running(new Suspended(), url, url + "&ApplicationName=x")) {
+            isAway.set(true);
+            for (Connection it : made) {
+                it.close();
+            }
+            Making.until(() -> found(member, 2).equals("address 1: it is away; address 2: it is away"));
+            isAway.set(false);
+            Making.until(() -> found(member, 2).equals(OWNER.toString()));
+        } finally {
+            DriverManager.deregisterDriver(driver);
+            DriverManager.registerDriver(its);
         }
     }
 
