@@ -82,9 +82,13 @@ public class LeakTest {
         return HELD.invokeInt(new Object[0]);
     }
 
-    /** How many rooms of JNA there are. */
+    /** How many rooms of JNA there are, once it has let go those that nobody refers to. */
     private static long rooms() throws Exception {
-        System.gc(); // (JNA lets rooms go then)
+        System.gc();
+        return roomsNow();
+    }
+
+    private static long roomsNow() throws Exception {
         Field all = Memory.class.getDeclaredField("allocatedMemory");
         all.setAccessible(true);
         return ((Map<?, ?>) all.get(null)).size();
@@ -239,6 +243,58 @@ public class LeakTest {
                 assertThrows(SvidException.Unavailable.class, () -> validator.check(tokens(number, 0).good));
             }
         });
+    }
+
+    /** A call gives its memory outside the heap back as it ends: a heap with much room is collected seldom. */
+    @Test
+    public void aCallLeavesNothingToBeCollected() throws Exception {
+        String token = issuer.token("/a", "ledger");
+        String bad = issuer.wrong(Issuer.Wrong.SIGNATURE, "/a", "ledger");
+        try (Validator validator = Validator.open(options(Mode.ONCE), issuer.bundles())) {
+            validator.withdraw(token);
+            byte[] messages = validator.messages();
+            byte[] summary = validator.summary();
+            List<Callable<?>> calls = List.of(()
+                                                      -> Validator.says(token),
+                    ()
+                            -> Validator.says("no token"),
+                    ()
+                            -> validator.check(bad),
+                    ()
+                            -> validator.check("no token"),
+                    ()
+                            -> validator.judge(token),
+                    ()
+                            -> validator.withdraw(token),
+                    validator::messages, validator::summary,
+                    ()
+                            -> validator.answer(summary),
+                    ()
+                            -> validator.answer(messages),
+                    validator::report, validator::size, validator::unready,
+                    ()
+                            -> SpiffeId.parse("spiffe://example.org/a"),
+                    ()
+                            -> SpiffeId.parse("none"),
+                    ()
+                            -> {
+                        validator.take(messages);
+                        return 0;
+                    },
+                    () -> {
+                        validator.renew(issuer.bundles());
+                        return 0;
+                    });
+            for (int number = 0; number < calls.size(); number++) {
+                for (int round = 0; round < 5; round++) {
+                    long before = roomsNow();
+                    for (int n = 0; n < 100; n++) {
+                        MemberTest.answer(calls.get(number));
+                    }
+                    assertTrue("call " + number, roomsNow() < before + 50); // (what other threads have is no more)
+                }
+            }
+        }
     }
 
     /** Nobody closes some. */
