@@ -177,6 +177,7 @@ final class Workload implements Closeable {
             case PERMISSION_DENIED:
                 return new IOException("it has no identity for this process: register it as a workload: " + said, why);
             case UNAVAILABLE:
+            case CANCELLED: // (by this side: of a message that can't be read)
                 return new IOException(why.getCause() == null ? said : why.getCause().getMessage(), why);
             default:
                 return new IOException(said, why);

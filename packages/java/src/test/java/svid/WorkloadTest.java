@@ -10,10 +10,16 @@ import static svid.Making.until;
 import com.google.gson.Gson;
 import com.google.gson.JsonObject;
 import com.google.gson.JsonParser;
+import io.grpc.MethodDescriptor;
+import io.grpc.Server;
+import io.grpc.ServerServiceDefinition;
+import io.grpc.netty.NettyServerBuilder;
+import io.grpc.stub.ServerCalls;
 import java.io.BufferedReader;
 import java.io.ByteArrayInputStream;
 import java.io.File;
 import java.io.IOException;
+import java.io.InputStream;
 import java.net.InetAddress;
 import java.net.InetSocketAddress;
 import java.net.ServerSocket;
@@ -33,6 +39,7 @@ import java.util.Set;
 import java.util.concurrent.CompletableFuture;
 import java.util.concurrent.CopyOnWriteArrayList;
 import java.util.concurrent.TimeUnit;
+import java.util.concurrent.atomic.AtomicInteger;
 import java.util.concurrent.atomic.AtomicReference;
 import java.util.stream.Collectors;
 import java.util.stream.IntStream;
@@ -252,6 +259,52 @@ public class WorkloadTest {
             follower.close();
         }
         assertEquals(List.of(1000L, 2000L, 4000L, 8000L, 16_000L, 30_000L, 30_000L, 1000L), pauses);
+    }
+
+    /** What it sends as it is, and takes as it comes. */
+    private static final class Raw implements MethodDescriptor.Marshaller<byte[]> {
+        @Override
+        public InputStream stream(byte[] it) {
+            return new ByteArrayInputStream(it);
+        }
+
+        @Override
+        public byte[] parse(InputStream it) {
+            return new byte[0];
+        }
+    }
+
+    /**
+     * A message that can't be read takes no bundle away, and the call is made again: the next one of that stream may make no sense either.
+     */
+    @Test
+    public void anAgentWhoseMessagesCanNotBeRead() throws Exception {
+        AtomicInteger calls = new AtomicInteger();
+        MethodDescriptor<byte[], byte[]> method = MethodDescriptor.<byte[], byte[]>newBuilder()
+                                                          .setType(MethodDescriptor.MethodType.SERVER_STREAMING)
+                                                          .setFullMethodName("SpiffeWorkloadAPI/FetchJWTBundles")
+                                                          .setRequestMarshaller(new Raw())
+                                                          .setResponseMarshaller(new Raw())
+                                                          .build();
+        Server server = NettyServerBuilder.forAddress(new InetSocketAddress(InetAddress.getLoopbackAddress(), 0))
+                                .addService(ServerServiceDefinition.builder("SpiffeWorkloadAPI")
+                                                    .addMethod(method, ServerCalls.<byte[], byte[]>asyncServerStreamingCall((none, to) -> {
+                                                        calls.getAndIncrement();
+                                                        to.onNext(new byte[] {1}); // (and the stream goes on)
+                                                    }))
+                                                    .build())
+                                .build()
+                                .start();
+        Follower follower = new Follower(Sources.workload("tcp://127.0.0.1:" + server.getPort()), (text, count) -> {});
+        follower.pausing = (source, millis) -> source == null ? 3_600_000 : 1;
+        try {
+            follower.begin();
+            until(() -> said.has("it sends what is no JWTBundlesResponse"));
+            until(() -> calls.get() > 2);
+        } finally {
+            follower.close();
+            server.shutdownNow();
+        }
     }
 
     /** Who refuses the call itself is not asked again. */
