@@ -122,16 +122,19 @@ public class ThreadsTest {
                 }
                 isOver.set(true);
             });
-            while (!isOver.get() && !renews.isDone()) {
-                String token = tokens().get(0);
-                String answer;
-                try {
-                    answer = validator.judge(token).spiffeId().path();
-                } catch (Refusal why) {
-                    answer = why.reason().toString();
+            Making.given("the end of the answers", () -> {
+                while (!isOver.get() && !renews.isDone()) {
+                    String token = tokens().get(0);
+                    String answer;
+                    try {
+                        answer = validator.judge(token).spiffeId().path();
+                    } catch (Refusal why) {
+                        answer = why.reason().toString();
+                    }
+                    assertEquals("/billing/api", answer);
                 }
-                assertEquals("/billing/api", answer);
-            }
+                return null;
+            });
             Making.given("the end of the renewals", renews);
         }
     }
@@ -211,20 +214,24 @@ public class ThreadsTest {
     @Test
     public void aRenewalDuringAVerificationCounts() throws Exception {
         String others = otherKeys();
-        AtomicInteger count = new AtomicInteger();
-        try (Validator validator = Validator.open(ledgerAt(NOW), others)) {
-            Provider provider = new Meanwhile(() -> {
-                if (count.getAndIncrement() == 0) {
-                    validator.renew(bundles());
+        String token = tokens().get(0);
+        for (boolean isJudged : new boolean[] {false, true}) {
+            AtomicInteger count = new AtomicInteger();
+            try (Validator validator = Validator.open(ledgerAt(NOW), others)) {
+                Provider provider = new Meanwhile(() -> {
+                    if (count.getAndIncrement() == 0) {
+                        validator.renew(bundles());
+                    }
+                    return null;
+                });
+                Security.insertProviderAt(provider, 1);
+                try {
+                    Admission admission = Making.given("an answer", () -> isJudged ? validator.judge(token) : validator.check(token));
+                    assertEquals("/billing/api", admission.spiffeId().path());
+                    assertEquals(2, count.get());
+                } finally {
+                    Security.removeProvider(provider.getName());
                 }
-                return null;
-            });
-            Security.insertProviderAt(provider, 1);
-            try {
-                assertEquals("/billing/api", validator.check(tokens().get(0)).spiffeId().path());
-                assertEquals(2, count.get());
-            } finally {
-                Security.removeProvider(provider.getName());
             }
         }
     }
