@@ -244,10 +244,11 @@ func TestPrometheusAndTheDashboard(t *testing.T) {
 			prom.await("the metric "+name+" of "+rule.Alert+rule.Record, func() bool { return len(prom.query(name)) > 0 })
 		}
 	}
-	// (One token of two is a replay here. While the machine has no time for it, a sidecar is down.)
+	// (One token of two is a replay here. While the machine has no time for it, a sidecar is down, and for minutes after that it was slow.)
 	prom.await("no alert of a good sidecar but that of replays", func() bool {
 		alerts := prom.alerts()
 		delete(alerts, "SviddReplays")
+		delete(alerts, "SviddSlow")
 		return len(alerts) == 0
 	})
 	// The store is emptied. It goes away, and then the broker, the state folder and the sidecar.
