@@ -730,6 +730,23 @@ fn a_withdrawal_that_the_disk_may_not_have() {
     assert_eq!(check(&kept(&ledger(), at(&room)), &fresh(1)), "Withdrawn");
 }
 
+/// However long the guard is up by then.
+#[test]
+fn requests_and_withdrawals_have_their_time_from_when_they_come() {
+    let guard = opened(&strict(&Arc::new(memory())).wait(Duration::from_secs(2)));
+    let (mut core, up) = (guard.requests.core(), 100_000_000);
+    let number = core.come(up, [0; 32]).expect("it comes");
+    assert_eq!(core.due(), Ok(up + 2000));
+    core.leave(up, number).expect("it is there");
+    let number = core.withdrawal_comes(up).expect("it comes");
+    assert_eq!(core.due(), Ok(up + 2000));
+    core.overdue(up + 1999).expect("it is open");
+    assert!(core.withdrawal_ended(number).is_none());
+    core.overdue(up + 2000).expect("it is open");
+    assert_eq!(core.withdrawal_ended(number).map(|it| it.store), Some(ffi::MAY_LACK));
+    core.leave_withdrawal(number);
+}
+
 /// In the modes that don't ask the store of each token, its withdrawals are read.
 #[test]
 fn withdrawals_are_heard() {

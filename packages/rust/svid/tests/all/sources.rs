@@ -154,7 +154,7 @@ fn a_folder_whose_name_is_no_text() {
     assert_eq!(check(&guard, &stays), Ok(()));
 }
 
-/// Other sources take the place of all before, and faulty ones change nothing.
+/// Other sources take the place of all before. Faulty ones change nothing, and those before go on to be followed.
 #[test]
 fn a_guard_follows_other_sources() {
     let (room, heard) = (Room::new("others"), Heard::default());
@@ -165,7 +165,12 @@ fn a_guard_follows_other_sources() {
     let guard = opened(&heard.options(), Sources::new().file("stays.example", path("stays")).file("goes.example", path("goes")));
     assert!(guard.follow(Sources::new().file("A", path("stays"))).is_err());
     assert!(guard.follow(Sources::new().bundle("stays.example", "half")).is_err());
+    // (a bundle of the same trust domain stands there and in the file)
+    assert!(guard.follow(Sources::from(stays.bundles()).file("stays.example", path("stays"))).is_err());
     assert_eq!((check(&guard, &stays), check(&guard, &goes)), (Ok(()), Ok(())));
+    stays.rotate();
+    write(&path("stays"), stays.bundle());
+    until("a new key of the sources before", || check(&guard, &stays).is_ok());
     // (until a file is there, the last good bundle stays)
     guard.follow(Sources::new().file("stays.example", path("new"))).expect("it can be followed");
     assert_eq!((check(&guard, &stays), check(&guard, &goes)), (Ok(()), refused(Refusal::UnknownDomain)));
