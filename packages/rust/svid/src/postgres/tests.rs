@@ -359,6 +359,45 @@ fn the_first_call_of_a_member_may_be_a_withdrawal() {
     until("the withdrawal", || put(&store, 1).owner == WITHDRAWN);
 }
 
+/// One call finds that a server has ended its connections. The next one makes another.
+#[test]
+fn connections_of_a_server_end_together() {
+    let mut machine = Machine::new();
+    machine.group("together");
+    let terms = Terms { lasts: 3660, margin: 120, back: 60 };
+    let member = Shared::member(&[&machine.url], "together", 1, terms, Arc::new(Moment::now)).expect("it is one");
+    let shared = Shared { member, wait: patience(), margin: 120, warns: options().warns, heard: Mutex::default() };
+    let store = PostgresStore::begin(shared, false).expect("it begins");
+    let three = store.ask(patience(), |shared, end| async move {
+        let call = || shared.member.withdrawals("", end);
+        let (one, two, three) = tokio::join!(call(), call(), call());
+        one.and(two).and(three)
+    });
+    three.expect("it answers");
+    machine
+        .tell("SELECT pg_terminate_backend(pid) FROM pg_stat_activity WHERE pid <> pg_backend_pid() AND backend_type = 'client backend'");
+    until("the end of a connection", || store.withdrawals("").is_err());
+    store.withdrawals("").expect("it answers");
+}
+
+/// Who is warned, on that thread, hangs.
+#[test]
+fn a_call_ends_though_its_thread_hangs() {
+    let (is_warned, go) = (Arc::new(AtomicBool::new(false)), Arc::new(AtomicBool::new(false)));
+    let (warned, goes) = (Arc::clone(&is_warned), Arc::clone(&go));
+    let hangs = move |_: &dyn fmt::Display| {
+        warned.store(true, Ordering::Release);
+        until("the end of the test", || goes.load(Ordering::Acquire));
+    };
+    let options = options().wait(Duration::from_millis(50)).warns(hangs);
+    let store = PostgresStore::open(&options, &["postgres://127.0.0.1:1/d"], "svid", 1).expect("it begins");
+    until("a warning", || is_warned.load(Ordering::Acquire));
+    let (tell, told) = sync_channel(1);
+    thread::spawn(move || tell.send(store.put(&[claim(1)]).unwrap_err().to_string()));
+    assert_eq!(told.recv_timeout(patience() / 2).as_deref(), Ok(said::SILENT.1));
+    go.store(true, Ordering::Release);
+}
+
 #[test]
 fn calls_end() {
     let mut machine = Machine::new();
