@@ -188,7 +188,7 @@ fn a_snapshot_is_due() {
     let journal = Journal::open(&room.0).expect("nobody has it");
     assert!(!journal.wants_snapshot());
     append(&journal, 2);
-    // (the writer looks at that too after a write, and who looks meanwhile is told that none is due)
+    // (the writer looks at that too after a write: whoever looks at the same moment sees none)
     until("a snapshot to be due", || journal.wants_snapshot());
     snapshot(&journal).expect("the disk is well");
     append(&journal, 2);

@@ -1296,7 +1296,7 @@ fn a_store_that_goes_away() {
     until(|| unready(&guard).is_empty()); // (each look asks the store)
 }
 
-/// Each time is told, and its claims are put again as soon as the first time: an answer ends the pauses that have grown.
+/// Each time the guard warns, and puts claims again as soon as the first time: an answer ends the pauses that have grown.
 #[test]
 fn a_store_that_goes_away_again_and_again() {
     let store = Fickle::new();
