@@ -422,6 +422,66 @@ print("end")
     assert ran.stdout == b"freed\nend\n"
 
 
+def test_a_program_ends_that_closes_nothing(tmp_path):
+    """Whatever its threads wait for. They end with it."""
+    text = """
+import json, sys, threading, time
+import svid
+from svid.postgres import PostgresStore, StoreFault
+from svid.testing import Issuer, MemoryStore
+
+class Hangs(MemoryStore):
+    hangs = False
+    def hang(self):
+        if self.hangs:
+            threading.Event().wait()
+    def put(self, claims):
+        self.hang()
+        return super().put(claims)
+    def withdraw(self, key, expires):
+        self.hang()
+    def withdrawals(self, after):
+        self.hang()
+        return super().withdrawals(after)
+
+class Unwatched(PostgresStore):
+    def _watch(self):
+        "It is looked at by who calls."
+
+urls = "postgres://u@127.0.0.1:1/d", "postgres://u@127.0.0.1:1/e"
+issuer, store, folder = Issuer(), Hangs(), sys.argv[1]
+with open(folder + "/example.org.json", "w") as file:
+    json.dump(issuer.bundle, file)
+bundles, state = folder + "/example.org.json", folder + "/state"
+terms = {"audiences": "a", "bundles": bundles, "store": store}
+patience = float(sys.argv[2])
+first = svid.Validator(**terms, state=state, wait=patience)
+first.check(issuer.token(aud="a"))
+store.hangs = True
+second = svid.Validator(**terms, mode="strict", wait=0.01)
+try:
+    first._handle._wait = 0.01
+    first.withdraw(issuer.token(aud="a"))
+except svid.Unavailable:
+    pass
+third = PostgresStore(*urls)
+try:
+    fourth = Unwatched(*urls, wait=0.01)
+    fourth.state()
+except StoreFault:
+    pass
+named = {"svid-" + it for it in "bundles claims journal server store withdraw withdrawals".split()}
+end = time.monotonic() + patience / 3
+while missing := named - {it.name for it in threading.enumerate()}:
+    assert time.monotonic() < end, missing
+    time.sleep(0.01)
+print("end", flush=True)
+"""
+    words = [sys.executable, "-c", text, tmp_path, str(PATIENCE)]
+    ran = subprocess.run(words, capture_output=True, timeout=PATIENCE, check=False)
+    assert (ran.returncode, ran.stdout) == (0, b"end\n"), ran.stderr.decode()
+
+
 def test_validators_that_are_dropped_are_freed():
     """Each has bundles of a megabyte: 100 that stayed would be 250 megabytes and more."""
     text = """
