@@ -1390,8 +1390,38 @@ func TestAPrimaryThatHung(t *testing.T) {
 // Sentinels that name two primaries are an error.
 func TestSentinelsThatDisagree(t *testing.T) {
 	t.Parallel()
+	o := twoSentinels(t)
+	claimstest.Refuses(t, newStore(t, o), errDisagree.Error())
+	opened(t, Options{URLs: o.URLs[:1]})
+}
+
+// So they are while a member is at work: it claims nothing until they agree again.
+func TestSentinelsThatDisagreeMeanwhile(t *testing.T) {
+	t.Parallel()
+	o := twoSentinels(t)
+	a := openedOwn(t, Options{URLs: o.URLs[:1]})
+	put(t, a, 1)
+	agree := a.servers
+	a.servers = newOwn(t, o).servers
+	for end := time.Now().Add(patience.Long); ; {
+		if _, err := a.State(limited(t)); errors.Is(err, errDisagree) {
+			break
+		} else if err == nil || time.Now().After(end) { // (a busy Sentinel may not answer in time)
+			t.Fatalf("a look: %v", err)
+		}
+	}
+	if f := claimstest.Try(a, patience.Long, claim(1))[0]; !errors.Is(f.Err, errDisagree) {
+		t.Errorf("a claim: %+v", f)
+	}
+	a.servers = agree
+	claimstest.State(t, a)
+	put(t, a, 1)
+}
+
+// twoSentinels name two primaries.
+func twoSentinels(t *testing.T) (o Options) {
+	t.Helper()
 	one, other := start(t), start(t)
-	var o Options
 	for _, s := range []*machine{one, other} {
 		sentinel, err := broker.NewSentinel(t.TempDir(), "svid", s.Redis.Address, 1)
 		if err == nil {
@@ -1404,8 +1434,7 @@ func TestSentinelsThatDisagree(t *testing.T) {
 		o.URLs = append(o.URLs, sentinel.URL)
 		logtest.Await(t, "the Sentinel", sentinel.Answers)
 	}
-	claimstest.Refuses(t, newStore(t, o), errDisagree.Error())
-	opened(t, Options{URLs: o.URLs[:1]})
+	return o
 }
 
 // A member that put nothing since it looked last sees by its number that the server has an older copy, and one that looked last before

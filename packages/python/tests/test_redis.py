@@ -69,6 +69,7 @@ OTHERS = {
     "TestFewEntriesAreKnown",
     "TestALateAnswerAfterASuspension",
     "TestANumberThatExpires",
+    "TestSentinelsThatDisagreeMeanwhile",
     "TestAnEntryThatGoesMeanwhile",
     "TestAKeyOfAnUnknownAlgorithm",
     "TestOptions",
