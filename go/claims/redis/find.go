@@ -11,6 +11,7 @@ import (
 	"time"
 
 	"svid.example/go/v3/claims"
+	"svid.example/go/v3/internal/clocks"
 )
 
 // askWait is for how long one server of several is waited for, where another one may answer.
@@ -355,6 +356,7 @@ func slotOf(key string) uint16 {
 // A watched is a connection to a server that is asked once a second.
 type watched struct {
 	conn  *conn
+	asked clocks.Moment // by it, last
 	tried time.Time
 }
 
@@ -379,6 +381,11 @@ func (s *Store) ask(ctx context.Context, ask func(ctx context.Context, i int, c 
 			defer asking.Done()
 			call, cancel := s.each(ctx)
 			defer cancel()
+			now := s.now()
+			if w.conn != nil && now.Since(w.asked) > askOthers { // It may have ended meanwhile, which says nothing of the server.
+				s.leaveWatched(w)
+			}
+			w.asked = now
 			if w.conn == nil {
 				c, err := s.servers[i].dial(call)
 				if err == nil {
@@ -395,15 +402,20 @@ func (s *Store) ask(ctx context.Context, ask func(ctx context.Context, i int, c 
 				if call.Err() != nil { // (it hangs)
 					w.tried = time.Now()
 				}
-				s.mu.Lock()
-				delete(s.open, w.conn)
-				s.mu.Unlock()
-				w.conn.Close()
-				w.conn = nil
+				s.leaveWatched(w)
 			}
 		}(i)
 	}
 	asking.Wait()
+}
+
+// leaveWatched ends the connection. The caller has watching.
+func (s *Store) leaveWatched(w *watched) {
+	s.mu.Lock()
+	delete(s.open, w.conn)
+	s.mu.Unlock()
+	w.conn.Close()
+	w.conn = nil
 }
 
 // watch sees that no two servers say that they are the primary, and that no other one has taken over.

@@ -233,6 +233,41 @@ func TestTwoPrimaries(t *testing.T) {
 	put(t, a, 1)
 }
 
+// Connections end while the computer is suspended, and a replica is promoted. The first look sees that: it does not ask by a connection of before.
+func TestAServerThatIsAskedAfterASuspension(t *testing.T) {
+	t.Parallel()
+	primary := start(t)
+	replica := startReplica(t, primary)
+	a := openedOwn(t, Options{URLs: []string{primary.URL, replica.URL}})
+	claimstest.State(t, a)
+	replica.do(t, "REPLICAOF", "NO", "ONE")
+	a.watching.Lock()
+	for _, w := range a.watched {
+		if w.conn != nil {
+			w.conn.raw.Close()
+		}
+	}
+	a.watching.Unlock()
+	suspended := time.Duration(0)
+	for end := time.Now().Add(patience.Long); ; {
+		suspended += time.Hour
+		a.now = func() clocks.Moment { return clocks.Moment{Wall: clocks.Now().Wall + suspended} }
+		faults, seen, isLate := make([]error, 2), make([]error, 2), false
+		a.ask(limited(t), func(ctx context.Context, i int, c *conn) {
+			if seen[i] = isPrimary(ctx, c); i == 1 {
+				isLate = ctx.Err() != nil
+			}
+		}, faults)
+		if (isLate || faults[1] != nil) && time.Now().Before(end) {
+			continue // (a busy server may not answer in time)
+		}
+		if seen[1] != nil || faults[1] != nil {
+			t.Errorf("the new primary is seen as none: %v %v", seen[1], faults[1])
+		}
+		return
+	}
+}
+
 // A primary becomes a replica of a server that lacks entries, and a primary again. Connections outlive that.
 func TestAPrimaryThatWasAReplica(t *testing.T) {
 	t.Parallel()

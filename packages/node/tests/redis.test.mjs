@@ -139,7 +139,7 @@ const faultOf = (call) =>
 const isOf = async (store, n, owner, by = OWNER) => Buffer.compare((await put(store, claim(n, by))).owner, owner) === 0;
 
 test("each test of a store in Go is run", async () => {
-  const others = ["TestRights", "TestALookThatALateAnswerOvertook", "TestALateAnswerAfterASuspension", "TestANumberThatExpires", "TestSentinelsThatDisagreeMeanwhile", "TestAnEntryThatGoesMeanwhile", "TestACallThatIsCut", "TestFewEntriesAreKnown", "TestAKeyOfAnUnknownAlgorithm", "TestOptions", "TestRecords", "TestSlots", "TestNoTextIsAnID", "TestARecordThatChangedMeanwhile",
+  const others = ["TestRights", "TestALookThatALateAnswerOvertook", "TestALateAnswerAfterASuspension", "TestANumberThatExpires", "TestAServerThatIsAskedAfterASuspension", "TestSentinelsThatDisagreeMeanwhile", "TestAnEntryThatGoesMeanwhile", "TestACallThatIsCut", "TestFewEntriesAreKnown", "TestAKeyOfAnUnknownAlgorithm", "TestOptions", "TestRecords", "TestSlots", "TestNoTextIsAnID", "TestARecordThatChangedMeanwhile",
     "TestServersThatHang", "TestEachSearchForThePrimaryLeavesNothing", "TestABurstLeavesFewConnections", "TestAServerThatIsAwayIsAskedNowAndThen",
     "TestMembersThatComeAndGoLeaveNoKey", "TestALookThatANewConnectionOvertook", "TestAnAddressThatLeadsToAnotherServer", "TestAContextThatEndsLater", "TestPasswordsOfSentinels",
     "TestWhatIsAskedOnceLeavesNothing"];

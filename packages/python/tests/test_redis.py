@@ -69,6 +69,7 @@ OTHERS = {
     "TestFewEntriesAreKnown",
     "TestALateAnswerAfterASuspension",
     "TestANumberThatExpires",
+    "TestAServerThatIsAskedAfterASuspension",
     "TestSentinelsThatDisagreeMeanwhile",
     "TestAnEntryThatGoesMeanwhile",
     "TestAKeyOfAnUnknownAlgorithm",
