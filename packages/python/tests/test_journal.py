@@ -573,6 +573,26 @@ def test_a_warning_that_fails_ends_no_call(tmp_path, monkeypatch):
     assert found(tmp_path) == {1}
 
 
+def test_one_snapshot_is_taken_at_a_time(tmp_path):
+    """Each check asks for one while one is due."""
+    go, asked, before = threading.Event(), [], {*threading.enumerate()}
+
+    def parts():
+        asked.append(True)
+        go.wait(PATIENCE)
+        return [use(1).message]
+
+    with contextlib.closing(svid.Journal(tmp_path)) as journal:
+        append(journal, 1)
+        for _ in range(9):
+            journal.snapshot_soon(parts)
+        made = {*threading.enumerate()} - before
+        assert [it.name for it in made].count("svid-snapshot") == 1
+        go.set()
+        until(lambda: "snapshot" in names(tmp_path))
+    assert found(tmp_path) == {1} and len(asked) == 1
+
+
 def test_a_folder_for_which_there_is_no_thread(tmp_path, monkeypatch):
     """Nobody holds it, and it takes no descriptor."""
 

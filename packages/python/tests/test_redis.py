@@ -982,6 +982,19 @@ def test_no_error_has_a_password():
         listening.shutdown(socket.SHUT_RDWR)
 
 
+def test_no_error_that_led_to_another_has_a_password():
+    password = "s" * 9
+    try:
+        try:
+            raise ValueError(password)
+        except ValueError:
+            raise OSError(f"it has {password}")
+    except OSError as why:
+        store_of_redis._hide(password, why)
+        said = "".join(traceback.format_exception(why))
+    assert said.count("***") == 2 and password not in said
+
+
 @pytest.mark.parametrize(
     "urls, terms",
     [
