@@ -228,6 +228,24 @@ test("the first server that answers says if there is a Cluster, though no look h
   await withServer((machine) => withStores(machine, [{ servers: [...urls, machine.url], wait: 1.5 }], (store) => put(store, claim(1))));
 });
 
+test("a server of a Cluster that does not know its own name is the one that was asked", async (t) => {
+  for (const [name, due] of [[null, "one.example:7001"], [Buffer.from(""), "one.example:7001"], [Buffer.from("two.example"), "two.example:7001"]]) {
+    const called = [];
+    t.mock.method(redis, "createClient", ({ socket: { host, port } }) => ({
+      on() {}, unref() {}, async connect() {}, async disconnect() {},
+      async sendCommand([word]) {
+        if (word === "INFO") return Buffer.from("redis_mode:cluster");
+        if (word === "CLUSTER") return [[0, 16_383, [name, 7001]]];
+        called.push(`${host}:${port}`);
+        throw new Error("it ends here");
+      },
+    }));
+    const [why] = await memberOf("redis://one.example:7000").put([claim(1)], end());
+    assert.deepEqual([/it ends here/.test(why.message), [...new Set(called)]], [true, [due]]);
+    t.mock.restoreAll();
+  }
+});
+
 test("withdrawals are heard though a server of a Cluster is away, and the claims of the others go on", async () => {
   const fault = new StoreFault("silent"), key = claim(1).key;
   let isAway = false;
