@@ -48,10 +48,11 @@ async function following(follow) {
 async function looking(sources, times = {}) {
   const it = { faults: [], all: {}, taken: 0 };
   it.sources = await Sources.open({ sources, onFault: (why) => it.faults.push(why?.message ?? null) }, { every: 0.01, least: 0.01, usual: 0.01, again: 0.01, ...times });
-  await it.sources.begin((bundles) => {
+  const take = (bundles) => {
     it.all = Object.fromEntries(bundles.map(([domain, bytes]) => [domain, String(bytes)]));
     it.taken += 1;
-  }, 600);
+  };
+  await within("the first look at all sources", it.sources.begin(take, 600));
   return it;
 }
 

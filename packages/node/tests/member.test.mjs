@@ -32,8 +32,8 @@ class Fickle {
   }
 }
 
-const strict = (store, options) => Validator.open({ ...terms, mode: "strict", store, ...options });
-const bound = (store, options) => Validator.open({ ...terms, mode: "bound", store, ...options });
+const strict = (store, options) => within("opening", Validator.open({ ...terms, mode: "strict", store, ...options }));
+const bound = (store, options) => within("opening", Validator.open({ ...terms, mode: "bound", store, ...options }));
 const away = () => Promise.reject(new Error("the store is away"));
 const times = (count, make) => Array.from({ length: count }, (_, n) => make(n));
 
@@ -777,7 +777,7 @@ test("opening waits until withdrawals are read, and while they are read again a 
     await new Promise(setImmediate);
     return { these: after === "8" ? [{ key, expires }] : [], last: String(Math.min(Number(after) + 1, 9)) };
   };
-  const store = Object.assign(new MemoryStore(), { withdrawals }), validator = await within("opening", bound(store));
+  const store = Object.assign(new MemoryStore(), { withdrawals }), validator = await bound(store);
   assert.deepEqual([validator.unready(), await said(validator.judge(text))], [null, "Withdrawn"]);
   [asked, isHeld] = [0, true];
   await until(() => asked);
