@@ -5,6 +5,7 @@ import contextlib
 import http.server
 import json
 import queue
+import socket
 import ssl
 import threading
 import time
@@ -406,6 +407,21 @@ def test_a_proxy_that_never_ends_its_answer(authority, tmp_path, quick, caplog, 
         finally:
             ended.set()
             proxy.shutdown()
+
+
+def test_a_host_that_takes_no_connection(quick, caplog, monkeypatch):
+    """It takes no longer than one that does not answer."""
+    monkeypatch.setattr(sources, "LIMIT", 0.2)
+    with contextlib.ExitStack() as opened:
+        server = opened.enter_context(socket.create_server(("127.0.0.1", 0), backlog=0))
+        for _ in range(4):  # (so many that no further one is let in)
+            one = opened.enter_context(socket.socket())
+            one.setblocking(False)
+            one.connect_ex(server.getsockname())
+        url = f"https://127.0.0.1:{server.getsockname()[1]}/"
+        with following(svid.Endpoint(url)) as checks:
+            until(lambda: [it for it in told(caplog) if url in it])
+            assert judged(checks, token()) == "unavailable NoBundle"
 
 
 def test_an_answer_that_does_not_come(authority, tmp_path, quick, caplog, monkeypatch):
