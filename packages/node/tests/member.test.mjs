@@ -442,7 +442,7 @@ test("a withdrawal that the store may not have says so", async () => {
   store.before = () => Promise.reject(); // (a store may throw anything)
   await assert.rejects(validator.withdraw(text), { name: "Unavailable", message: /withdraw it again/ });
   const hold = held(store);
-  await assert.rejects(validator.withdraw(text), { name: "Unavailable", message: /withdraw it again/ });
+  await assert.rejects(within("a withdrawal", validator.withdraw(text)), { name: "Unavailable", message: /withdraw it again/ });
   assert.equal(timers(), before);
   hold.open();
   assert.equal(await inTime(validator, text), "Withdrawn");
