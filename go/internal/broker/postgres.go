@@ -265,8 +265,7 @@ func (s *Postgres) end(signal syscall.Signal) {
 // Kill ends the server as kill -9 does.
 func (s *Postgres) Kill() { s.end(syscall.SIGKILL) }
 
-// End ends the server for good. What a killed server leaves is a segment of memory that processes share, of which a system has some thousands; the server
-// itself would remove it at its next start.
+// End ends the server for good. A killed server leaves a segment of shared memory, which it would remove at its next start. A system has a few thousand.
 func (s *Postgres) End() {
 	s.Kill()
 	held, err := os.ReadFile(filepath.Join(s.Dir, "postmaster.pid"))
@@ -282,7 +281,7 @@ func (s *Postgres) End() {
 	}
 }
 
-// said is the end of what the server wrote.
+// said is the end of the server's log.
 func (s *Postgres) said() string {
 	said, _ := os.ReadFile(filepath.Join(filepath.Dir(s.Dir), "log"))
 	if most := 1000; len(said) > most {

@@ -196,6 +196,10 @@ class Servers {
   async #watch(at, connection) {
     const begun = momentOf(), end = begun.up + said.LOOK_WAIT;
     let role, fault = "", when = begun;
+    if (connection && isOver(said.MOST_AGE, at.at, begun)) {
+      connection.close(); // (it may have ended while the machine was suspended, which says nothing of the server)
+      connection = undefined;
+    }
     try {
       if (connection) role = await roleOf(connection, this.#role, end);
       else [connection, role] = await reach(at, this.#role, end);

@@ -256,6 +256,7 @@ function simulated(t, ...hosts) {
     return { rows: [answers[name](this.host)] };
   });
   it.member = memberOf("svid", ...hosts.map((host) => `postgres://u@${host}/d`));
+  t.after(() => it.member.close()); // (its looks would go on in the next test)
   it.put = async () => (await within("a claim", it.member.put([claim(1)], begun + 1000 * PATIENCE)))[0];
   return it;
 }
@@ -317,6 +318,18 @@ test("a connection on which a look fails ends, and the next look makes another o
   await until(() => made().length > 2);
   assert(made().slice(0, -1).every((one) => one.connection.stream.destroyed));
   assert((await it.put()).owner); // (it is no primary)
+});
+
+test("after a suspension a server is looked at by a new connection, since the old one may have ended", async (t) => {
+  const it = simulated(t, "a", "b"), made = () => it.made.filter(({ host }) => host === "b");
+  assert((await it.put()).owner);
+  const from = it.asked.length;
+  await until(() => it.asked.slice(from).filter((one) => one === "role b").length > 1);
+  assert.equal(made().length, 1);
+  it.pass(0, HOUR);
+  assert((await it.put()).owner);
+  assert.equal(made().length, 2);
+  assert(made()[0].connection.stream.destroyed);
 });
 
 test("a server whose answer came over a suspension is asked whether it is still there", async (t) => {

@@ -805,7 +805,7 @@ test("a new folder whose first starts end anywhere keeps its own name, and that 
   for (const [isKill, isOld] of [[true, false], [false, false], [false, true]]) for (let at = 0, isOver = false; !isOver; at++) {
     for (let nextAt = isKill || isOld ? 99 : 0, isNextOver = false; !isNextOver; nextAt += 1 + (at % 2)) {
       disk = new Disk(state, (number) => ending(number));
-      if (isOld) await disk.has("journal.1"); // (as an older version leaves a folder that keeps nothing)
+      if (isOld) await disk.has("journal.1"); // (as an older version leaves an unused folder)
       isOver = !(await ends(at, isKill));
       isNextOver = !(await ends(nextAt, false));
       const journal = await Journal.open(state);

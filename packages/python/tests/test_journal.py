@@ -1104,7 +1104,7 @@ def test_a_new_folder_whose_first_starts_end_anywhere(tmp_path, disk, monkeypatc
         for at in range(100):
             for next_at in range(100):
                 made = disk(lambda number, name: None)
-                if is_old:  # (as an older version leaves a folder that keeps nothing)
+                if is_old:  # (as an older version leaves an unused folder)
                     state.mkdir()
                     (state / "journal.1").touch()
                     made.is_there, made.sure = True, {
