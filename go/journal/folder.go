@@ -343,17 +343,19 @@ func readID(sys system) (id svid.ValidatorID, err error) {
 
 // findID reads the validator ID, or makes one at random. Until there is a snapshot it keeps the ID again: no start may have gone well yet.
 func findID(sys system, dir string) (id svid.ValidatorID, err error) {
+	isNew := false
 	if id, err = readID(sys); errors.Is(err, os.ErrNotExist) {
+		isNew = true
 		id, err = makeID(sys, dir)
 	}
 	if err != nil {
 		return id, err
 	}
 	hasSnapshot, hasJournal, err := keeps(sys)
-	if err != nil || hasSnapshot {
-		return id, err
+	if err == nil && (isNew || !hasSnapshot) {
+		err = keepID(sys, id, !hasSnapshot && !hasJournal)
 	}
-	return id, keepID(sys, id, !hasJournal)
+	return id, err
 }
 
 // keeps says what the folder keeps.

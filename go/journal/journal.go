@@ -205,7 +205,10 @@ func (j *Journal) load(take func(messages []byte) error) error {
 	}
 	j.size.Store(j.older)
 	j.found, j.marks = found.mark, found.isMarked
-	if found.old && found.fromFrames == 0 {
+	if found.old && found.fromFrames == 0 { // (what is there was kept without the ID, so a start before may have failed to keep that)
+		if err := keepID(j.sys, j.id, false); err != nil {
+			return err
+		}
 		if err := keepText(j.sys, framesName, strconv.FormatUint(found.newest+1, 10)); err != nil {
 			return err
 		}

@@ -3,6 +3,7 @@ package journal
 import (
 	"errors"
 	"fmt"
+	"io"
 	"math/rand"
 	"os"
 	"path/filepath"
@@ -50,8 +51,15 @@ func freshDisk() *disk {
 	return d
 }
 
-// A new folder, also of an older version, keeps what is appended to it, whichever call of the starts before failed: its own name lasts, and that of the
-// validator ID.
+// savedDisk is the disk with what was saved of a damaged folder: a snapshot of messages alone.
+func savedDisk() *disk {
+	d := newDisk()
+	d.here, d.snapshot = settled(true), settled(atRest(batch(0)))
+	return d
+}
+
+// A new folder, also of an older version, or with what was saved, keeps what is appended to it, whichever call of the starts before failed: its own name
+// lasts, and that of the validator ID.
 func TestANewFolderWhoseFirstStartsFail(t *testing.T) {
 	r := rand.New(rand.NewSource(1))
 	well := func(string, string, int) (int, error) { return 0, nil }
@@ -63,13 +71,18 @@ func TestANewFolderWhoseFirstStartsFail(t *testing.T) {
 			t.Fatalf("%s: %v", what, err)
 		}
 		j.quiet, j.growth = 0, 64
+		if _, must := j.WantsSnapshot(); must {
+			if err := j.Snapshot(func(w io.Writer) error { _, err := w.Write(j.messages); return err }); err != nil {
+				t.Fatalf("%s: %v", what, err)
+			}
+		}
 		mustAppend(t, j, batch(1))
 		for i := 0; i < 5; i++ {
 			found, err := begin(d.crash(r))
 			if err != nil {
 				t.Fatalf("%s: after a loss of power: %v", what, err)
 			}
-			if string(found.messages) != string(batch(1)) {
+			if string(found.messages) != string(append(j.messages, batch(1)...)) {
 				t.Fatalf("%s: a loss of power took an acknowledged batch", what)
 			}
 		}
@@ -92,6 +105,7 @@ func TestANewFolderWhoseFirstStartsFail(t *testing.T) {
 		for second := range ends {
 			starts(newDisk, first, second)
 			starts(freshDisk, first, second)
+			starts(savedDisk, first, second)
 		}
 	}
 }
