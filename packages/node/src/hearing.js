@@ -8,7 +8,7 @@ const PAUSE = 1000; // milliseconds
 const SECOND = 1000; // milliseconds
 
 // A moment by the clock of a validator, which gives whole seconds.
-const momentAt = (time) => momentOf(Number(time) * SECOND);
+const momentOfSecond = (time) => momentOf(Number(time) * SECOND);
 
 // Whether it was too long ago.
 const isOld = (moment, now) => isOver(MOST_UNLOOKED, moment, now, SECOND);
@@ -54,12 +54,12 @@ export class Hearing {
    * where the process was stopped, or the machine suspended: tokens may have been withdrawn meanwhile.
    */
   isDue(time) {
-    return this.#looked !== undefined && !this.#ending.signal.aborted && isOld(this.#looked, momentAt(time));
+    return this.#looked !== undefined && !this.#ending.signal.aborted && isOld(this.#looked, momentOfSecond(time));
   }
 
   /** Waits until they are read, for at most so many seconds. What the store was asked before the process was stopped does not count. */
   async look(time, most) {
-    const now = momentAt(time), one = this.#begun + (isOld(this.#began, now) ? 1 : 0);
+    const now = momentOfSecond(time), one = this.#begun + (isOld(this.#began, now) ? 1 : 0);
     const request = { one }, read = new Promise((resolve) => (request.resolve = resolve));
     this.#waiting.add(request);
     if (this.#timer !== undefined) {
@@ -105,7 +105,7 @@ export class Hearing {
   // Reads a page, and says whether there may be another one.
   async #readPage() {
     this.#begun += 1;
-    this.#began = momentAt(this.#member.now());
+    this.#began = momentOfSecond(this.#member.now());
     const { these, last } = withdrawalsOf(await this.#store.withdrawals(this.#after, { signal: this.#ending.signal }));
     if (this.#ending.signal.aborted) return false;
     this.#member.heard(these);

@@ -194,6 +194,7 @@ class Servers {
 
   /** Looks at a server until the end. */
   async #watch(at, connection) {
+    if (this.#ended) return connection?.close();
     const begun = momentOf(), end = begun.up + said.LOOK_WAIT;
     let role, fault = "", when = begun;
     if (connection && isOver(said.MOST_AGE, at.at, begun)) {
@@ -211,8 +212,8 @@ class Servers {
     }
     Object.assign(at, { role, fault, at: when });
     this.#tell();
-    if (this.#ended) return connection?.close();
-    setTimeout(() => this.#watch(at, connection), Math.max(0, begun.up + said.LOOK_EVERY - now())).unref();
+    if (this.#ended) connection?.close();
+    else setTimeout(() => this.#watch(at, connection), Math.max(0, begun.up + said.LOOK_EVERY - now())).unref();
   }
 }
 
