@@ -341,19 +341,18 @@ func readID(sys system) (id svid.ValidatorID, err error) {
 	return id, nil
 }
 
-// findID reads the validator ID, or makes one at random. Until there is a snapshot it keeps the ID again: no start may have gone well yet.
+// findID reads the validator ID, or makes one at random. Until there is a snapshot it keeps the ID again: no start may have gone well yet. (One of messages
+// is kept without the ID, and load sees to that.)
 func findID(sys system, dir string) (id svid.ValidatorID, err error) {
-	isNew := false
 	if id, err = readID(sys); errors.Is(err, os.ErrNotExist) {
-		isNew = true
 		id, err = makeID(sys, dir)
 	}
 	if err != nil {
 		return id, err
 	}
 	hasSnapshot, hasJournal, err := keeps(sys)
-	if err == nil && (isNew || !hasSnapshot) {
-		err = keepID(sys, id, !hasSnapshot && !hasJournal)
+	if err == nil && !hasSnapshot {
+		err = keepID(sys, id, !hasJournal)
 	}
 	return id, err
 }
