@@ -25,7 +25,7 @@ pub(crate) struct OpenToken<'a> {
     /// Which bundles were asked for its keys: as many were replaced before these.
     pub edition: Option<u64>,
     shown: Option<Shown>,
-    /// The verifier can't verify by one of the keys, and none of the others made the signature.
+    /// The verifier can't verify by one of the keys. (Where another one made the signature, nobody asks.)
     pub is_unsupported: bool,
 }
 
@@ -76,7 +76,6 @@ impl<'a> OpenToken<'a> {
             match verifier.verify(&candidate, signed, signature) {
                 Ok(true) => {
                     self.shown = Some(Shown { key: at(&rest, candidate.jwk()), input, signature: signature_at });
-                    self.is_unsupported = false;
                     return Ok(());
                 }
                 Ok(false) => {}
