@@ -49,11 +49,12 @@ export class Shared {
   /** @param lastOf until when it would go on if this call began it now @param begin begins it, until a moment */
   async within(end, lastOf, begin) {
     for (;;) {
-      const last = lastOf(), one = (this.#is ??= { last, found: begin(last).finally(() => (this.#is = undefined)) });
+      const last = lastOf(), one = (this.#is ??= { begun: now(), last, found: begin(last).finally(() => (this.#is = undefined)) });
       try {
         return await until(end, one.found);
       } catch (why) {
-        if (last <= one.last || now() < one.last || now() >= end) throw why;
+        const hadTime = now() - one.begun < (one.last - one.begun) / 2; // (a timer may go off early)
+        if (last <= one.last || hadTime || now() >= end) throw why;
       }
     }
   }

@@ -6,7 +6,7 @@ import { createRequire } from "node:module";
 import { CELL, Gate, Shared, StoreFault, brief, bytesOf, foundOf, now, until, withdrawalsOf } from "./answers.js";
 import { isOver, momentOf } from "./moments.js";
 import * as said from "./scripts.js";
-import { DIAL_WAIT, MOST_CALLS, MOST_MARKS, STATE_WAIT } from "./statements.js";
+import { DIAL_WAIT, MOST_AGE, MOST_CALLS, MOST_MARKS, STATE_WAIT } from "./statements.js";
 
 const redis = createRequire(import.meta.url)("redis");
 const NAME = /^[A-Za-z0-9_-]{1,64}$/;
@@ -131,6 +131,7 @@ function serverOf(text, number) {
 /** A connection, for one call at a time. It is never made again: node-redis would do so by itself, and nobody has looked at what it then leads to. */
 class Connection {
   isBroken = false;
+  used; // when it was asked last which server is the primary
   #client;
   #isMade = false;
   #why; // it is broken
@@ -325,11 +326,13 @@ class Servers {
   async #asked(at, end) {
     let one = this.#kept.get(at);
     try {
-      if (!one || one.isBroken) {
+      if (!one || one.isBroken || isOver(MOST_AGE, one.used)) {
+        one?.close(); // (it may have ended while the machine was suspended, which says nothing of the server)
         one = await new Connection(at).connect(end);
         if (this.#ended) throw new StoreFault("closed");
         this.#kept.set(at, one);
       }
+      one.used = momentOf();
       const [answer] = await one.checked([at.service ? ["SENTINEL", "GET-MASTER-ADDR-BY-NAME", at.service] : ["ROLE"]], end);
       if (!at.service) {
         if (String(answer[0]) !== "master") throw new StoreFault("replica", `: ${at.name}`);

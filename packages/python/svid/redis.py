@@ -40,7 +40,7 @@ from ._group import (
     withdrawals_of,
 )
 from ._moments import Moment
-from ._statements import MOST_CALLS, MOST_MARKS, STATE_WAIT
+from ._statements import MOST_AGE, MOST_CALLS, MOST_MARKS, STATE_WAIT
 from .stores import WITHDRAWN, Claim, Found
 
 __all__ = ["RedisStore", "State", "StoreFault"]
@@ -807,6 +807,7 @@ class _Servers:
         self._ends = ends
         self._looking = threading.Lock()
         self._kept: list[_Connection | None] = [None] * len(self._all)
+        self._last = [Moment.now()] * len(self._all)  # when each of these was used
         self._asking: list[threading.Thread | None] = [None] * len(self._all)
         self._primary: _Server | None = None
         self._first = 0  # which server of a Cluster is asked first
@@ -951,7 +952,11 @@ class _Servers:
         return list(answers)
 
     def _asked(self, n: int, end: float) -> _Server:
-        at, one = self._all[n], self._kept[n]
+        at, one, now = self._all[n], self._kept[n], Moment.now()
+        if one and self._last[n].until(now) * 1000 > MOST_AGE:
+            one.close()
+            self._kept[n] = one = None  # (it may have ended, which says nothing of the server)
+        self._last[n] = now
         try:
             if one is None:
                 self._kept[n] = one = _Connection(at, self._ends, end)

@@ -652,6 +652,8 @@ def test_a_connection_whose_answer_is_late_ends(machine):
 
 
 def test_looks_at_servers_share_their_connections(machine, monkeypatch):
+    """After a suspension they make others, since these may have ended."""
+    clocks = Clocks(monkeypatch)
     monkeypatch.setattr(_scripts, "ASK_WAIT", 1000 * PATIENCE)
     servers = store_of_redis._Servers([machine.url, machine.url], End())
     with contextlib.closing(servers), machine.client() as client:
@@ -661,6 +663,9 @@ def test_looks_at_servers_share_their_connections(machine, monkeypatch):
             return client.info("stats")["total_connections_received"]
 
         assert len({made() for _ in range(9)}) == 1
+        before = made()
+        clocks.wall += 100
+        assert {made() for _ in range(9)} == {before + 2}
 
 
 def test_a_server_that_starts_again_fails_one_call(machine):

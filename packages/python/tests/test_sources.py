@@ -410,7 +410,7 @@ def test_a_proxy_that_never_ends_its_answer(authority, tmp_path, quick, caplog, 
 
 
 def test_a_host_that_takes_no_connection(quick, caplog, monkeypatch):
-    """It takes no longer than one that does not answer."""
+    """It takes as long as one that does not answer."""
     monkeypatch.setattr(sources, "LIMIT", 0.2)
     with contextlib.ExitStack() as opened:
         server = opened.enter_context(socket.create_server(("127.0.0.1", 0), backlog=0))
