@@ -126,8 +126,14 @@ fn kept(options: &Options, journal: Journal) -> Arc<Plain> {
     Arc::new(Guard::with_journal(options, bundles(), plain(), journal).expect("it opens"))
 }
 
+// The journal of a folder, once nobody has it: the end of a guard waits some seconds for its threads, and a busy machine may need more.
 fn at(room: &Room) -> Journal {
-    Journal::open(&room.0).expect("nobody has it")
+    let mut found = Err(JournalError::NoMemory);
+    until(|| {
+        found = Journal::open(&room.0);
+        !matches!(found, Err(JournalError::Held { .. }))
+    });
+    found.expect("it opens")
 }
 
 fn strict(store: &Arc<impl Store + 'static>) -> Options {
