@@ -85,7 +85,7 @@ type life struct {
 	asks  map[*server.Call]*ask
 	heard map[svid.TokenKey]time.Duration // withdrawals of others that it has taken
 
-	callers map[svid.TokenKey]int // in mode bound: from whom it has accepted a token
+	callers map[svid.TokenKey]int // in mode bound: whom the store has named to it as a token's owner
 }
 
 const never = time.Duration(1<<63 - 1)

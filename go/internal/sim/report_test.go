@@ -85,10 +85,19 @@ func caller(number int) (digest [32]byte) {
 // second, and asks the store again where it could not read them for as long as a request waits.
 const unheard = time.Second + wait
 
-// has says whether this life has accepted the token from that caller in mode bound.
+// has says whether the store has named that caller to this life in mode bound, as the token's owner.
 func (l *life) has(one *token, by int) bool {
 	first, is := l.callers[one.key]
 	return is && first == by
+}
+
+// refused looks at the refusal of another caller in mode bound: the store has named the owner then, whom the life keeps in mind.
+func (a *ask) refused() {
+	for by := 0; by < callers; by++ {
+		if a.l.w.store.ever[a.token.key][a.l.ownerOf(a.token, by)] {
+			a.l.callers[a.token.key] = by
+		}
+	}
 }
 
 // ask lets a caller send a token to a member. It goes away after a while, if that is more than 0.
@@ -188,7 +197,7 @@ func (a *ask) answered(err error) {
 			}
 			// (Where the store has a claim of it, the answer says whose: its one acceptance is that life's, now or before. In mode bound that caller goes on
 			// to be accepted where nobody has heard of the withdrawal yet, and no other one is. So does one whose claim the store has lost, for a while,
-			// at a member that accepted it before.)
+			// at a member to which the store had named it.)
 			if _, before := w.store.gone[a.token.key]; w.claims() && !before {
 				w.store.gone[a.token.key] = gone{a.withdraw.UsedBy, w.now}
 			}
@@ -202,6 +211,9 @@ func (a *ask) answered(err error) {
 	}
 	if err != nil {
 		w.report.answers[word(err)]++
+		if w.plan.mode == server.Bound && errors.Is(err, svid.Replayed) {
+			a.refused()
+		}
 		return
 	}
 	w.report.answers["accepted"]++
