@@ -63,12 +63,15 @@ func savedDisk() *disk {
 func TestANewFolderWhoseFirstStartsFail(t *testing.T) {
 	r := rand.New(rand.NewSource(1))
 	well := func(string, string, int) (int, error) { return 0, nil }
-	lasts := func(d *disk, what string) {
+	lasts := func(d *disk, old []byte, what string) {
 		t.Helper()
 		d.before = well
 		j, err := begin(d)
 		if err != nil {
 			t.Fatalf("%s: %v", what, err)
+		}
+		if string(j.messages) != string(old) {
+			t.Fatalf("%s: what was there is lost", what)
 		}
 		j.quiet, j.growth = 0, 64
 		if _, must := j.WantsSnapshot(); must {
@@ -87,7 +90,7 @@ func TestANewFolderWhoseFirstStartsFail(t *testing.T) {
 			}
 		}
 	}
-	starts := func(made func() *disk, first, second string) {
+	starts := func(made func() *disk, old []byte, first, second string) {
 		for n, over := 0, false; !over; n++ {
 			for m, overNext := 0, false; !overNext; m++ {
 				d := made()
@@ -97,15 +100,15 @@ func TestANewFolderWhoseFirstStartsFail(t *testing.T) {
 				d.before = ends[second](m)
 				_, err = begin(d)
 				overNext, d = err == nil, removed(d, err)
-				lasts(d, fmt.Sprintf("call %d of the first start %s, and call %d of the next one %s", n, first, m, second))
+				lasts(d, old, fmt.Sprintf("call %d of the first start %s, and call %d of the next one %s", n, first, m, second))
 			}
 		}
 	}
 	for first := range ends {
 		for second := range ends {
-			starts(newDisk, first, second)
-			starts(freshDisk, first, second)
-			starts(savedDisk, first, second)
+			starts(newDisk, nil, first, second)
+			starts(freshDisk, nil, first, second)
+			starts(savedDisk, batch(0), first, second)
 		}
 	}
 }

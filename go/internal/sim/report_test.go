@@ -91,10 +91,15 @@ func (l *life) has(one *token, by int) bool {
 	return is && first == by
 }
 
-// refused looks at the refusal of another caller in mode bound: the store has named the owner then, whom the life keeps in mind.
+// refused looks at the refusal of another caller in mode bound: the store has named the owner then, whom the life keeps in mind. (Of a token that had
+// several owners, in several epochs, nobody tells here which one that was.)
 func (a *ask) refused() {
+	owners := a.l.w.store.ever[a.token.key]
+	if _, known := a.l.callers[a.token.key]; known || len(owners) != 1 {
+		return
+	}
 	for by := 0; by < callers; by++ {
-		if a.l.w.store.ever[a.token.key][a.l.ownerOf(a.token, by)] {
+		if owners[a.l.ownerOf(a.token, by)] {
 			a.l.callers[a.token.key] = by
 		}
 	}

@@ -493,7 +493,7 @@ test("a server whose answer came over a suspension is asked whether it is still 
 
 test("after a suspension a server is asked by a new connection, since the old one may have ended", (t) =>
   withServer(async (machine) => {
-    const connected = redis.createClient, made = [], begun = Date.now(), hour = 3_600_000;
+    const connected = redis.createClient, made = [], hour = 3_600_000;
     t.mock.method(redis, "createClient", (options) => {
       made.push(connected(options));
       return made.at(-1);
@@ -501,12 +501,16 @@ test("after a suspension a server is asked by a new connection, since the old on
     const member = new Member({ servers: [machine.url, machine.url], group: "svid", replicas: 1 }, { lasts: 7200n, margin: 120n, back: 60n });
     after(() => member.close());
     await looked(member);
+    const up = performance.now();
+    let wall = Date.now();
+    t.mock.method(performance, "now", () => up);
+    t.mock.method(Date, "now", () => wall);
     await looked(member);
     const before = made.length;
     await looked(member);
     assert.equal(made.length, before);
     const old = made.filter((it) => it.isOpen);
-    t.mock.method(Date, "now", () => begun + hour);
+    wall += hour;
     await looked(member);
     assert.equal(made.length, before + 2);
     assert.equal(old.filter((it) => !it.isOpen).length, 2);
