@@ -91,8 +91,8 @@ func (l *life) has(one *token, by int) bool {
 	return is && first == by
 }
 
-// refused looks at the refusal of another caller in mode bound: the store has named the owner then, whom the life keeps in mind. (Of a token that had
-// several owners, in several epochs, nobody tells here which one that was.)
+// refused looks at the refusal of another caller in mode bound: the store has named the owner then, whom the life keeps in mind. (A token may have had
+// several owners, each in an epoch of its own: then this says nothing.)
 func (a *ask) refused() {
 	owners := a.l.w.store.ever[a.token.key]
 	if _, known := a.l.callers[a.token.key]; known || len(owners) != 1 {
