@@ -1,6 +1,6 @@
 """Wrong bodies, as files list them: what tools/wrong, tools/wrong_bodies.py and tools/cases read.
 
-A file NAME.edits lists the wrong bodies of a crate, or of a source file. Each line is a word, a colon and a text:
+A file NAME.edits lists the wrong bodies of a crate, or of a package. Each line is a word, a colon and a text:
 
     file: PATH      the file that the wrong bodies below change, until the next such line
     crate: NAME     the crate that this file is in, where it is not plain from the folder

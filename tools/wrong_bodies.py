@@ -1,8 +1,8 @@
 """Wrong bodies of code that nobody proves: for each, the test that it names must fail.
 
-go/wrong/run, packages/page/wrong/run and packages/python/wrong/run say what their language needs, and this does the rest. The file
-wrong/PATH.edits of a language's folder lists those of its file PATH. tools/edits.py has the form; here each has a line
-'why:', and a line 'test:' for each test that must catch it.
+go/wrong/run, packages/page/wrong/run and packages/python/wrong/run say what their language needs, and this does the rest. A file
+NAME.edits in wrong/ of a language's folder lists those of a package, by the file that each changes; Go has one list for each of
+its packages. tools/edits.py has the form; here each has a line 'why:', and a line 'test:' for each test that must catch it.
 
 It is caught where a test fails. It is not caught where all its tests pass (it survived), where they don't end in time (it
 hangs), or where the program does not compile with it, which says nothing of the test. All named tests must pass without a
