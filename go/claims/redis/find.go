@@ -418,12 +418,22 @@ func (s *Store) leaveWatched(w *watched) {
 	w.conn = nil
 }
 
+// isAlone says whether no other server can take over, but in a Cluster, which sees to that. The caller has the lock.
+func (s *Store) isAlone() bool { return s.cluster || len(s.servers) == 1 && s.servers[0].service == "" }
+
+// isUnwatched says whether the last look at all servers is too old for what one of them answers to count.
+func (s *Store) isUnwatched() bool {
+	s.mu.Lock()
+	defer s.mu.Unlock()
+	return !s.isAlone() && s.now().Since(s.looked) > mostAge
+}
+
 // watch sees that no two servers say that they are the primary, and that no other one has taken over.
 func (s *Store) watch(ctx context.Context) error {
 	s.mu.Lock()
-	cluster := s.cluster
+	begun, alone := s.now(), s.isAlone()
 	s.mu.Unlock()
-	if cluster || len(s.servers) == 1 && s.servers[0].service == "" {
+	if alone {
 		return nil
 	}
 	var primaries []string
@@ -450,9 +460,36 @@ func (s *Store) watch(ctx context.Context) error {
 	}
 	s.mu.Lock()
 	defer s.mu.Unlock()
-	s.fault = fault
+	if fault == nil && ctx.Err() != nil { // (who does not answer in that time may be the primary)
+		return ctx.Err()
+	}
+	s.fault, s.looked = fault, begun
 	if len(primaries) == 1 && s.at != "" && s.at != primaries[0] { // (another one has taken over)
 		s.at = ""
 	}
 	return fault
+}
+
+// stays is nil if a connection's server still is the primary, once it has answered a call that began then: else who was away meanwhile would see that
+// later than the answer.
+func (s *Store) stays(ctx context.Context, c *conn, begun clocks.Moment) error {
+	unwatched := s.isUnwatched()
+	if !unwatched && s.now().Since(begun) <= s.options.Wait/3 {
+		return nil
+	}
+	_, err := c.do(ctx, cmd("TIME")) // (it may be gone by now)
+	if err == nil && unwatched {
+		err = s.watch(ctx)
+	}
+	s.mu.Lock()
+	defer s.mu.Unlock()
+	switch {
+	case err != nil:
+		return err
+	case s.fault != nil:
+		return s.fault
+	case !s.isAlone() && s.at != c.address:
+		return errMeanwhile
+	}
+	return nil
 }

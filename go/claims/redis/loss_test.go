@@ -268,6 +268,93 @@ func TestAServerThatIsAskedAfterASuspension(t *testing.T) {
 	}
 }
 
+// A replica becomes a primary while the computer is suspended, and the old primary goes on as one. What it answers who wakes up does not count, and neither
+// does what it answered to a call that was under way.
+func TestAnOldPrimaryAfterASuspension(t *testing.T) {
+	t.Parallel()
+	primary := start(t)
+	replica := startReplica(t, primary)
+	put := func(s *Store) error {
+		found := make([]claims.Found, 1)
+		s.Put(limited(t), []claims.Claim{claim(60)}, found)
+		return found[0].Err
+	}
+	rows := []struct {
+		what  string
+		looks int32 // at the clock, before the computer is suspended
+		call  func(s *Store) error
+	}{
+		{"a claim", 0, put},
+		{"a claim that has begun", 1, put},
+		{"a claim that has a connection", 2, put},
+		{"a claim that was sent", 3, put},
+		{"a withdrawal", 0, func(s *Store) error {
+			_, err := s.Withdraw(limited(t), claims.Withdrawal{Key: claim(1).Key, Expires: claim(60).Expires})
+			return err
+		}},
+		{"withdrawals", 0, func(s *Store) error {
+			_, _, err := s.Withdrawals(limited(t), "")
+			return err
+		}},
+	}
+	members := make([]*Store, len(rows))
+	for i := range rows {
+		members[i] = openedOwn(t, Options{URLs: []string{primary.URL, replica.URL}})
+		claimstest.Put(t, members[i], claim(60))
+	}
+	replica.do(t, "REPLICAOF", "NO", "ONE")
+	for i, row := range rows {
+		var looks atomic.Int32
+		members[i].now = func() clocks.Moment {
+			now := clocks.Now()
+			if looks.Add(1) > row.looks {
+				now.Wall += time.Hour
+			}
+			return now
+		}
+		if err := row.call(members[i]); err == nil || !strings.Contains(err.Error(), "both that they are the primary") {
+			t.Errorf("%s: %v", row.what, err)
+		}
+	}
+}
+
+// A call that took long does not count where another server has taken over meanwhile. Of a server that is alone it does.
+func TestAnAnswerOfAServerThatWasReplaced(t *testing.T) {
+	t.Parallel()
+	primary := start(t)
+	replica := startReplica(t, primary)
+	for _, urls := range [][]string{{primary.URL, replica.URL}, {primary.URL}} {
+		s := openedOwn(t, Options{URLs: urls})
+		claimstest.Put(t, s, claim(60))
+		c, err := s.take(limited(t), s.shards)
+		if err != nil {
+			t.Fatal(err)
+		}
+		s.lost()
+		if err := s.stays(limited(t), c, clocks.Moment{}); (err == errMeanwhile) != (len(urls) > 1) || err != nil && len(urls) == 1 {
+			t.Errorf("of %d servers: %v", len(urls), err)
+		}
+		s.leave(c, nil)
+	}
+}
+
+// A look that has no time says nothing: the next claim looks again.
+func TestALookThatHasNoTime(t *testing.T) {
+	t.Parallel()
+	primary := start(t)
+	replica := startReplica(t, primary)
+	s := openedOwn(t, Options{URLs: []string{primary.URL, replica.URL}})
+	s.now = func() clocks.Moment { return clocks.Moment{Wall: clocks.Now().Wall + time.Hour} }
+	ctx, cancel := context.WithCancel(context.Background())
+	cancel()
+	if err := s.watch(ctx); err == nil || !s.isUnwatched() {
+		t.Errorf("it counts: %v", err)
+	}
+	if err := s.watch(limited(t)); err != nil || s.isUnwatched() {
+		t.Errorf("one that has time does not: %v", err)
+	}
+}
+
 // A primary becomes a replica of a server that lacks entries, and a primary again. Connections outlive that.
 func TestAPrimaryThatWasAReplica(t *testing.T) {
 	t.Parallel()

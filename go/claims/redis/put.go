@@ -114,6 +114,7 @@ func (s *Store) putPart(ctx context.Context, p *part, these []claims.Claim, foun
 			found[i] = claims.Found{Err: err}
 		}
 	}
+	begun := s.now()
 	c, err := s.take(ctx, p.shards)
 	if err != nil {
 		set(err)
@@ -121,17 +122,17 @@ func (s *Store) putPart(ctx context.Context, p *part, these []claims.Claim, foun
 	}
 	known := make([]sent, len(p.shards))
 	s.mu.Lock()
-	begun := s.now()
+	now := s.now()
 	for i, it := range p.shards {
-		known[i] = sent{it.record, it.clock.store + uint64(begun.Since(it.clock.own)/time.Second), it.claimed}
+		known[i] = sent{it.record, it.clock.store + uint64(now.Since(it.clock.own)/time.Second), it.claimed}
 	}
 	s.mu.Unlock()
 	again, err := s.putNew(ctx, c, p, known, these, found)
 	if err == nil && len(again) > 0 {
 		err = s.readOthers(ctx, c, p, again, known, these, found)
 	}
-	if err == nil && s.now().Since(begun) > s.options.Wait/3 {
-		_, err = c.do(ctx, cmd("TIME")) // (the server may be gone by now, and a member that was away would see that later than its answer)
+	if err == nil {
+		err = s.stays(ctx, c, begun)
 	}
 	if err != nil {
 		set(err)

@@ -40,6 +40,8 @@ const (
 	turnWait   = time.Second     // for which a claim tries at first to reach a server, and to compare with it
 	shardCount = 16              // of a Cluster
 	mostKnown  = 64              // entries that each look asks for: as many calls of a member are under way together at most
+	// The age of the last look at all servers, if what one of them answers is to count. (Until then another one that has taken over compares.)
+	mostAge = usualWait - 100*time.Millisecond
 )
 
 // Options say which store a group has.
@@ -75,6 +77,7 @@ type Store struct {
 	idle    map[string][]*conn
 	checked map[string]checked // by run
 	fault   error              // why nothing may be put
+	looked  clocks.Moment      // when the last look at all servers began
 	watched map[string]*watched
 }
 
@@ -269,7 +272,13 @@ func (s *Store) take(ctx context.Context, shards []*shard) (c *conn, err error) 
 			return nil, fault
 		}
 		isLate := false
-		if c, err = s.idleOne(shards[0]); c == nil && err == nil {
+		if c, err = nil, nil; s.isUnwatched() {
+			isLate = within(ctx, most, func(ctx context.Context) { err = s.watch(ctx) })
+		}
+		if err == nil {
+			c, err = s.idleOne(shards[0])
+		}
+		if c == nil && err == nil {
 			isLate = within(ctx, most, func(ctx context.Context) { c, err = s.connect(ctx, shards[0]) })
 		}
 		if err == nil {

@@ -219,6 +219,7 @@ class Servers {
   #all;
   #kept = new Map();
   #primary;
+  #looked; // when the look began that found it
   #looking = new Shared();
   #ranges; // where the slots of a Cluster are
   #locating = new Shared();
@@ -302,24 +303,31 @@ class Servers {
     }
   }
 
-  /** The primary, by the last look. */
+  /** The primary, by the last look: if that is not too old, since another server that has taken over compares until then. */
   async primary(end) {
-    return this.#primary ?? this.look(end);
+    return this.#primary && (this.#isAlone || !isOver(MOST_AGE, this.#looked)) ? this.#primary : this.look(end);
   }
 
   /** Asks all servers which one is the primary. */
   async look(end) {
-    if (this.#all.length === 1 && !this.#all[0].service) return (this.#primary = this.#all[0]);
+    if (this.#isAlone) return (this.#primary = this.#all[0]);
     return this.#looking.within(end, () => Math.min(end, now() + said.ASK_WAIT, (now() + end) / 2), (last) => this.#find(last));
+  }
+
+  get #isAlone() {
+    return this.#all.length === 1 && !this.#all[0].service;
   }
 
   async #find(end) {
     this.#primary = undefined;
-    const answers = await Promise.all(this.#all.map((it) => this.#asked(it, end).catch((why) => why)));
+    const begun = momentOf(), answers = await Promise.all(this.#all.map((it) => this.#asked(it, end).catch((why) => why)));
     const found = new Map(answers.filter((it) => it instanceof Server).map((it) => [it.name, it]));
     if (found.size > 1) throw new StoreFault(this.#all[0].service ? "sentinels" : "primaries", `: ${[...found.keys()].join(" and ")}`);
     if (!found.size) throw new StoreFault("server", answers.map((it) => brief(String(it.message))).join("; "));
+    const hadTime = isOver(said.ASK_WAIT / 2, begun);
+    if (!hadTime && answers.some((it) => it.reason === "silent")) throw new StoreFault("silent"); // (who does not answer may be the primary)
     [this.#primary] = found.values();
+    this.#looked = begun;
     return this.#primary;
   }
 
@@ -547,6 +555,7 @@ export class Member {
   /** Calls a script for shards of one server, once these were looked at. Says what was known then, too. */
   #call(name, values, end) {
     this.#stays();
+    const begun = momentOf();
     return this.#with(values, end, async (one) => {
       for (;;) {
         const others = [...values.keys()].filter((it) => it.agreed !== one.at.name);
@@ -554,8 +563,11 @@ export class Member {
           await this.#agree(one, others, end);
           continue;
         }
-        const calls = new Map([...values].map(([it, its]) => [it, { known: it.known, values: its }])), begun = momentOf(), answers = await this.#run(one, name, calls, end);
-        if (isOver(this.#compare / 3, begun)) await one.checked([["TIME"]], end); // (the server may be gone, and who was away would see that later than its answer)
+        const calls = new Map([...values].map(([it, its]) => [it, { known: it.known, values: its }])), answers = await this.#run(one, name, calls, end);
+        if (isOver(this.#compare / 3, begun)) { // (the server may be gone, or another one the primary: who was away would see that later than its answer)
+          await one.checked([["TIME"]], end);
+          if ((await this.#serverOf(values, end)).name !== one.at.name) throw new StoreFault("run");
+        }
         const what = answers.map((it) => String(it[0]));
         [...values.keys()].forEach((it, n) => what[n] !== "ok" && (it.agreed = ""));
         const fault = what.find((it) => it !== "ok" && it !== "look");

@@ -491,6 +491,64 @@ test("a server whose answer came over a suspension is asked whether it is still 
     }
   }));
 
+test("what an old primary answers after a suspension does not count", (t) =>
+  withServer((old) =>
+    withServer(async (next) => {
+      const connected = redis.createClient, hour = 3_600_000, key = Buffer.from(claim(2).key);
+      const calls = {
+        put: async (member) => (await member.put([claim(1)], end()))[0].reason,
+        withdraw: (member) => member.withdraw(key, claim(2).expires, end()).catch((why) => why.reason),
+        withdrawals: (member) => member.withdrawals("", end()).catch((why) => why.reason),
+      };
+      let wall = Date.now(), answered = () => {};
+      t.mock.method(Date, "now", () => wall);
+      t.mock.method(redis, "createClient", (options) => {
+        const client = connected(options), send = client.sendCommand.bind(client);
+        client.sendCommand = async (words, ...more) => {
+          const answer = await send(words, ...more);
+          if (words[0] === "EVALSHA") await answered();
+          return answer;
+        };
+        return client;
+      });
+      const replace = () => next.told("REPLICAOF", "NO", "ONE"), suspend = () => (wall += hour);
+      const member = memberOf(old.url, next.url), begun = async () => {
+        answered = () => {};
+        await next.told("REPLICAOF", "127.0.0.1", "1");
+        await looked(member);
+        await until(async () => (await member.put([claim(1)], end()))[0].owner);
+      };
+      for (const [name, call] of Object.entries(calls)) {
+        await begun();
+        await replace();
+        suspend();
+        assert.equal(await call(member), "primaries", name);
+        await begun();
+        await replace();
+        answered = suspend;
+        assert.equal(await call(member), "primaries", `${name} that was sent`);
+      }
+      await begun();
+      answered = async () => {
+        suspend();
+        await old.told("REPLICAOF", "127.0.0.1", "1");
+        await replace();
+      };
+      assert.equal(await calls.put(member), "run", "a server that was replaced");
+    })));
+
+test("a look at servers that has no time says nothing: who does not answer may be the primary", () =>
+  withServer((one) =>
+    withServer(async (other) => {
+      await other.told("REPLICAOF", "127.0.0.1", "1");
+      const member = memberOf(one.url, other.url);
+      await looked(member);
+      await other.paused(async () => {
+        await assert.rejects(member.look(performance.now() + 200), StoreFault);
+        await looked(member);
+      });
+    })));
+
 test("after a suspension a server is asked by a new connection, since the old one may have ended", (t) =>
   withServer(async (machine) => {
     const connected = redis.createClient, made = [], hour = 3_600_000;

@@ -436,6 +436,7 @@ class RedisStore(GroupStore):
         Says what was known then, too.
         """
         self._same_process()
+        begun = Moment.now()
         with self._connection(values, end) as one:
             while True:
                 with self._lock:
@@ -445,11 +446,13 @@ class RedisStore(GroupStore):
                 if others:
                     self._agree(one, others, end)
                     continue
-                begun = Moment.now()
                 answers = self._run(one, name, calls, end)
                 if begun.until(Moment.now()) * 3000 > self._compare_wait:
-                    # (it may be gone, and who was away would see that later than its answer)
+                    # (it may be gone, or another one the primary by now: who was away would see
+                    # that later than its answer)
                     one.checked([("TIME",)], end)
+                    if self._server_of(values, end) != one.at:
+                        raise StoreFault("run")
                 for it, answer in zip(values, answers):
                     if answer[0] == b"ok":
                         continue
@@ -804,18 +807,25 @@ class _Servers:
         if len({it.service == "" for it in self._all}) > 1:
             raise ValueError("either all addresses are those of Sentinels, or none is")
         self.replicas = max(it.replicas for it in self._all)
+        self._is_alone = len(self._all) == 1 and not self._all[0].service
         self._ends = ends
         self._looking = threading.Lock()
         self._kept: list[_Connection | None] = [None] * len(self._all)
         self._last = [Moment.now()] * len(self._all)  # when each of these was used
         self._asking: list[threading.Thread | None] = [None] * len(self._all)
         self._primary: _Server | None = None
+        self._looked = Moment.now()  # when the look began that found it
         self._first = 0  # which server of a Cluster is asked first
         self._ranges: list[tuple[int, int, _Server]] | None = None  # where the slots are
 
     def primary(self, end: float) -> _Server:
         """The primary, by the last look."""
-        return self._primary or self.look(end, fresh=False)
+        return self._by_last_look() or self.look(end, fresh=False)
+
+    def _by_last_look(self) -> _Server | None:
+        """None where that is too old: another server that has taken over compares until then."""
+        is_old = self._looked.until(Moment.now()) * 1000 > MOST_AGE
+        return None if is_old and not self._is_alone else self._primary
 
     def lost(self) -> None:
         """Lets the next call look where the servers are."""
@@ -906,16 +916,21 @@ class _Servers:
         Unless fresh, it takes what another thread has found meanwhile: else each of many calls
         would wait for the looks of all others.
         """
-        if len(self._all) == 1 and not self._all[0].service:
+        if self._is_alone:
             self._primary = self._all[0]
             return self._primary
         if not self._looking.acquire(timeout=max(0, end - time.monotonic())):
             raise StoreFault("silent")
         try:
-            found = None if fresh else self._primary
+            found = None if fresh else self._by_last_look()
             if found is None:
                 self._primary = None  # (until it is known, nobody puts anything)
-                self._primary = found = self._found(self._ask(end))
+                begun = Moment.now()
+                found = self._found(answers := self._ask(end))
+                had_time = begun.until(Moment.now()) * 2000 >= _scripts.ASK_WAIT
+                if not had_time and any(getattr(it, "name", "") == "silent" for it in answers):
+                    raise StoreFault("silent")  # (who does not answer may be the primary)
+                self._primary, self._looked = found, begun
             return found
         finally:
             self._looking.release()

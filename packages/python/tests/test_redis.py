@@ -424,6 +424,78 @@ def test_an_answer_of_a_server_that_is_gone_after_a_suspension(machine, monkeypa
             store.put([claim(2)])
 
 
+@contextlib.contextmanager
+def beside(tmp_path):
+    """A server that is a replica of none."""
+    other = Machine(tmp_path / "other")
+    try:
+        other.client().replicaof("127.0.0.1", "1")
+        yield other
+    finally:
+        other.kill()
+
+
+@pytest.mark.parametrize("is_sent", [False, True])
+@pytest.mark.parametrize("call", ["put", "withdraw", "withdrawals"])
+def test_an_old_primary_after_a_suspension(machine, tmp_path, monkeypatch, call, is_sent):
+    """Another server has taken over meanwhile. What the old one answers does not count."""
+    clocks = Clocks(monkeypatch)
+    with beside(tmp_path) as other, unwatched(machine.url, other.url) as store:
+        put(store, claim(1))
+        other.client().replicaof("NO", "ONE")
+        run, (one,) = store._run, [claim(2)]
+
+        def suspended(*given):
+            answers = run(*given)
+            clocks.wall += 100
+            return answers
+
+        if is_sent:
+            store._run = suspended
+        else:
+            clocks.wall += 100
+        calls = {
+            "put": lambda: store.put([one]),
+            "withdraw": lambda: store.withdraw(one.key, one.expires),
+            "withdrawals": store.withdrawals,
+        }
+        with pytest.raises(StoreFault) as fault:
+            calls[call]()
+        assert fault.value.name == "primaries"
+
+
+def test_an_answer_of_a_server_that_was_replaced(machine, tmp_path, monkeypatch):
+    """It does not count, where the call took long."""
+    clocks = Clocks(monkeypatch)
+    with beside(tmp_path) as other, unwatched(machine.url, other.url) as store:
+        put(store, claim(1))
+        run = store._run
+
+        def suspended(one, name, *rest):
+            answers = run(one, name, *rest)
+            if name == "put":
+                clocks.wall += 100
+                machine.client().replicaof("127.0.0.1", "1")
+                other.client().replicaof("NO", "ONE")
+            return answers
+
+        store._run = suspended
+        with pytest.raises(StoreFault) as fault:
+            store.put([claim(2)])
+        assert fault.value.name == "run"
+
+
+def test_a_look_that_has_no_time_says_nothing(machine, tmp_path):
+    """Who does not answer may be the primary."""
+    with beside(tmp_path) as other, unwatched(machine.url, other.url) as store:
+        put(store, claim(1))
+        with other.paused():
+            store._servers.lost()
+            with pytest.raises(StoreFault):
+                store._servers.primary(time.monotonic() + 0.2)
+            put(store, claim(1))
+
+
 def test_a_look_that_a_late_answer_overtook(machine):
     """An answer of an earlier run may come meanwhile. Another look compares what that put."""
     with unwatched(machine.url) as store:
