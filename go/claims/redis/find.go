@@ -418,12 +418,43 @@ func (s *Store) leaveWatched(w *watched) {
 	w.conn = nil
 }
 
+// confirm says whether the answers to a call count that began at a time. While the computer was suspended the server may have gone, or another one may
+// have taken over, and this member would see that later than the answers. So where the call took long, the server is asked once more. And where the last
+// look at all servers is older than the time for which a new primary waits, they are looked at first.
+func (s *Store) confirm(ctx context.Context, c *conn, begun clocks.Moment) error {
+	if s.now().Since(begun) > s.options.Wait/3 {
+		if _, err := c.do(ctx, cmd("TIME")); err != nil {
+			return err
+		}
+	}
+	s.mu.Lock()
+	isOld := s.hasOthers() && s.now().Since(s.looked) > s.options.Wait-s.options.Wait/30
+	s.mu.Unlock()
+	if !isOld {
+		return nil
+	}
+	if err := s.watch(ctx); err != nil {
+		return err
+	}
+	s.mu.Lock()
+	defer s.mu.Unlock()
+	if s.at != c.address {
+		return errMeanwhile
+	}
+	return nil
+}
+
+// hasOthers says whether another server may take over that this member is to look for. The caller has the lock.
+func (s *Store) hasOthers() bool {
+	return !s.cluster && (len(s.servers) > 1 || s.servers[0].service != "")
+}
+
 // watch sees that no two servers say that they are the primary, and that no other one has taken over.
 func (s *Store) watch(ctx context.Context) error {
 	s.mu.Lock()
-	cluster := s.cluster
+	begun, due := s.now(), s.hasOthers()
 	s.mu.Unlock()
-	if cluster || len(s.servers) == 1 && s.servers[0].service == "" {
+	if !due {
 		return nil
 	}
 	var primaries []string
@@ -450,7 +481,7 @@ func (s *Store) watch(ctx context.Context) error {
 	}
 	s.mu.Lock()
 	defer s.mu.Unlock()
-	s.fault = fault
+	s.fault, s.looked = fault, begun
 	if len(primaries) == 1 && s.at != "" && s.at != primaries[0] { // (another one has taken over)
 		s.at = ""
 	}

@@ -204,6 +204,15 @@ func TestTooFewReplicas(t *testing.T) {
 	claimstest.Refuses(t, newStore(t, Options{URLs: []string{s.URL + "?replicas=2"}}), "replicas have it, and 1 must")
 }
 
+// A server that is named twice is one server.
+func TestAServerThatIsNamedTwice(t *testing.T) {
+	t.Parallel()
+	s := start(t)
+	a := openedOwn(t, Options{URLs: []string{s.URL, s.URL}})
+	put(t, a, 1)
+	claimstest.State(t, a)
+}
+
 // Two servers say that they are the primary: nobody accepts anything, and all goes on once one of them is a replica again.
 func TestTwoPrimaries(t *testing.T) {
 	t.Parallel()
@@ -266,6 +275,57 @@ func TestAServerThatIsAskedAfterASuspension(t *testing.T) {
 		}
 		return
 	}
+}
+
+// While the computer is suspended another server takes over, and the primary of before is still there when the member goes on. A claim does not count at that
+// one before all servers were looked at.
+func TestAClaimAfterASuspension(t *testing.T) {
+	t.Parallel()
+	suspended := time.Duration(0)
+	try := func(a *Store) error {
+		suspended += time.Hour
+		a.now = func() clocks.Moment { return clocks.Moment{Wall: clocks.Now().Wall + suspended} }
+		found := make([]claims.Found, 1)
+		a.Put(limited(t), []claims.Claim{claim(1)}, found)
+		return found[0].Err
+	}
+	primary := start(t)
+	replica := startReplica(t, primary)
+	a := openedOwn(t, Options{URLs: []string{primary.URL, replica.URL}})
+	put(t, a, 1)
+	replica.do(t, "REPLICAOF", "NO", "ONE")
+	for n := 0; ; n++ {
+		err := try(a)
+		if err != nil && strings.Contains(err.Error(), "both that they are the primary") {
+			break
+		}
+		if n == 20 { // (a busy server may not answer in time)
+			t.Fatalf("a claim at one of two primaries: %v", err)
+		}
+	}
+	o := twoSentinels(t)
+	b := openedOwn(t, Options{URLs: o.URLs[:1]})
+	put(t, b, 1)
+	b.servers = newOwn(t, Options{URLs: o.URLs[1:]}).servers // (as if it named the other server by now)
+	if err := try(b); !errors.Is(err, errMeanwhile) {
+		t.Errorf("a claim at a server that is the primary no more: %v", err)
+	}
+}
+
+// A token is withdrawn again until later. Its entry goes when the first withdrawal ends, and nobody takes that for a loss.
+func TestATokenThatIsWithdrawnAgain(t *testing.T) {
+	t.Parallel()
+	s := start(t)
+	a, b := openedOwn(t, Options{URLs: []string{s.URL}}), openedOwn(t, Options{URLs: []string{s.URL}})
+	before := claimstest.State(t, a)
+	w := withdrawal()
+	claimstest.Withdraw(t, a, w)
+	w.Expires += 1000
+	if owner := claimstest.Withdraw(t, b, w); owner != claims.Withdrawn {
+		t.Errorf("%x", owner)
+	}
+	s.do(t, "DEL", keyOf(claims.Claim{Key: w.Key})) // (as the server does by itself then)
+	stays(t, before, b)
 }
 
 // A primary becomes a replica of a server that lacks entries, and a primary again. Connections outlive that.
@@ -580,6 +640,13 @@ func TestAClockThatIsADayOff(t *testing.T) {
 	f := claimstest.Put(t, late, c)[0]
 	if f.Deaf < claimstest.Now()+day-10 || claimstest.Judge(c, f, 60) == claimstest.Mine {
 		t.Errorf("%+v", f)
+	}
+	set(day)
+	before = claimstest.State(t, late)
+	s.do(t, "DEL", "svid:{svid}:seen") // (what all have seen; each one still knows what it has seen itself)
+	set(0)
+	if is := claimstest.State(t, late); is.Epoch == before.Epoch {
+		t.Errorf("%+v, and before %+v", is, before)
 	}
 }
 

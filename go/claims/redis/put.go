@@ -130,8 +130,8 @@ func (s *Store) putPart(ctx context.Context, p *part, these []claims.Claim, foun
 	if err == nil && len(again) > 0 {
 		err = s.readOthers(ctx, c, p, again, known, these, found)
 	}
-	if err == nil && s.now().Since(begun) > s.options.Wait/3 {
-		_, err = c.do(ctx, cmd("TIME")) // (the server may be gone by now, and a member that was away would see that later than its answer)
+	if err == nil {
+		err = s.confirm(ctx, c, begun)
 	}
 	if err != nil {
 		set(err)
@@ -286,7 +286,8 @@ func (p *part) note(at uint64, indexes []int, answers []any, these []claims.Clai
 	for k, n := range indexes {
 		c, m := &these[p.claims[n]], p.of[n]
 		until := svid.StaysUntil(c.Expires, known[m].record.terms.Margin)
-		if isOwn := answers[k] == "OK" || textOf(answers[k]) == string(c.Owner[:]); isOwn && until > at+1 {
+		isOwn := answers[k] == "OK" || c.Owner != claims.Withdrawn && textOf(answers[k]) == string(c.Owner[:]) // (a withdrawal of before may end earlier)
+		if isOwn && until > at+1 {
 			own[m] = append(own[m], evidence{p.shards[m].key(c), c.Owner, until})
 		}
 	}

@@ -75,6 +75,7 @@ type Store struct {
 	idle    map[string][]*conn
 	checked map[string]checked // by run
 	fault   error              // why nothing may be put
+	looked  clocks.Moment      // when the last look began at all servers, where there are others than the primary
 	watched map[string]*watched
 }
 
@@ -160,11 +161,20 @@ func New(o Options) (*Store, error) {
 		if err == nil {
 			_, err = one.tls()
 		}
-		if err == nil && (one.service == "") != (i == 0 && one.service == "" || i > 0 && s.servers[0].service == "") {
+		if err == nil && i > 0 && (one.service == "") != (s.servers[0].service == "") {
 			err = errors.New("either all addresses are those of Sentinels, or none is")
+		}
+		isKnown := false
+		for _, other := range s.servers {
+			if isKnown = isKnown || one == other; err == nil && one != other && one.address == other.address {
+				err = errors.New("one before it leads to the same server in another way: name each server once")
+			}
 		}
 		if err != nil {
 			return nil, fmt.Errorf("address %d: %w", i+1, err)
+		}
+		if isKnown {
+			continue
 		}
 		if one.replicas-1 > s.replicas {
 			s.replicas = one.replicas - 1

@@ -88,6 +88,10 @@ OTHERS = {
     "TestAContextThatEndsLater",
     "TestPasswordsOfSentinels",
     "TestWhatIsAskedOnceLeavesNothing",
+    "TestAServerWhoseConnectionsEnd",
+    "TestAServerThatIsNamedTwice",
+    "TestAClaimAfterASuspension",
+    "TestATokenThatIsWithdrawnAgain",
 }
 
 
