@@ -642,10 +642,11 @@ func TestAClockThatIsADayOff(t *testing.T) {
 		t.Errorf("%+v", f)
 	}
 	set(day)
-	before = claimstest.State(t, late)
+	other := opened(t, o)
+	before = claimstest.State(t, other)
 	s.do(t, "DEL", "svid:{svid}:seen") // (what all have seen; each one still knows what it has seen itself)
 	set(0)
-	if is := claimstest.State(t, late); is.Epoch == before.Epoch {
+	if is := claimstest.State(t, other); is.Epoch == before.Epoch {
 		t.Errorf("%+v, and before %+v", is, before)
 	}
 }
