@@ -737,6 +737,9 @@ func TestManyCallersShareOneSync(t *testing.T) {
 			t.Error(err)
 		}
 	}
+	var once sync.Once
+	release := func() { once.Do(func() { close(proceed) }); all.Wait() }
+	t.Cleanup(release)
 	all.Add(1)
 	go appends(0)
 	<-begun
@@ -750,8 +753,7 @@ func TestManyCallersShareOneSync(t *testing.T) {
 		defer j.gather.Unlock()
 		return j.gathering != nil && len(j.gathering.messages) >= callers*82
 	})
-	close(proceed)
-	all.Wait()
+	release()
 	if syncs != 2 {
 		t.Errorf("%d syncs for 1 caller and then %d at once, want 2", syncs, callers)
 	}

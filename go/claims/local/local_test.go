@@ -246,6 +246,7 @@ func TestAFolderThatTakesNothingIsSeen(t *testing.T) {
 // What is over takes no memory, however long the store runs.
 func TestWhatIsOverTakesNoMemory(t *testing.T) {
 	dir, c := filepath.Join(t.TempDir(), "claims"), newClock()
+	c.at.Store(c.at.Load() / 60 * 60)
 	s := open(t, dir, c)
 	heap := func() int {
 		runtime.GC()
@@ -262,8 +263,10 @@ func TestWhatIsOverTakesNoMemory(t *testing.T) {
 			if s.Put(context.Background(), these, found); found[0].Err != nil {
 				t.Fatal(found[0].Err)
 			}
-			c.at.Add(3600)
-			claimstest.State(t, s)
+			for _, seconds := range []uint64{terms.Margin + 20, 3580 - terms.Margin} { // (in the minute in which they are over, and before that; and later)
+				c.at.Add(seconds)
+				claimstest.State(t, s)
+			}
 		}
 	}
 	hours(20)

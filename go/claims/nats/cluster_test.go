@@ -209,6 +209,17 @@ func TestEachServerIsRestartedInTurn(t *testing.T) {
 	}
 	first.Owner = claimstest.Own(99)
 	wantOwner(t, claimstest.Put(t, late, first)[0], claimstest.Own(0))
+	isSteady := func(s *Store) bool {
+		s.settleMu.Lock()
+		defer s.settleMu.Unlock()
+		return s.settling == nil && s.steady == s.unsteady.Load()
+	}
+	for n := 0; !isSteady(members[0]); n++ { // (a busy server may not answer in time)
+		if n == 20 {
+			t.Fatal("each look waits for members that may miss claims, though no server was away since the last one")
+		}
+		claimstest.State(t, members[0])
+	}
 }
 
 // areCurrent says whether all servers have all of a group's streams.

@@ -169,6 +169,17 @@ func TestAnAnswerThatNeverComes(t *testing.T) {
 	wantOwner(t, claimstest.Put(t, a, one(1))[0], claimstest.Own(1))
 	cancel()
 	<-ended
+	const wait, attempts = 5 * time.Millisecond, 8
+	var asked []time.Time
+	a.eachWithin(patient(t), wait, 1, func(int) question {
+		asked = append(asked, time.Now())
+		return question{"silent", nil, nil}
+	}, func(int, *client.Msg, error) bool { return len(asked) < attempts })
+	for n := 1; n < len(asked); n++ {
+		if waited := asked[n].Sub(asked[n-1]); waited < wait<<(n-1) { // (else a server that is slow would be asked the more)
+			t.Errorf("attempt %d waited for %v", n, waited)
+		}
+	}
 	a.mu.Lock()
 	defer a.mu.Unlock()
 	if len(a.waiting) != 0 {
@@ -625,6 +636,35 @@ func TestLastsIsRaisedInTheEpochThatIs(t *testing.T) {
 			t.Errorf("%+v, and before %+v: %d s", is, next, s.known.Load().Lasts)
 		}
 	}
+}
+
+// An operator lets the streams keep all for ever. They still do once a member comes whose tokens live for longer.
+func TestAStreamThatKeepsAllForEver(t *testing.T) {
+	t.Parallel()
+	m := newMachine(t)
+	o := claimstest.Options{Name: "ever", Terms: claimstest.Usual}
+	a := open(t, m, o)
+	js := admin(t, m.URL)
+	for _, k := range []kind{ofClaims, ofWithdrawals} {
+		i, err := js.StreamInfo(a.stream(k))
+		if err == nil {
+			i.Config.MaxAge, i.Config.Duplicates = 0, 0
+			_, err = js.UpdateStream(&i.Config)
+		}
+		if err != nil {
+			t.Fatal(err)
+		}
+	}
+	o.Terms.Lasts += 60
+	b := open(t, m, o)
+	for _, k := range []kind{ofClaims, ofWithdrawals} {
+		if i, err := js.StreamInfo(a.stream(k)); err != nil || i.Config.MaxAge != 0 {
+			t.Errorf("%s keeps its entries for %v (%v)", a.stream(k), i.Config.MaxAge, err)
+		}
+	}
+	c := one(1)
+	c.Expires = claimstest.State(t, b).Time + o.Terms.Lasts
+	wantOwner(t, claimstest.Put(t, b, c)[0], c.Owner)
 }
 
 // A server that lags lacks the last withdrawals. They are read from another one. Nobody waits for one that has expired meanwhile. (The test answers in the place of JetStream.)
@@ -1192,6 +1232,28 @@ func TestATokenThatLivesTooLong(t *testing.T) {
 	wantOwner(t, found[1], fine.Owner)
 	c.Owner, c.Expires = claimstest.Own(2), claimstest.Now()+3000
 	wantOwner(t, claimstest.Put(t, b, c)[0], c.Owner)
+}
+
+// A member that lies may put the entry of another one's token early. It does not count where it leaves while a member may still accept the token.
+func TestAnEntryThatLeavesTooEarly(t *testing.T) {
+	c := one(1)
+	k := &known{record: record{Margin: 120}, age: 2 * time.Hour}
+	due := time.Unix(int64(c.Expires+k.Margin), 0).Add(-k.age) // (then it leaves when nobody can accept the token any more)
+	for _, row := range []struct {
+		owner claims.Owner
+		put   time.Time
+		isBad bool
+	}{
+		{c.Owner, due, false},
+		{c.Owner, due.Add(-time.Second), true},
+		{c.Owner, due.Add(-2 * time.Minute), true},
+		{claimstest.Own(2), due.Add(-time.Hour), false},
+		{claims.Withdrawn, due.Add(-time.Hour), false},
+	} {
+		if o := new(Store).found(k, &c, stored{Data: row.owner[:], Time: row.put}); o.owner != row.owner || (o.err != nil) != row.isBad {
+			t.Errorf("put %v before that is due: %+v", due.Sub(row.put), o)
+		}
+	}
 }
 
 // A claim and the question for its time go to a server that is alone in one flight, before it answers.

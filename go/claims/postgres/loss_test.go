@@ -461,6 +461,35 @@ func TestWhatIsOverGoes(t *testing.T) {
 	if is := claimstest.State(t, a); is.Epoch != before.Epoch || is.Deaf != 0 {
 		t.Errorf("%+v, and before %+v", is, before)
 	}
+	s.do(t, "DELETE FROM svid.claim") // (a member whose clock is behind may still accept its token)
+	another(t, before, open(t, Options{URLs: []string{s.URL}, Name: "svid"}))
+}
+
+// A token is withdrawn again until later. Its row goes once the first withdrawal is over, and nobody takes that for a loss.
+func TestATokenThatIsWithdrawnAgain(t *testing.T) {
+	t.Parallel()
+	s := start(t)
+	a, err := New(Options{URLs: []string{s.URL}, Name: "svid", Terms: claimstest.Usual})
+	if err != nil {
+		t.Fatal(err)
+	}
+	defer a.Close()
+	before := claimstest.Open(t, a)
+	w := claims.Withdrawal{Key: claimstest.Key(), Expires: before.Time - claimstest.Usual.Margin - 1}
+	claimstest.Withdraw(t, open(t, Options{URLs: []string{s.URL}, Name: "svid"}), w)
+	w.Expires += 3000
+	if owner := claimstest.Withdraw(t, a, w); owner != claims.Withdrawn {
+		t.Errorf("%x", owner)
+	}
+	logtest.Await(t, "what is over to go", func() bool {
+		if is := claimstest.State(t, a); is.Epoch != before.Epoch {
+			t.Fatalf("%+v, and before %+v", is, before)
+		}
+		return s.Do(`DO $$ BEGIN ASSERT (SELECT count(*) FROM svid.claim) = 0; END $$`) == nil
+	})
+	if is := claimstest.State(t, a); is.Epoch != before.Epoch {
+		t.Errorf("%+v, and before %+v", is, before)
+	}
 }
 
 // A look has its answer in time, however much is over: the looks after it remove the rest.

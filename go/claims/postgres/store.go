@@ -642,15 +642,11 @@ func (s *Store) Withdraw(ctx context.Context, w claims.Withdrawal) (owner claims
 	if err != nil {
 		return owner, err
 	}
-	one := claims.Claim{Key: w.Key, Owner: claims.Withdrawn, Expires: w.Expires}
-	if len(a.rest) == 0 {
-		s.keep(&one, nil, a.epoch)
-		return one.Owner, nil
+	if len(a.rest) > 0 {
+		return cell(a.rest) // (a withdrawal that was there may end earlier than this one, so it is no mark)
 	}
-	if owner, err = cell(a.rest); err == nil && owner == one.Owner {
-		s.keep(nil, []claims.Claim{one}, a.epoch)
-	}
-	return owner, err
+	s.keep(&claims.Claim{Key: w.Key, Owner: claims.Withdrawn, Expires: w.Expires}, nil, a.epoch)
+	return claims.Withdrawn, nil
 }
 
 // Withdrawals is part of claims.Store.

@@ -421,11 +421,12 @@ func (s *Store) leaveWatched(w *watched) {
 // isAlone says whether no other server can take over, but in a Cluster, which sees to that. The caller has the lock.
 func (s *Store) isAlone() bool { return s.cluster || len(s.servers) == 1 && s.servers[0].service == "" }
 
-// isUnwatched says whether the last look at all servers is too old for what one of them answers to count.
+// isUnwatched says whether the last look at all servers is too old for what one of them answers to count: until shortly before, a server that takes over
+// compares.
 func (s *Store) isUnwatched() bool {
 	s.mu.Lock()
 	defer s.mu.Unlock()
-	return !s.isAlone() && s.now().Since(s.looked) > mostAge
+	return !s.isAlone() && s.now().Since(s.looked) > s.options.Wait-s.options.Wait/30
 }
 
 // watch sees that no two servers say that they are the primary, and that no other one has taken over.

@@ -515,6 +515,7 @@ func TestOptions(t *testing.T) {
 		"a part of the margin":           {URLs: []string{"redis://h"}, Name: "x", Terms: claims.Terms{Margin: 1, Back: 2}},
 		"compare for at most":            {URLs: []string{"redis://h"}, Name: "x", Wait: time.Hour},
 		"all addresses are those of Sen": {URLs: []string{"redis://h", "redis+sentinel://h?service=x"}, Name: "x"},
+		"address 2: one before it leads": {URLs: []string{"redis://h/1", "redis://h/2"}, Name: "x"},
 	} {
 		if _, err := New(o); err == nil || !strings.Contains(err.Error(), want) {
 			t.Errorf("%s: %v", want, err)

@@ -112,6 +112,9 @@ func TestABurstLeavesFewConnections(t *testing.T) {
 		s.leave(c, nil)
 	}
 	logtest.Await(t, "the connections to end", func() bool { return server.sockets(t) <= mostIdle+2 })
+	if len(s.open) != mostIdle {
+		t.Errorf("%d connections are kept in mind", len(s.open))
+	}
 }
 
 // A server that is away is asked now and then, and holds up no look at the others.
@@ -137,6 +140,38 @@ func TestAServerThatIsAwayIsAskedNowAndThen(t *testing.T) {
 	}
 	if took := time.Since(from); tried < 1 || tried > 1+int(took/askOthers) {
 		t.Errorf("one that is away was asked %d times in %v: %v", tried, took, faults[1])
+	}
+}
+
+// A server whose connection has ended is asked by another one at the next look: it may be the new primary.
+func TestAServerWhoseConnectionsEnd(t *testing.T) {
+	t.Parallel()
+	l, err := net.Listen("tcp", "127.0.0.1:0")
+	if err != nil {
+		t.Fatal(err)
+	}
+	defer l.Close()
+	go func() {
+		for {
+			c, err := l.Accept()
+			if err != nil {
+				return
+			}
+			c.Close()
+		}
+	}()
+	s := newOwn(t, Options{URLs: []string{"redis+sentinel://" + l.Addr().String() + "?service=a"}})
+	asked, faults := 0, make([]error, 1)
+	for i := 0; i < 5; i++ {
+		s.ask(limited(t), func(ctx context.Context, _ int, c *conn) {
+			asked++
+			if _, err := c.do(ctx, cmd("TIME")); err == nil {
+				t.Error("a connection that has ended answers")
+			}
+		}, faults)
+	}
+	if asked != 5 {
+		t.Errorf("it was asked %d times in 5 looks: %v", asked, faults[0])
 	}
 }
 

@@ -204,6 +204,15 @@ func TestTooFewReplicas(t *testing.T) {
 	claimstest.Refuses(t, newStore(t, Options{URLs: []string{s.URL + "?replicas=2"}}), "replicas have it, and 1 must")
 }
 
+// A server that is named twice is one server.
+func TestAServerThatIsNamedTwice(t *testing.T) {
+	t.Parallel()
+	s := start(t)
+	a := openedOwn(t, Options{URLs: []string{s.URL, s.URL}})
+	put(t, a, 1)
+	claimstest.State(t, a)
+}
+
 // Two servers say that they are the primary: nobody accepts anything, and all goes on once one of them is a replica again.
 func TestTwoPrimaries(t *testing.T) {
 	t.Parallel()
@@ -353,6 +362,22 @@ func TestALookThatHasNoTime(t *testing.T) {
 	if err := s.watch(limited(t)); err != nil || s.isUnwatched() {
 		t.Errorf("one that has time does not: %v", err)
 	}
+}
+
+// A token is withdrawn again until later. Its entry goes when the first withdrawal ends, and nobody takes that for a loss.
+func TestATokenThatIsWithdrawnAgain(t *testing.T) {
+	t.Parallel()
+	s := start(t)
+	a, b := openedOwn(t, Options{URLs: []string{s.URL}}), openedOwn(t, Options{URLs: []string{s.URL}})
+	before := claimstest.State(t, a)
+	w := withdrawal()
+	claimstest.Withdraw(t, a, w)
+	w.Expires += 1000
+	if owner := claimstest.Withdraw(t, b, w); owner != claims.Withdrawn {
+		t.Errorf("%x", owner)
+	}
+	s.do(t, "DEL", keyOf(claims.Claim{Key: w.Key})) // (as the server does by itself then)
+	stays(t, before, b)
 }
 
 // A primary becomes a replica of a server that lacks entries, and a primary again. Connections outlive that.
@@ -667,6 +692,14 @@ func TestAClockThatIsADayOff(t *testing.T) {
 	f := claimstest.Put(t, late, c)[0]
 	if f.Deaf < claimstest.Now()+day-10 || claimstest.Judge(c, f, 60) == claimstest.Mine {
 		t.Errorf("%+v", f)
+	}
+	set(day)
+	other := opened(t, o)
+	before = claimstest.State(t, other)
+	s.do(t, "DEL", "svid:{svid}:seen") // (what all have seen; each one still knows what it has seen itself)
+	set(0)
+	if is := claimstest.State(t, other); is.Epoch == before.Epoch {
+		t.Errorf("%+v, and before %+v", is, before)
 	}
 }
 

@@ -287,7 +287,8 @@ func (p *part) note(at uint64, indexes []int, answers []any, these []claims.Clai
 	for k, n := range indexes {
 		c, m := &these[p.claims[n]], p.of[n]
 		until := svid.StaysUntil(c.Expires, known[m].record.terms.Margin)
-		if isOwn := answers[k] == "OK" || textOf(answers[k]) == string(c.Owner[:]); isOwn && until > at+1 {
+		isOwn := answers[k] == "OK" || c.Owner != claims.Withdrawn && textOf(answers[k]) == string(c.Owner[:]) // (a withdrawal of before may end earlier)
+		if isOwn && until > at+1 {
 			own[m] = append(own[m], evidence{p.shards[m].key(c), c.Owner, until})
 		}
 	}

@@ -40,8 +40,6 @@ const (
 	turnWait   = time.Second     // for which a claim tries at first to reach a server, and to compare with it
 	shardCount = 16              // of a Cluster
 	mostKnown  = 64              // entries that each look asks for: as many calls of a member are under way together at most
-	// The age of the last look at all servers, if what one of them answers is to count. (Until then another one that has taken over compares.)
-	mostAge = usualWait - 100*time.Millisecond
 )
 
 // Options say which store a group has.
@@ -163,11 +161,20 @@ func New(o Options) (*Store, error) {
 		if err == nil {
 			_, err = one.tls()
 		}
-		if err == nil && (one.service == "") != (i == 0 && one.service == "" || i > 0 && s.servers[0].service == "") {
+		if err == nil && i > 0 && (one.service == "") != (s.servers[0].service == "") {
 			err = errors.New("either all addresses are those of Sentinels, or none is")
+		}
+		isKnown := false
+		for _, other := range s.servers {
+			if isKnown = isKnown || one == other; err == nil && one != other && one.address == other.address {
+				err = errors.New("one before it leads to the same server in another way: name each server once")
+			}
 		}
 		if err != nil {
 			return nil, fmt.Errorf("address %d: %w", i+1, err)
+		}
+		if isKnown {
+			continue
 		}
 		if one.replicas-1 > s.replicas {
 			s.replicas = one.replicas - 1

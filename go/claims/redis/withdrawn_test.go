@@ -79,6 +79,22 @@ func TestListsHaveAnAge(t *testing.T) {
 	if !contains(more, w) {
 		t.Errorf("%v, and not %v", more, w)
 	}
+	// More than one call returns, in lists that others follow.
+	r, _ := readRecord(recordOf(t, s))
+	position, due = fmt.Sprintf("%s/%d/0", r.id, r.list+1), nil
+	for n := 0; n < 2; n++ {
+		var text strings.Builder
+		for range [claims.MostWithdrawals * 2 / 3]struct{}{} {
+			due = append(due, withdrawal())
+			text.Write(withdrawalText(due[len(due)-1]))
+		}
+		r.list++
+		s.do(t, "SET", fmt.Sprint("svid:{svid}:withdrawn:", r.list), text.String())
+	}
+	r.list++
+	s.do(t, "SET", "svid:{svid}:epoch", r.text())
+	more, _ = claimstest.Withdrawals(t, b, position)
+	same(t, more, due)
 }
 
 func contains(all []claims.Withdrawal, w claims.Withdrawal) bool {

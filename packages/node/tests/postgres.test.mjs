@@ -101,7 +101,7 @@ test("each test of a store in Go is run", async () => {
     "TestAFewMarksAreKept", "TestAnOldLookDoesNotCount", "TestALookIsAsOldAsItsBeginning", "TestALookEndsWithItsStore", "TestAConnectionThatBeginsEndsWithItsContext",
     "TestALateAnswerAfterASuspension", "TestLooksHavePauses", "TestTheLaterTimelineCounts",
     "TestTwoPrimariesAreNamed", "TestServersThatNobodyLooksAt", "TestEachServerIsLookedAtOnce", "TestAServerThatDoesNotSayWhatItIsLeavesNothing",
-    "TestAContextThatEndsWithItsAnswer", "TestASessionThatCantBeginLeavesNothing", "TestEachCallThatIsUnderWayMayBeTheLast", "TestEachClaimThatWasThereIsKept"];
+    "TestAContextThatEndsWithItsAnswer", "TestASessionThatCantBeginLeavesNothing", "TestEachCallThatIsUnderWayMayBeTheLast", "TestEachClaimThatWasThereIsKept", "TestATokenThatIsWithdrawnAgain"];
   await ofGo.hasNoMore(others);
 });
 

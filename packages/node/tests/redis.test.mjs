@@ -142,7 +142,7 @@ test("each test of a store in Go is run", async () => {
   const others = ["TestRights", "TestALookThatALateAnswerOvertook", "TestALateAnswerAfterASuspension", "TestANumberThatExpires", "TestAServerThatIsAskedAfterASuspension", "TestSentinelsThatDisagreeMeanwhile", "TestAnEntryThatGoesMeanwhile", "TestACallThatIsCut", "TestFewEntriesAreKnown", "TestAKeyOfAnUnknownAlgorithm", "TestOptions", "TestRecords", "TestSlots", "TestNoTextIsAnID", "TestARecordThatChangedMeanwhile",
     "TestServersThatHang", "TestEachSearchForThePrimaryLeavesNothing", "TestABurstLeavesFewConnections", "TestAServerThatIsAwayIsAskedNowAndThen",
     "TestMembersThatComeAndGoLeaveNoKey", "TestALookThatANewConnectionOvertook", "TestAnAddressThatLeadsToAnotherServer", "TestAContextThatEndsLater", "TestPasswordsOfSentinels",
-    "TestWhatIsAskedOnceLeavesNothing"];
+    "TestWhatIsAskedOnceLeavesNothing", "TestAServerWhoseConnectionsEnd", "TestAServerThatIsNamedTwice", "TestAClaimAfterASuspension", "TestATokenThatIsWithdrawnAgain"];
   await ofGo.hasNoMore(others);
 });
 

@@ -88,6 +88,12 @@ OTHERS = {
     "TestAContextThatEndsLater",
     "TestPasswordsOfSentinels",
     "TestWhatIsAskedOnceLeavesNothing",
+    "TestAServerWhoseConnectionsEnd",
+    "TestAServerThatIsNamedTwice",
+    "TestAnOldPrimaryAfterASuspension",
+    "TestAnAnswerOfAServerThatWasReplaced",
+    "TestALookThatHasNoTime",
+    "TestATokenThatIsWithdrawnAgain",
 }
 
 

@@ -220,7 +220,7 @@ public class PostgresTest {
                 "TestAServerThatDoesNotSayWhatItIsLeavesNothing", "TestAContextThatEndsWithItsAnswer",
                 "TestASessionThatCantBeginLeavesNothing", "TestEachCallThatIsUnderWayMayBeTheLast", "TestEachClaimThatWasThereIsKept",
                 "TestALookIsAsOldAsItsBeginning", "TestALateAnswerAfterASuspension", "TestALookEndsWithItsStore",
-                "TestAConnectionThatBeginsEndsWithItsContext"));
+                "TestAConnectionThatBeginsEndsWithItsContext", "TestATokenThatIsWithdrawnAgain"));
         assertEquals(new TreeSet<>(listed), run);
     }
 
