@@ -142,7 +142,8 @@ test("each test of a store in Go is run", async () => {
   const others = ["TestRights", "TestALookThatALateAnswerOvertook", "TestALateAnswerAfterASuspension", "TestANumberThatExpires", "TestAServerThatIsAskedAfterASuspension", "TestSentinelsThatDisagreeMeanwhile", "TestAnEntryThatGoesMeanwhile", "TestACallThatIsCut", "TestFewEntriesAreKnown", "TestAKeyOfAnUnknownAlgorithm", "TestOptions", "TestRecords", "TestSlots", "TestNoTextIsAnID", "TestARecordThatChangedMeanwhile",
     "TestServersThatHang", "TestEachSearchForThePrimaryLeavesNothing", "TestABurstLeavesFewConnections", "TestAServerThatIsAwayIsAskedNowAndThen",
     "TestMembersThatComeAndGoLeaveNoKey", "TestALookThatANewConnectionOvertook", "TestAnAddressThatLeadsToAnotherServer", "TestAContextThatEndsLater", "TestPasswordsOfSentinels",
-    "TestWhatIsAskedOnceLeavesNothing", "TestAServerWhoseConnectionsEnd", "TestAServerThatIsNamedTwice", "TestAClaimAfterASuspension", "TestATokenThatIsWithdrawnAgain"];
+    "TestWhatIsAskedOnceLeavesNothing", "TestAServerWhoseConnectionsEnd", "TestAServerThatIsNamedTwice", "TestAnOldPrimaryAfterASuspension", "TestAnAnswerOfAServerThatWasReplaced",
+    "TestALookThatHasNoTime", "TestATokenThatIsWithdrawnAgain"];
   await ofGo.hasNoMore(others);
 });
 
