@@ -279,6 +279,7 @@ func TestCheckConfigReadsTheBundles(t *testing.T) {
 		{[]string{"--bundles", empty, "--bundle", "example.org=https://127.0.0.1:1/"}, nil, ""},
 		{[]string{"--workload-api", "unix:///nothing"}, nil, ""},
 		{[]string{"--workload-api", "unix:///nothing", "--bundle", "example.org=" + bad}, []string{bad}, ""},
+		{[]string{"--workload-api", "unix:///nothing", "--bundle", "example.org=" + none}, nil, "its list of keys is empty"},
 	} {
 		status, out, err := here("", append([]string{"serve", "--check-config", "--audience", "a", "--longest", "60", "--replay", "reuse"}, row.args...)...)
 		isGood := status == 0 && out == "svidd: the options are good\n"
