@@ -580,6 +580,47 @@ func TestATokenThatComesWhileAGuardCloses(t *testing.T) {
 	<-closed
 }
 
+// A lateLog is one that is joined once the engine of the guard has ended.
+type lateLog struct {
+	slowLog
+	guard *Guard
+}
+
+func (l *lateLog) Join(ctx context.Context, _ carriers.Options, _ carriers.Sink) (carriers.Group, error) {
+	<-ctx.Done()
+	for end := time.Now().Add(patience.Long); time.Now().Before(end); time.Sleep(time.Millisecond) {
+		if err := l.guard.engine.Ready(); err != nil && strings.Contains(err.Error(), "ended") {
+			break
+		}
+	}
+	return slowGroup{log: l.slowLog}, nil
+}
+
+// A group that is joined while its guard ends is left again.
+func TestAGroupThatIsJoinedAtTheEnd(t *testing.T) {
+	late := &lateLog{slowLog: slowLog{make(chan struct{}), make(chan struct{})}}
+	o := usual(t)
+	o.Log = late
+	g, err := New(o)
+	if err == nil {
+		err = g.Load()
+	}
+	if err != nil {
+		t.Fatal(err)
+	}
+	late.guard = g
+	ctx, cancel := context.WithCancel(context.Background())
+	cancel()
+	g.Run(ctx)
+	close(late.goOn)
+	g.Close()
+	select {
+	case <-late.closing:
+	default:
+		t.Error("nobody left the group")
+	}
+}
+
 // inTime fails the test where what it calls hangs.
 func inTime(t *testing.T, do func()) {
 	t.Helper()

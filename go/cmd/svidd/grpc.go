@@ -23,6 +23,8 @@ const (
 	// mostUnread is how many bytes of messages a connection may send that no call has read yet. With their headers, that is less
 	// than a bounded connection may send.
 	mostUnread = 2 * svidhttp.MaxHeader
+	// scarcePause is how long a server that has no file descriptor for a connection waits for one.
+	scarcePause = 20 * time.Millisecond
 	// tellAgain is how often the server tells connections to end, while they do not.
 	tellAgain = 100 * time.Millisecond
 )
@@ -57,10 +59,9 @@ func (s *grpcServer) Serve(l net.Listener) error {
 	s.mu.Lock()
 	s.listener = l
 	s.mu.Unlock()
-	for wait := time.Duration(0); ; {
+	for {
 		c, err := l.Accept()
 		if err == nil {
-			wait = 0
 			go s.serve(&writing{c})
 			continue
 		}
@@ -71,10 +72,7 @@ func (s *grpcServer) Serve(l net.Listener) error {
 		if !errors.As(err, &scarce) || !scarce.Temporary() {
 			return err
 		}
-		if wait = 2*wait + 5*time.Millisecond; wait > time.Second {
-			wait = time.Second
-		}
-		time.Sleep(wait)
+		time.Sleep(scarcePause)
 	}
 }
 

@@ -1,12 +1,45 @@
 package main
 
 import (
+	"context"
+	"errors"
+	"io"
 	"net"
+	"net/http"
 	"os"
 	"path/filepath"
 	"syscall"
 	"testing"
+	"time"
+
+	"svid.example/go/v3/internal/patience"
 )
+
+// An impatient server ends no request by itself.
+type impatient struct{ *http.Server }
+
+func (impatient) Shutdown(context.Context) error { return context.DeadlineExceeded }
+
+// A request that does not end in time loses its connection at the end of the sidecar.
+func TestARequestThatDoesNotEnd(t *testing.T) {
+	l, err := net.Listen("tcp", "127.0.0.1:0")
+	must(t, err)
+	begun, goOn := make(chan struct{}), make(chan struct{})
+	defer close(goOn)
+	server := &http.Server{Handler: http.HandlerFunc(func(http.ResponseWriter, *http.Request) { close(begun); <-goOn })}
+	go server.Serve(l)
+	c, err := net.Dial("tcp", l.Addr().String())
+	must(t, err)
+	defer c.Close()
+	_, err = io.WriteString(c, "GET / HTTP/1.1\r\nHost: svidd\r\n\r\n")
+	must(t, err)
+	<-begun
+	new(sidecar).shutdown([]served{{"listen", impatient{server}, l}})
+	must(t, c.SetReadDeadline(time.Now().Add(patience.Long)))
+	if n, err := c.Read(make([]byte, 1)); err == nil || errors.Is(err, os.ErrDeadlineExceeded) {
+		t.Errorf("%d bytes, %v", n, err)
+	}
+}
 
 // A socket is another process's as long as that has it, though it takes no connection: it may be stopped, or have too many that wait.
 func TestASocketOfAProcessThatTakesNothing(t *testing.T) {

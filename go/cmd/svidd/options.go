@@ -333,16 +333,15 @@ func (o *options) problems() problems {
 	addressProblems(&all, "listen", o.listen, optionOf("serve", "listen").initial)
 	if o.metrics != "" {
 		addressProblems(&all, "metrics", o.metrics, "127.0.0.1:9902")
-		wrong(o.metrics == o.listen, "--metrics is the address of --listen: give it one of its own, or leave it out")
+		wrong(isSame(o.metrics, o.listen), "--metrics is the address of --listen: give it one of its own, or leave it out")
 	}
 	if o.envoy != "" {
 		addressProblems(&all, "envoy", o.envoy, "127.0.0.1:9903")
-		wrong(o.envoy == o.listen || o.envoy == o.metrics, "--envoy is the address of --listen or of --metrics: give it one of its own, since it answers gRPC alone")
+		wrong(isSame(o.envoy, o.listen) || isSame(o.envoy, o.metrics), "--envoy is the address of --listen or of --metrics: give it one of its own, since it answers gRPC alone")
 	}
 	wrong(len(o.admin) > mostSocket, "--admin: the path of a unix socket has at most %d bytes", mostSocket)
 	for _, it := range [][2]string{{"listen", o.listen}, {"envoy", o.envoy}, {"metrics", o.metrics}} {
-		path := strings.TrimPrefix(it[1], "unix:")
-		wrong(path != it[1] && o.admin != "" && filepath.Clean(path) == filepath.Clean(o.admin), "--admin is the path of --%s: give it one of its own", it[0])
+		wrong(o.admin != "" && isSame(it[1], "unix:"+o.admin), "--admin is the path of --%s: give it one of its own", it[0])
 	}
 	wrong(strings.HasPrefix(o.admin, "@"), "--admin %q is an abstract name, which every local process can reach: write a path", o.admin)
 	o.groupProblems(&all)
@@ -424,6 +423,21 @@ func isAddress(text string) bool {
 		_, err = net.LookupPort("tcp", port)
 	}
 	return err == nil && port != ""
+}
+
+// isSame says whether who listens on one address takes the other one too.
+func isSame(one, other string) bool {
+	first, second := strings.TrimPrefix(one, "unix:"), strings.TrimPrefix(other, "unix:")
+	if first != one || second != other {
+		return first != one && second != other && filepath.Clean(first) == filepath.Clean(second)
+	}
+	a, err1 := net.ResolveTCPAddr("tcp", one)
+	b, err2 := net.ResolveTCPAddr("tcp", other)
+	if err1 != nil || err2 != nil {
+		return one == other // (that it is none is said elsewhere)
+	}
+	isAny := func(ip net.IP) bool { return len(ip) == 0 || ip.IsUnspecified() }
+	return a.Port == b.Port && a.Port != 0 && (isAny(a.IP) || isAny(b.IP) || a.IP.Equal(b.IP))
 }
 
 var logAddresses = map[string]server.Addresses{"whole": server.Whole, "network": server.Network, "none": server.None}

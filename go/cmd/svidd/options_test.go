@@ -142,6 +142,11 @@ func TestOptionsThatServeCantRunWith(t *testing.T) {
 		{"listen", "localhost:http", ""},
 		{"metrics", "9902", "write HOST:PORT"},
 		{"metrics", "127.0.0.1:9901", "is the address of --listen"},
+		{"metrics", ":9901", "is the address of --listen"},
+		{"metrics", "0.0.0.0:9901", "is the address of --listen"},
+		{"metrics", "localhost:9901", "is the address of --listen"},
+		{"metrics", "127.0.0.2:9901", ""},
+		{"envoy", ":9901", "is the address of --listen or of --metrics"},
 		{"metrics", "unix:" + strings.Repeat("a", 108), "at most 107 bytes"},
 		{"metrics", "unix:@svidd", "or unix:PATH"},
 		{"metrics", "", ""},
@@ -279,6 +284,7 @@ func TestCheckConfigReadsTheBundles(t *testing.T) {
 		{[]string{"--bundles", empty, "--bundle", "example.org=https://127.0.0.1:1/"}, nil, ""},
 		{[]string{"--workload-api", "unix:///nothing"}, nil, ""},
 		{[]string{"--workload-api", "unix:///nothing", "--bundle", "example.org=" + bad}, []string{bad}, ""},
+		{[]string{"--workload-api", "unix:///nothing", "--bundle", "example.org=" + none}, nil, "its list of keys is empty"},
 	} {
 		status, out, err := here("", append([]string{"serve", "--check-config", "--audience", "a", "--longest", "60", "--replay", "reuse"}, row.args...)...)
 		isGood := status == 0 && out == "svidd: the options are good\n"

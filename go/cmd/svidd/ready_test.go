@@ -356,6 +356,9 @@ func TestReadyzTable(t *testing.T) {
 				if took, lost := time.Since(from), h.end(); took > within && lost < took/20 {
 					t.Errorf("/readyz says it %v after that it is so", took)
 				}
+				if strings.Contains(body, "127.0.0.1") {
+					t.Errorf("/readyz names an address: %s", body)
+				}
 				if r.ready == "503" {
 					_, page := s.get("/metrics")
 					mu.Lock()

@@ -109,13 +109,7 @@ func text(into *string) func(value []byte) error {
 func (h Headers) add(entry []byte, wanted []string) error {
 	var key, value string
 	for number, field := range map[protowire.Number]*string{entryKey: &key, entryValue: &value} {
-		if err := each(entry, number, func(text []byte) error {
-			if !utf8.Valid(text) {
-				return fmt.Errorf("a header field is not UTF-8")
-			}
-			*field = string(text)
-			return nil
-		}); err != nil {
+		if err := each(entry, number, text(field)); err != nil {
 			return err
 		}
 	}

@@ -39,7 +39,7 @@ func TestReadHeaders(t *testing.T) {
 		"fields that are unknown":  {append(appendNumber(nil, 9, 7), one...), "map[authorization:[a]]"},
 		"a group that is unknown":  {append([]byte{9<<3 | 3, 9<<3 | 4}, one...), "map[authorization:[a]]"},
 		"a number where a text is": {request(appendNumber(nil, entryKey, 1)), "field 1 is of another type"},
-		"not UTF-8":                {request(entry("x", "\xff")), "a header field is not UTF-8"},
+		"not UTF-8":                {request(entry("x", "\xff")), "a field is not UTF-8"},
 		"cut":                      {one[:len(one)-1], "unexpected EOF"},
 		"an end without its group": {[]byte{9<<3 | 4}, "mismatching end group marker"},
 		"the field 0":              {[]byte{0, 0}, "invalid field number"},

@@ -7,6 +7,7 @@ import (
 	"runtime"
 	"strings"
 	"testing"
+	"testing/iotest"
 )
 
 // head says that so many bytes follow.
@@ -53,6 +54,14 @@ func TestTheMessageOfACall(t *testing.T) {
 		if got, fault := ReadOne(strings.NewReader(text), 3); fault != want || want == nil && string(got) != "one" {
 			t.Errorf("%q: %q %v, want %v", text, got, fault, want)
 		}
+	}
+}
+
+// A call that was broken off behind its message is none: nobody waits for the answer.
+func TestACallThatIsBrokenOff(t *testing.T) {
+	call := io.MultiReader(bytes.NewReader(Frame([]byte("one"))), iotest.ErrReader(errors.New("the stream was reset")))
+	if got, fault := ReadOne(call, 3); fault != ErrNotWhole {
+		t.Errorf("%q %v", got, fault)
 	}
 }
 

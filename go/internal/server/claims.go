@@ -44,10 +44,6 @@ type retry struct {
 	requests []*Request
 }
 
-func newClaimQueue(now time.Duration) claimQueue {
-	return claimQueue{pacing: svid.NewPacing(), known: newKnownClaims(now)}
-}
-
 // take takes out as many claims as a call may have.
 func (c *claimQueue) take() (these []*Request) {
 	if these = c.waiting; len(these) <= claims.MostClaims {
@@ -90,14 +86,14 @@ func (c *claimQueue) due() time.Duration {
 // openClaim lets the claim of a request wait for a call, unless the store has said before whose the token is: it stays that.
 func (m *Machine) openClaim(r *Request, use svid.Use) {
 	r.claim = claims.Claim{Key: use.Key, Expires: use.Expires}
-	one, known := m.claims.known.find(&r.claim)
+	one, isOld, known := m.claims.known.of(&r.claim)
 	if known && one.mine && one.caller == r.Caller {
 		r.claim.Owner = one.found.Owner
 	} else {
 		r.claim.Owner = m.ownerOf(r, use.Expires)
 	}
 	if isOwn := one.found.Owner == r.claim.Owner; known && (!isOwn || m.hears()) {
-		r.isKept = !one.isOld && (one.mine || !isOwn)
+		r.isKept = !isOld && (one.mine || !isOwn)
 		m.found(r, one.found)
 		return
 	}
@@ -113,7 +109,7 @@ func (m *Machine) knownClaim(r *Request) *svid.KnownClaim {
 	}
 	h := r.recalled.held
 	if h.known.Expires == 0 || h.caller != r.Caller || h.denied != m.claims.denied {
-		one, ok := m.claims.known.find(&h.claim)
+		one, _, ok := m.claims.known.of(&h.claim)
 		if !ok || !one.mine || one.caller != r.Caller {
 			return &noClaim
 		}
@@ -212,11 +208,10 @@ func (m *Machine) count(err error) {
 
 // knownClaims are what the store answered to claims of tokens that others have claimed, and in mode bound to those of a token's owner too. The entry
 // of a token stays until the token has expired, so the next request with it asks no store, whoever makes it: the library takes any answer to a put of
-// the token's key. Whether the token was withdrawn since is read from the store's list, so an owner is asked about again while nobody reads that. There
-// are two generations, so that dropping the old ones takes one step.
+// the token's key. Whether the token was withdrawn since is read from the store's list, so an owner is asked about again while nobody reads that.
 type knownClaims struct {
-	young, old map[svid.TokenKey]knownClaim
-	turned     time.Duration
+	generations[svid.TokenKey, knownClaim]
+	turned time.Duration
 }
 
 type knownClaim struct {
@@ -224,7 +219,6 @@ type knownClaim struct {
 	found   svid.Found
 	caller  [32]byte // who asked
 	mine    bool     // the token is that caller's
-	isOld   bool     // it goes soon, unless it is added again
 }
 
 const (
@@ -234,22 +228,17 @@ const (
 	knownFor = time.Minute
 )
 
-func newKnownClaims(now time.Duration) knownClaims {
-	return knownClaims{young: map[svid.TokenKey]knownClaim{}, turned: now}
-}
-
 // add keeps what the store answered to this caller's claim. mine says that the token is the caller's.
 func (k *knownClaims) add(now time.Duration, one svid.KnownClaim, caller [32]byte, mine bool) {
 	if len(k.young) >= mostKnown || now-k.turned > knownFor && len(k.young) > 0 {
-		k.young, k.old, k.turned = map[svid.TokenKey]knownClaim{}, k.young, now
+		k.turn()
+		k.turned = now
 	}
-	k.young[one.Key] = knownClaim{expires: one.Expires, found: one.Found, caller: caller, mine: mine}
+	k.put(one.Key, knownClaim{expires: one.Expires, found: one.Found, caller: caller, mine: mine})
 }
 
-func (k *knownClaims) find(claim *claims.Claim) (one knownClaim, known bool) {
-	if one, known = k.young[claim.Key]; !known {
-		one, known = k.old[claim.Key]
-		one.isOld = true
-	}
-	return one, known && one.expires == claim.Expires
+// of is what is known of a claim. isOld says that it goes soon, unless it is added again.
+func (k *knownClaims) of(claim *claims.Claim) (one knownClaim, isOld, known bool) {
+	one, isOld, known = k.find(claim.Key)
+	return one, isOld, known && one.expires == claim.Expires
 }

@@ -266,6 +266,9 @@ func TestEachWriteThatFailedIsTriedAgain(t *testing.T) {
 	ends(next(), full)
 	b.step(doing((*Machine).keepAgain))
 	again := next()
+	if b.step(doing((*Machine).keepAgain)); len(b.others) > 0 {
+		t.Errorf("it is tried again before the last try has ended: %v", b.others)
+	}
 	b.asks("b")
 	ends(next(), full)
 	if ends(again, nil); isReady() {

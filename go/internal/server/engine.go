@@ -369,8 +369,7 @@ func (e *Engine) hear() {
 		for _, w := range these {
 			e.machine.Step(now, Kept{w})
 		}
-		effects := e.machine.Effects(room[:0])
-		e.arm()
+		effects := e.machine.Effects(room[:0]) // (and nothing is due sooner)
 		e.mu.Unlock()
 		for _, effect := range effects {
 			e.do(nil, effect)

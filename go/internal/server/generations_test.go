@@ -4,7 +4,7 @@ import "testing"
 
 // A value that is dropped is gone from both generations.
 func TestADroppedValueIsGone(t *testing.T) {
-	var g generations[int]
+	var g hashed[int]
 	for hash := uint64(0); hash <= mostInGeneration; hash++ {
 		g.add(hash, int(hash))
 	}

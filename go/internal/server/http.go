@@ -4,6 +4,7 @@ import (
 	"context"
 	"errors"
 	"net/http"
+	"regexp"
 	"strconv"
 	"strings"
 	"time"
@@ -41,7 +42,7 @@ func (e *Engine) Handler() http.Handler {
 			_, _ = w.Write([]byte("ok\n"))
 		case path == "/readyz":
 			if err := e.Ready(); err != nil {
-				http.Error(w, err.Error(), http.StatusServiceUnavailable)
+				http.Error(w, withoutAddresses(err.Error()), http.StatusServiceUnavailable)
 				return
 			}
 			_, _ = w.Write([]byte("ready\n"))
@@ -50,6 +51,13 @@ func (e *Engine) Handler() http.Handler {
 		}
 	})
 }
+
+// addresses are in an error where servers and files are: URLs, HOST:PORT, IP addresses, paths, and names that were looked up or that a certificate has.
+var addresses = regexp.MustCompile(`[a-z][a-z0-9+.-]*://[^\s"]+|\[[^\s\]]+\](?::\d+)?|[\w.-]+:\d+|\d+(?:\.\d+){3}|(?:[0-9A-Fa-f]*:){2}[0-9A-Fa-f:.%\w]+|` +
+	`(\s"?|:)/[^\s":;,]*|(lookup |certificate for |valid for ).+?(: | because |$)`)
+
+// withoutAddresses is what a stranger may hear of an error. The log has all of it.
+func withoutAddresses(text string) string { return addresses.ReplaceAllString(text, "$1$2..$3") }
 
 // serveCheck judges the bearer token of a request. It answers:
 //

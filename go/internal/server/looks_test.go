@@ -19,6 +19,7 @@ type watchedShop struct {
 	state, withdrawals  atomic.Int64 // for how long a call may take, in nanoseconds
 	goOn                chan struct{}
 	endless             bool // there are always more withdrawals
+	silent              bool // nobody hears of one
 }
 
 func (w *watchedShop) State(ctx context.Context) (claims.State, error) {
@@ -36,6 +37,10 @@ func (w *watchedShop) State(ctx context.Context) (claims.State, error) {
 
 func (w *watchedShop) Withdrawals(ctx context.Context, after string) ([]claims.Withdrawal, string, error) {
 	w.withdrawals.Store(int64(left(ctx)))
+	if w.silent {
+		<-ctx.Done()
+		return nil, after, ctx.Err()
+	}
 	if !w.endless {
 		return w.shop.Withdrawals(ctx, after)
 	}
@@ -121,6 +126,26 @@ func TestAStoreWithManyWithdrawalsIsNotAway(t *testing.T) {
 	}
 	if first == 0 || len(e.outlook.heard) <= first {
 		t.Errorf("%d and %d pages are read", first, len(e.outlook.heard))
+	}
+}
+
+// A store that says what it is, and hangs where its withdrawals are read, is away: a member hears of none.
+func TestAStoreThatTellsOfNoWithdrawalIsAway(t *testing.T) {
+	o := inStrict(Options{Wait: 10 * time.Millisecond})
+	o.Mode = Reuse
+	store := &watchedShop{shop: newShop()}
+	e := engine(t, o)
+	state, err := store.shop.Open(context.Background())
+	if err != nil {
+		t.Fatal(err)
+	}
+	e.UseStore(store, state)
+	for _, silent := range []bool{true, false} {
+		store.silent = silent
+		e.lookAhead()
+		if isAway := e.outlook.away.Load() != nil; isAway != silent {
+			t.Errorf("silent %v, away %v", silent, isAway)
+		}
 	}
 }
 

@@ -130,7 +130,7 @@ func newMachine(o *Options, metrics *Metrics, validator *svid.Validator, now Tim
 		return nil, err
 	}
 	m := &Machine{Options: o, metrics: metrics, validator: validator, now: now, began: now.Wall, due: never, second: never,
-		requests: map[uint64]*Request{}, withdrawals: map[uint64]*Withdraw{}, claims: newClaimQueue(now.Up), rules: &Rules{o.Audiences, nil},
+		requests: map[uint64]*Request{}, withdrawals: map[uint64]*Withdraw{}, claims: claimQueue{pacing: svid.NewPacing(), known: knownClaims{turned: now.Up}}, rules: &Rules{o.Audiences, nil},
 		withdrawn: withdrawnTokens{until: map[svid.TokenKey]uint64{}},
 		known:     svid.Known{Opened: !o.Stored, Heard: !o.Stored, Joined: !o.Grouped, CaughtUp: !o.Grouped}}
 	m.keeper.due, m.tale.due, m.mixedAt = never, never, now.Up-seldomTime

@@ -551,24 +551,24 @@ func TestALostClaimIsToldAgain(t *testing.T) {
 
 // Another token of a key is not known: it may be accepted once the first one has expired.
 func TestAKnownTokenIsThatAlone(t *testing.T) {
-	k := newKnownClaims(0)
+	var k knownClaims
 	claim, of := claims.Claim{Key: svid.TokenKey{1}, Expires: moment + 10}, svid.Found{Owner: svid.Owner{7}, Time: moment}
 	k.add(0, svid.KnownClaim{Key: claim.Key, Expires: claim.Expires, Found: of}, [32]byte{}, true)
-	if one, known := k.find(&claim); !known || one.found != of {
+	if one, _, known := k.of(&claim); !known || one.found != of {
 		t.Errorf("%v %v", one, known)
 	}
 	claim.Expires++
-	if _, known := k.find(&claim); known {
+	if _, _, known := k.of(&claim); known {
 		t.Error("a later token of the key is known")
 	}
 }
 
 // Answers are kept for a while, and not more than so many.
 func TestKnownTokensHaveABound(t *testing.T) {
-	k := newKnownClaims(0)
+	var k knownClaims
 	one, of := claims.Claim{Expires: moment}, svid.Found{Owner: svid.Owner{7}}
 	k.add(0, svid.KnownClaim{Expires: moment, Found: of}, [32]byte{}, true)
-	if _, known := k.find(&one); !known {
+	if _, _, known := k.of(&one); !known {
 		t.Error("it is not kept")
 	}
 	for i := 0; i < 3*mostKnown; i++ {
@@ -577,7 +577,7 @@ func TestKnownTokensHaveABound(t *testing.T) {
 	if n := len(k.young) + len(k.old); n > 2*mostKnown {
 		t.Errorf("%d are kept", n)
 	}
-	if _, known := k.find(&one); known {
+	if _, _, known := k.of(&one); known {
 		t.Error("one of long ago is kept")
 	}
 	for i := 1; i < 3; i++ { // and each for two minutes at the least, where few come

@@ -87,22 +87,18 @@ func pauseAfter(took time.Duration) time.Duration {
 	return tickEvery - took
 }
 
-// lookForRoom takes Options.Wait at the most, as an acceptance does.
+// lookForRoom sees whether the disk takes the next acceptance, and logs a change. It takes Options.Wait at the most, as an acceptance does.
 func (e *Engine) lookForRoom() {
 	if e.Mode != Once || e.Journal == nil {
 		return
 	}
 	ctx, cancel := context.WithTimeout(e.life, e.Wait)
 	defer cancel()
-	e.turned(&e.outlook.noRoom, e.Journal.Room(ctx))
-}
-
-// turned takes note of a fault, or of none, and logs it where that is new.
-func (e *Engine) turned(is *atomic.Bool, fault error) {
+	fault := e.Journal.Room(ctx)
 	if e.life.Err() != nil {
 		return // It is the engine that ends.
 	}
-	switch before := is.Swap(fault != nil); {
+	switch before := e.outlook.noRoom.Swap(fault != nil); {
 	case fault != nil && !before:
 		e.Log.Error("unready", fault)
 	case fault == nil && before:

@@ -111,6 +111,43 @@ func TestAStoreThatIsAwayForAnotherReason(t *testing.T) {
 	}
 }
 
+// A stranger who asks /readyz hears why a store is away, and no address, name or file. The log has them.
+func TestReadyzNamesNoAddress(t *testing.T) {
+	var log bytes.Buffer
+	e := newShop().use(t, ready(t, engine(t, inStrict(Options{Wait: time.Nanosecond, Log: NewLog(&log, Decisions)}))))
+	for why, says := range map[string]string{
+		"dial tcp 192.0.2.7:6379: connect: connection refused":                                                     "dial tcp ..: connect: connection refused",
+		"dial tcp [2001:db8::7%eth0]:6379: connect: connection refused":                                            "dial tcp ..: connect: connection refused",
+		"read tcp 192.0.2.8:51234->192.0.2.7:6379: i/o timeout":                                                    "read tcp ..->..: i/o timeout",
+		"dial tcp: lookup redis.internal on 192.0.2.53:53: no such host":                                           "dial tcp: lookup ..: no such host",
+		"dial tcp: lookup redis.internal: no such host":                                                            "dial tcp: lookup ..: no such host",
+		"redis.internal:6379: the server answered: OOM":                                                            "..: the server answered: OOM",
+		"dial unix /run/redis/redis.sock: connect: permission denied":                                              "dial unix ..: connect: permission denied",
+		"open /etc/svidd/password: permission denied":                                                              "open ..: permission denied",
+		`Get "https://keys.internal/bundle": EOF`:                                                                  `Get "..": EOF`,
+		"x509: certificate is valid for a.internal, b.internal, not redis.internal":                                "x509: certificate is valid for ..",
+		"x509: cannot validate certificate for 192.0.2.7 because it doesn't contain any IP SANs":                   "x509: cannot validate certificate for .. because it doesn't contain any IP SANs",
+		"x509: cannot validate certificate for 2001:db8::7 because it doesn't contain any IP SANs":                 "x509: cannot validate certificate for .. because it doesn't contain any IP SANs",
+		"two Sentinels name two primaries, 192.0.2.7:6379 and redis.internal:6380: wait until they agree":          "two Sentinels name two primaries, .. and ..: wait until they agree",
+		`pq: no pg_hba.conf entry for host "192.0.2.8", no encryption`:                                             `pq: no pg_hba.conf entry for host "..", no encryption`,
+		"the server answered: NOPERM this user has no permissions to run the 'set' command or its subcommand":      "the server answered: NOPERM this user has no permissions to run the 'set' command or its subcommand",
+		"claims: read withdrawals: the one at position 7 is missing":                                               "claims: read withdrawals: the one at position 7 is missing",
+		"pq: database \"svid\" does not exist; the server is a standby; see sentinel monitor and/or CLUSTER NODES": "pq: database \"svid\" does not exist; the server is a standby; see sentinel monitor and/or CLUSTER NODES",
+	} {
+		e.storeAnswered(time.Now().Add(-time.Minute), errors.New(why))
+		w := request(e.Handler(), "GET", "/readyz")
+		if want := errAway.Error() + ": " + says + "\n"; w.Code != 503 || w.Body.String() != want {
+			t.Errorf("%s: %d %q, want %q", why, w.Code, w.Body, want)
+		}
+		e.storeAnswered(time.Now(), nil)
+	}
+	for _, want := range []string{"192.0.2.7:6379", "/run/redis/redis.sock", "lookup redis.internal"} {
+		if !strings.Contains(log.String(), want) {
+			t.Errorf("the log does not name %s", want)
+		}
+	}
+}
+
 // That a store is away, and that it is there again, is a line of the log each, however often it is looked at.
 func TestAStoreThatIsAwayIsSaidOnce(t *testing.T) {
 	var log bytes.Buffer

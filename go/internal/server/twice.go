@@ -14,11 +14,10 @@ import (
 // errTwice: another sidecar of the group accepted a token that this one accepted too.
 var errTwice = errors.New("two sidecars of the group accepted this token, since neither had heard of the other: it may be stolen, or its client sent it twice")
 
-// ownUses are this sidecar's acceptances, until they have expired, or others take their room. There are two generations, so that dropping the old ones
-// takes one step.
+// ownUses are this sidecar's acceptances, until they have expired, or others take their room.
 type ownUses struct {
-	young, old map[svid.TokenKey]ownUse
-	turned     uint64 // when young began, in seconds since 1970
+	generations[svid.TokenKey, ownUse]
+	turned uint64 // when the young one began, in seconds since 1970
 }
 
 // An ownUse is what is not the same of all of them.
@@ -30,26 +29,10 @@ const mostOwn = 1 << 16
 // add takes note of an acceptance. No token lives for longer than longest.
 func (o *ownUses) add(now, longest uint64, use svid.Use) {
 	if len(o.young) >= mostOwn || now > o.turned+longest {
-		o.young, o.old, o.turned = nil, o.young, now
+		o.turn()
+		o.turned = now
 	}
-	if o.young == nil {
-		o.young = map[svid.TokenKey]ownUse{}
-	}
-	o.young[use.Key] = ownUse{use.Expires, use.At}
-}
-
-// find returns the acceptance of this key.
-func (o *ownUses) find(key svid.TokenKey) (own ownUse, is bool) {
-	if own, is = o.young[key]; !is {
-		own, is = o.old[key]
-	}
-	return own, is
-}
-
-// drop lets go of it.
-func (o *ownUses) drop(key svid.TokenKey) {
-	delete(o.young, key)
-	delete(o.old, key)
+	o.put(use.Key, ownUse{use.Expires, use.At})
 }
 
 // noteOwn takes note of an acceptance as it is judged: another's may come while this one is on its way to the disk.
@@ -70,7 +53,7 @@ func (m *Machine) lookTwice(message []byte) {
 		return
 	}
 	for _, use := range uses {
-		if own, is := m.own.find(use.Key); is && use.ValidatorID != m.ValidatorID {
+		if own, _, is := m.own.find(use.Key); is && use.ValidatorID != m.ValidatorID {
 			m.sayTwice(svid.Use{Key: use.Key, Expires: own.expires, At: own.at, ValidatorID: m.ValidatorID}, use)
 		}
 	}

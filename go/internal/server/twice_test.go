@@ -149,12 +149,12 @@ func TestOwnUsesHaveABound(t *testing.T) {
 	one := of(1, 1)
 	o.add(moment, 300, one)
 	o.add(moment+300, 300, of(2, 1))
-	if _, is := o.find(one.Key); !is {
+	if _, _, is := o.find(one.Key); !is {
 		t.Error("one that may live is gone")
 	}
 	o.add(moment+301, 300, of(3, 1))
 	o.add(moment+602, 300, of(4, 1))
-	if _, is := o.find(one.Key); is {
+	if _, _, is := o.find(one.Key); is {
 		t.Error("one that has expired is kept")
 	}
 	for i := 0; i < 3*mostOwn; i++ {

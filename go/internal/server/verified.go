@@ -23,9 +23,9 @@ type verified struct {
 	epoch   uint64 // counts the bundles that there were
 	keys    []*svid.Key
 	numbers map[*svid.Key]int32
-	once    generations[struct{}]   // hashes of tokens that were accepted
-	known   generations[knownToken] // of those that were accepted again
-	held    heldTokens              // of these, those that the library keeps open
+	once    hashed[struct{}]   // hashes of tokens that were accepted
+	known   hashed[knownToken] // of those that were accepted again
+	held    heldTokens         // of these, those that the library keeps open
 }
 
 // A knownToken is one that was accepted more than once. (It has no pointers, so that nobody looks through all of them for garbage.)
@@ -128,7 +128,7 @@ func (v *verified) clear() {
 	v.mu.Lock()
 	held := v.held
 	v.epoch++
-	v.keys, v.numbers, v.known, v.held = nil, nil, generations[knownToken]{}, heldTokens{}
+	v.keys, v.numbers, v.known, v.held = nil, nil, hashed[knownToken]{}, heldTokens{}
 	v.mu.Unlock()
 	held.letGo()
 }

@@ -96,6 +96,13 @@ func planOf(mode server.Mode, seed int64) *plan {
 
 // run runs a plan, and says what happened that may not; "" for nothing.
 func (p *plan) run(trace func(format string, args ...any)) report {
+	w := p.world(trace)
+	w.end()
+	return w.report
+}
+
+// world is the world of a plan before anything has happened.
+func (p *plan) world(trace func(format string, args ...any)) *world {
 	w := &world{plan: p, pool: tokensOf(), trace: trace}
 	w.report.accepted, w.report.answers = map[svid.TokenKey][]acceptance{}, map[string]int{}
 	w.log, w.store = &logServer{w: w}, newStore(w)
@@ -115,14 +122,18 @@ func (p *plan) run(trace func(format string, args ...any)) report {
 		d := d
 		w.at(time.Second/2+d.at, func() { w.do(d) })
 	}
-	w.run(p.lasts + time.Second)
+	return w
+}
+
+// end lets all happen, and heals the group.
+func (w *world) end() {
+	w.run(w.plan.lasts + time.Second)
 	w.heal()
 	for _, m := range w.members {
 		if m.life != nil {
 			m.life.die(0)
 		}
 	}
-	return w.report
 }
 
 // issued is a token that was issued by now, and not long ago.
@@ -230,7 +241,7 @@ func (w *world) do(d deed) {
 		w.store.away = w.log.away
 	case "lose entries": // all of them, or those whose key begins so; and the epoch ends
 		kept := byte(d.number)
-		w.store.lost = true
+		w.store.lost++
 		w.store.Lose(func(key svid.TokenKey) bool { return key[0] < kept })
 	case "set the store's clock": // by as much as it may differ, and it goes back by as much as it may step back
 		to := time.Duration(d.number%(ahead*500)) * time.Millisecond
@@ -378,7 +389,7 @@ func (l *list) Write(b []byte) (int, error) {
 // wantEqual wants the records of all members to be equal, of those that have read all. In mode strict each has its own uses,
 // and in bound and reuse a store that has lost its withdrawals tells a member that starts later of none.
 func (w *world) wantEqual() {
-	if w.plan.mode == server.Strict || w.plan.mode != server.Once && w.store.lost {
+	if w.plan.mode == server.Strict || w.plan.mode != server.Once && w.store.lost > 0 {
 		return
 	}
 	var moment uint64
@@ -418,8 +429,9 @@ func (w *world) wantEqual() {
 		}
 		live := map[svid.Use]bool{}
 		for _, use := range uses {
+			_, told := w.store.told[use.Key]
 			// (A summary leaves out what expires soon.)
-			if use.Expires > moment+ahead && use.ValidatorID[0] < 200 && (w.plan.mode == server.Once || w.store.told[use.Key]) {
+			if use.Expires > moment+ahead && use.ValidatorID[0] < 200 && (w.plan.mode == server.Once || told) {
 				live[w.known(use)] = true
 			}
 		}

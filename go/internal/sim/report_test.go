@@ -85,6 +85,10 @@ func caller(number int) (digest [32]byte) {
 // second, and asks the store again where it could not read them for as long as a request waits.
 const unheard = time.Second + wait
 
+// mayMiss says whether a member that has read no withdrawal of a token may accept the token's owner still. If the store lost the withdrawal with its
+// epoch, nobody can read it any more (docs/STORES.md, "What all stores have in common").
+func (w *world) mayMiss(one gone) bool { return w.now <= one.at+unheard || w.store.lost > one.lost }
+
 // has says whether the store has named that caller to this life in mode bound, as the token's owner.
 func (l *life) has(one *token, by int) bool {
 	first, is := l.callers[one.key]
@@ -117,7 +121,7 @@ func (m *member) ask(one *token, by int, gives time.Duration) *ask {
 	if _, heard := l.heard[one.key]; heard {
 		a.withdrawn = true
 	}
-	if gone, done := m.w.store.gone[one.key]; done && gone.by != l.ownerOf(one, a.caller) && !(l.has(one, by) && m.w.now <= gone.at+unheard) {
+	if gone, done := m.w.store.gone[one.key]; done && gone.by != l.ownerOf(one, a.caller) && !(l.has(one, by) && m.w.mayMiss(gone)) {
 		a.withdrawn = true
 	}
 	if m.knows(one) { // (as an engine does, which verifies no such token)
@@ -203,8 +207,9 @@ func (a *ask) answered(err error) {
 			// (Where the store has a claim of it, the answer says whose: its one acceptance is that life's, now or before. In mode bound that caller goes on
 			// to be accepted where nobody has heard of the withdrawal yet, and no other one is. So does one whose claim the store has lost, for a while,
 			// at a member to which the store had named it.)
-			if _, before := w.store.gone[a.token.key]; w.claims() && !before {
-				w.store.gone[a.token.key] = gone{a.withdraw.UsedBy, w.now}
+			before, is := w.store.gone[a.token.key]
+			if lost := w.store.told[a.token.key]; w.claims() && (!is || lost > before.lost) { // (one that was lost can be made again)
+				w.store.gone[a.token.key] = gone{a.withdraw.UsedBy, w.now, lost}
 			}
 			// (Without a disk, a member has it for as long as it lives, or the group has it.)
 		}

@@ -1,6 +1,7 @@
 package sim
 
 import (
+	"errors"
 	"flag"
 	"fmt"
 	"os"
@@ -10,8 +11,10 @@ import (
 	"sync"
 	"sync/atomic"
 	"testing"
+	"time"
 
 	"svid.example/go/v3/internal/server"
+	"svid.example/go/v3/svid"
 )
 
 var (
@@ -91,6 +94,33 @@ func TestStrict(t *testing.T) { check(t, server.Strict) }
 func TestOnce(t *testing.T)   { check(t, server.Once) }
 func TestBound(t *testing.T)  { check(t, server.Bound) }
 func TestReuse(t *testing.T)  { check(t, server.Reuse) }
+
+// A member that could not take a withdrawal before the store lost it knows the owner still, and accepts it (docs/STORES.md, "What all stores have in
+// common"). A second withdrawal ends that.
+func TestAWithdrawalThatTheStoreLost(t *testing.T) {
+	p := &plan{mode: server.Bound, members: 2, disks: []bool{false, false}, offsets: make([]time.Duration, 2), drifts: make([]float64, 2), rough: 1 << 20, lasts: 20 * time.Second}
+	w := p.world(nil)
+	one, other, late := w.pool.tokens[0][0], w.members[0], w.members[1]
+	asked := map[time.Duration]*ask{}
+	for _, second := range []time.Duration{1, 4, 10, 16} {
+		second := second
+		w.at(second*time.Second, func() { asked[second] = late.ask(one, owner, 0) })
+	}
+	w.at(2*time.Second, func() { late.offset += 10000 * time.Second })
+	w.at(3*time.Second, func() { other.withdraw(one) })
+	w.at(7*time.Second, func() { w.do(deed{kind: "lose entries"}) })
+	w.at(8*time.Second, func() { late.offset = 0 })
+	w.at(12*time.Second, func() { other.withdraw(one) })
+	w.end()
+	for second, want := range map[time.Duration]error{1: nil, 4: svid.ErrJump, 10: nil, 16: svid.Withdrawn} {
+		if a := asked[second]; a == nil || !a.done || !errors.Is(a.request.Err, want) {
+			t.Errorf("after %d seconds the answer is not %v: %+v", second, want, a)
+		}
+	}
+	if w.report.failure != "" {
+		t.Error(w.report.failure)
+	}
+}
 
 // A plan has the same run each time.
 func TestASeedIsOneRun(t *testing.T) {

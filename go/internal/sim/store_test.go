@@ -15,10 +15,11 @@ const back = 5
 // terms are those of the store.
 var terms = claims.Terms{Lasts: longest + 2*ahead, Margin: ahead + back, Back: back}
 
-// gone is a withdrawal that was answered as done: whose claim the store had, and when.
+// gone is a withdrawal that was answered as done: whose claim the store had, when, and how often it had lost entries.
 type gone struct {
-	by claims.Owner
-	at time.Duration
+	by   claims.Owner
+	at   time.Duration
+	lost int
 }
 
 // A storeServer is the group's store, as claims.Store promises it: what it loses ends its epoch.
@@ -27,16 +28,16 @@ type storeServer struct {
 	w      *world
 	offset time.Duration // its clock is ahead by so much
 	away   time.Duration // nobody reaches it before this time
-	lost   bool          // it has lost entries
+	lost   int           // how often it has lost entries
 
 	ever map[svid.TokenKey]map[claims.Owner]bool // whose claims it took first
 	puts [][]claims.Claim                        // that came
 	gone map[svid.TokenKey]gone                  // tokens whose withdrawal was answered as done, and whose claim the store had; claims.Withdrawn for nobody's
-	told map[svid.TokenKey]bool                  // tokens whose withdrawal it has
+	told map[svid.TokenKey]int                   // how often it had lost entries when it took the withdrawal of a token
 }
 
 func newStore(w *world) *storeServer {
-	s := &storeServer{w: w, ever: map[svid.TokenKey]map[claims.Owner]bool{}, gone: map[svid.TokenKey]gone{}, told: map[svid.TokenKey]bool{}}
+	s := &storeServer{w: w, ever: map[svid.TokenKey]map[claims.Owner]bool{}, gone: map[svid.TokenKey]gone{}, told: map[svid.TokenKey]int{}}
 	s.Store = memory.Store{Terms: terms, Now: func() uint64 { return base + uint64((w.now+s.offset)/time.Second) }}
 	return s
 }
@@ -128,7 +129,7 @@ func (l *life) withdrawAtStore(s *server.StoreWithdraw) {
 			return
 		}
 		owner, err := w.store.Withdraw(nil, asked)
-		w.store.told[asked.Key] = true
+		w.store.told[asked.Key] = w.store.lost
 		if losesAnswer {
 			err = errAway
 		}
