@@ -248,6 +248,16 @@ def test_a_number_of_a_life_never_goes_back(machine):
         assert machine.client().get(key) == b"1000"
 
 
+def test_the_last_claim_is_missed_though_many_others_were_found_since(machine):
+    """A server that crashed may lack it alone."""
+    *others, last = [claim(n) for n in range(store_of_redis.MOST_MARKS + 2)]
+    with unwatched(machine.url) as store:
+        for it in (*others, last, *others):
+            put(store, it)
+        machine.client().delete(b"svid:{svid}:" + last.key)
+        assert store.state().deaf > last.expires
+
+
 def test_each_member_has_numbers_of_its_own(machine):
     """By them it sees that a server is an older copy: those of another member may be greater."""
 
