@@ -276,7 +276,7 @@ def test_claims_go_on_once_there_is_memory(monkeypatch):
 def test_want_of_memory_in_any_line_of_a_call_leaves_none_under_way(monkeypatch):
     """Else less and less would go on: at most 64 calls are under way."""
     monkeypatch.setattr(_claims, "_REST", 0.001)
-    functions = {"_taken", "_found", "_put", "_grow", "_answered", "_failed"}
+    functions = {"_taken", "_found", "_grow", "_answered", "_failed"}
     ran, armed, puts = set(), [], []
 
     def line(frame, event, _):
