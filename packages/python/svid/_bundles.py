@@ -2,19 +2,17 @@
 
 from __future__ import annotations
 
-import errno
 import json
 import os
-import stat
 from collections.abc import Mapping, Sequence
 from typing import Any, NamedTuple
 
 from . import _library as lib
+from ._folder import Path, regular
 from ._words import no_memory, said
 from .errors import BadBundles
 from .sources import Endpoint, WorkloadApi
 
-Path = str | os.PathLike[str]
 Bundle = Mapping[str, Any] | bytes | Path | Endpoint
 """The bundle of one trust domain, a JWK set: a dict, JSON text (bytes), a file, or an endpoint."""
 Bundles = Mapping[str, Bundle] | bytes | Path | WorkloadApi
@@ -112,10 +110,8 @@ def bundle_text(name: str, bundle: Mapping[str, Any] | bytes) -> bytes:
 
 
 def contents(path: Path) -> bytes:
-    """What a regular file has. (To open a pipe, or to read one, may take for ever.)"""
-    with open(path, "rb", opener=lambda name, how: os.open(name, how | os.O_NONBLOCK)) as file:
-        if not stat.S_ISREG(os.fstat(file.fileno()).st_mode):
-            raise OSError(errno.EINVAL, "Not a regular file", str(path))
+    """What a regular file has."""
+    with open(regular(path, os.O_RDONLY), "rb") as file:
         text = file.read(lib.INPUT_MOST + 1)
     if len(text) > lib.INPUT_MOST:
         raise BadBundles(f"{path}: {said(lib.TOO_MUCH)}")

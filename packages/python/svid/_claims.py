@@ -172,7 +172,9 @@ class Claims:
         """What the store answers to claims. Raises what it does where none has an answer."""
         # (a store that sorted a list in place would give each answer to another request)
         claims = tuple(claim for _, claim in these)
-        found = [_packed(it) for it in self._put(claims)]
+        # (one of them may have an answer though another one has none)
+        put = getattr(self._store, "put_each", self._store.put)
+        found = [_packed(it) for it in put(claims)]
         if len(found) != len(these):
             raise ValueError(f"{len(these)} claims have {len(found)} answers")
         faults = [it for it in found if isinstance(it, Exception)]
@@ -188,11 +190,6 @@ class Claims:
                 return 0
             pause: int = lib.quick.svid_pacing_unanswered(self._pacing_at)
             return pause
-
-    def _put(self, claims: Sequence[Claim]) -> Sequence[Found | Exception]:
-        """Puts claims. One of them may have an answer though another one has none."""
-        each = getattr(self._store, "put_each", self._store.put)
-        return cast("Sequence[Found | Exception]", each(claims))
 
     def _hear(self) -> None:
         """Reads the store's withdrawals once a second, until it is closed."""

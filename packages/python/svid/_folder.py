@@ -11,9 +11,9 @@ import re
 import socket
 import stat
 
-from ._bundles import Path
 from .errors import Held
 
+Path = str | os.PathLike[str]
 LOCK = "lock"
 ID_FILE = "place"
 SNAPSHOT = "snapshot"
@@ -61,7 +61,7 @@ class Folder:
 
     def read(self, name: str) -> bytes:
         """All bytes of a file."""
-        with open(_regular(self.path / name, os.O_RDONLY), "rb") as file:
+        with open(regular(self.path / name, os.O_RDONLY), "rb") as file:
             return file.read()
 
     def create(self, name: str) -> int:
@@ -159,7 +159,7 @@ class Folder:
 
     def _held(self) -> int:
         """The lock file, locked, with the name of this process."""
-        file = _regular(self.path / LOCK, os.O_RDWR | os.O_CREAT)
+        file = regular(self.path / LOCK, os.O_RDWR | os.O_CREAT)
         try:
             fcntl.flock(file, fcntl.LOCK_EX | fcntl.LOCK_NB)
             now = datetime.datetime.now(datetime.timezone.utc)
@@ -188,7 +188,7 @@ def _identity(of: os.stat_result) -> tuple[int, int]:
     return of.st_dev, of.st_ino
 
 
-def _regular(path: pathlib.Path, how: int) -> int:
+def regular(path: Path, how: int) -> int:
     """Opens a regular file. (To open a pipe, or to read one, may take for ever.)"""
     file = os.open(path, how | os.O_NONBLOCK, 0o600)
     if not stat.S_ISREG(os.fstat(file).st_mode):

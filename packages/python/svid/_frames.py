@@ -126,18 +126,13 @@ class File:
             self.at = reader.at
             if status != lib.OK:
                 break
-            if frame.len:
-                self._take(content[frame.payload : frame.payload + frame.len])
+            if messages := messages_of(content[frame.payload : frame.payload + frame.len]):
+                self.messages.append(messages)
         if status == lib.FILE_OTHER:
             raise OtherFormat(self.name, frame.format)
         if status in (lib.FILE_END, lib.FILE_TEAR, lib.FILE_DAMAGE):
             return status
         raise RuntimeError(f"libsvid answered {status}, which include/svid.h does not explain")
-
-    def _take(self, payload: bytes) -> None:
-        messages = messages_of(payload)
-        if messages:
-            self.messages.append(messages)
 
 
 def _begins_as_messages(content: bytes) -> bool:

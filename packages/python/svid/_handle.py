@@ -13,7 +13,7 @@ from typing import Any
 from . import _library as lib
 from ._bundles import Edition, bundle_words
 from ._signatures import Verifies
-from ._token import Token, says
+from ._token import NO_KEY, Token, evidence, says
 from ._words import REASONS, no_memory, reason, said
 from .errors import (
     REFUSALS,
@@ -174,7 +174,7 @@ class Handle:
                 rows = b""  # Another reason may come before this one, and `now` is to be told.
             else:
                 rows = self._rest(status, ask, *lent)
-        token.look(rows, verifies)
+        token.evidence = evidence(rows, token.text, verifies) if rows else NO_KEY
 
     def withdraw(self, now: int, key: bytes, expires: int) -> Use:
         """Withdraws the token with this key of 32 bytes. Raises Gone."""

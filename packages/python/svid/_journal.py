@@ -16,8 +16,7 @@ import weakref
 from collections.abc import Callable, Iterable
 
 from . import _library as lib
-from ._bundles import Path
-from ._folder import FRAMES, ID_FILE, SNAPSHOT, UNFINISHED, Folder, journal_name, write
+from ._folder import FRAMES, ID_FILE, SNAPSHOT, UNFINISHED, Folder, Path, journal_name, write
 from ._frames import File, Numbers
 from .errors import Closed, Error, Forked, Unavailable
 

@@ -77,7 +77,6 @@ BUNDLES_KEYS = 33
 BUNDLES_UNNAMED = 37
 BUNDLES_TWICE = 38
 
-ID_ROOM = 2048
 MOST_CANDIDATES = 3
 """How many keys are tried for a token."""
 SPKI_ROOM = 2100
@@ -136,21 +135,6 @@ class Id(ctypes.Structure):
     offset: int
     domain_len: int
     path_len: int
-
-
-class Entry(ctypes.Structure):
-    """`svid_entry`: an entry of a record, a use or a withdrawal."""
-
-    _fields_ = [
-        ("withdrawn", c_uint64),
-        ("exp", c_uint64),
-        ("at", c_uint64),
-        ("key", c_uint8 * 32),
-        ("validator_id", c_uint8 * 16),
-    ]
-    withdrawn: int
-    exp: int
-    key: ctypes.Array[c_uint8]
 
 
 class Document(ctypes.Structure):

@@ -13,7 +13,7 @@ from collections.abc import Callable, Iterator, Sequence
 
 from . import _library as lib
 from . import _statements
-from ._bundles import Path
+from ._folder import Path
 from ._journal import Journal
 from .records import Use, batches, entries_of
 from .stores import WITHDRAWN, Claim, Found

@@ -89,12 +89,9 @@ class Token:
         """Frees what it holds. Closing twice does nothing."""
         lib.quick.svid_token_close(self.at)
 
-    def look(self, rows: bytes, verifies: Verifies) -> None:
-        """Looks for the key that made the signature, by what `svid_validator_ask_token` wrote."""
-        self.evidence = _evidence(rows, self.text, verifies) if rows else NO_KEY
 
-
-def _evidence(rows: bytes, text: bytes, verifies: Verifies) -> Evidence:
+def evidence(rows: bytes, text: bytes, verifies: Verifies) -> Evidence:
+    """Looks for the key that made a signature, by what `svid_validator_ask_token` wrote."""
     (length,) = _LEN.unpack_from(rows)
     signed, (signature, at) = text[:length], _field(rows, _LEN.size)
     for alg, key, key_size in _keys(rows[at:]):

@@ -17,7 +17,8 @@ from typing import Any, TypeVar
 
 from . import _library as lib
 from ._allow import allows, patterns
-from ._bundles import Bundles, Path
+from ._bundles import Bundles
+from ._folder import Path
 from ._follow import Followed
 from ._journal import Journal
 from ._local import LocalStore

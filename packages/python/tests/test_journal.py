@@ -453,22 +453,34 @@ def test_a_quiet_journal_writes_nothing_more(tmp_path, monkeypatch):
         until(lambda: 0.01 in waits and waits[-1] is None)
 
 
+def test_a_journal_grows_once_for_many_appends(tmp_path):
+    """To force a new length to the disk takes longer than the bytes."""
+    with contextlib.closing(svid.Journal(tmp_path)) as journal:
+        for name in "journal.1", "journal.2":
+            append(journal, 1)
+            length = (tmp_path / name).stat().st_size
+            append(journal, 2, 3)
+            assert (tmp_path / name).stat().st_size == length
+            journal.snapshot(lambda: [use(1).message])
+
+
 # -- Snapshots
 
 
-def test_a_long_journal_becomes_a_snapshot(tmp_path, monkeypatch):
+@pytest.mark.parametrize("call", ["check", "withdraw"])
+def test_a_long_journal_becomes_a_snapshot(tmp_path, monkeypatch, call):
     monkeypatch.setattr(_journal, "_SMALL", 1000)
     tokens = [fresh(jti=str(it)) for it in range(40)]
     with validator(state=tmp_path) as checks:
         before = checks._journal._keeper._numbers.newest
         for it in tokens:
-            checks.check(it)
+            getattr(checks, call)(it)
         until(lambda: checks._journal._keeper._numbers.newest > before)
         until(lambda: len([it for it in names(tmp_path) if it.startswith("journal")]) == 1)
         assert (tmp_path / "snapshot").stat().st_size > 400
     with validator(state=tmp_path) as checks:
         for it in tokens:
-            with pytest.raises(svid.Replayed):
+            with pytest.raises(svid.Replayed if call == "check" else svid.Withdrawn):
                 checks.check(it)
 
 

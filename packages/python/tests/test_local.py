@@ -109,11 +109,29 @@ def test_a_snapshot_keeps_the_end_of_an_epoch(opened, clock):
     assert put(opened(), b"k", b"2")[1] == NOW + 1000 + LASTS
 
 
+def test_a_snapshot_keeps_the_time(opened, clock):
+    """The claims in it are older, and one that was dropped is not there to be found."""
+    store = opened()
+    put(store, b"l", b"1", 3000)
+    put(store, b"k", b"1")
+    clock.at = NOW + 1000  # the entry is over, and dropped
+    store.put([])
+    store._journal.snapshot(store._parts)
+    opened()
+    clock.at = NOW + 1
+    assert put(opened(), b"k", b"2")[1] == NOW + 1000 + LASTS
+
+
 def test_a_clock_may_step_back_by_a_minute(opened, clock):
+    """In one step or in several, also over a restart."""
     store = opened()
     store.put([])
     clock.at -= 60
     assert put(store, b"k", b"1") == (b"1", 0)
+    store._journal.snapshot(store._parts)
+    store = opened()
+    clock.at -= 1
+    assert put(store, b"k", b"1") == (b"1", NOW + LASTS)
 
 
 def test_an_entry_is_on_the_disk_before_it_is_answered(opened, tmp_path):

@@ -276,7 +276,7 @@ def test_claims_go_on_once_there_is_memory(monkeypatch):
 def test_want_of_memory_in_any_line_of_a_call_leaves_none_under_way(monkeypatch):
     """Else less and less would go on: at most 64 calls are under way."""
     monkeypatch.setattr(_claims, "_REST", 0.001)
-    functions = {"_taken", "_found", "_put", "_grow", "_answered", "_failed"}
+    functions = {"_taken", "_found", "_grow", "_answered", "_failed"}
     ran, armed, puts = set(), [], []
 
     def line(frame, event, _):
@@ -518,6 +518,40 @@ def test_a_claim_without_an_answer_stops_no_other():
         until(lambda: [[it.key for it in claims] for claims in store.puts].count([store.away]) > 1)
         store.away = b""
         assert [it.answer for it in both] == [SUBJECT, SUBJECT]
+
+
+def test_a_store_that_answers_some_claims_alone_may_be_away():
+    """Its call ends well, but the server of a Cluster that has the others is away."""
+
+    class Partly(svid.testing.MemoryStore):
+        def put_each(self, claims):
+            found = self.put(claims)
+            return [*found[:1], *[ConnectionError("its server is away") for _ in found[1:]]]
+
+    class Requests:
+        """Those of a validator. One whose claim was put once waits no more."""
+
+        sent, is_answered = [], threading.Event()
+
+        def send(self, due):
+            if due.number not in self.sent:
+                self.sent.append(due.number)
+                return svid.Claim(due.key, b"o" * 32, due.expires)
+
+        def reached(self):
+            """They are asked nothing."""
+
+        def found(self, _number, _found):
+            self.is_answered.set()
+
+    requests = Requests()
+    claims = _claims.Claims(Partly(), requests, tells=False)
+    for n in range(2):
+        claims.add(_claims.Due(n, bytes([n]) * 32, int(time.time()) + 300, bytes(16)))
+    with contextlib.closing(claims):
+        claims.begin(PATIENCE)
+        assert requests.is_answered.wait(PATIENCE)
+        assert claims.look(0)
 
 
 def test_calls_one_after_the_other_share_some_threads():

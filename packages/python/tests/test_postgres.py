@@ -605,6 +605,26 @@ def test_a_connection_to_a_standby_ends(monkeypatch):
     assert [it.is_open for it in made] == [False] * 3
 
 
+def test_what_was_given_up_is_ended_though_that_fails_once(monkeypatch):
+    """A session that waits for a standby has its token, and waits for ever."""
+    asked = []
+
+    def call(name, values, _):
+        asked.append((name, values))
+        store._left.append("3 now")  # (another call is given up meanwhile)
+        raise StoreFault("silent")
+
+    store = PostgresStore.__new__(PostgresStore)
+    store._begin(["postgres://u@h/d"], "svid", 1, PATIENCE, (7200, 60, 60))
+    monkeypatch.setattr(store, "_call", call)
+    with store:
+        store._left = ["1 now", "2 now"]
+        for _ in range(2):
+            with pytest.raises(StoreFault, match="in time"):
+                store.state()
+    assert asked == [("terminate", [it]) for it in ("1 now,2 now", "1 now,2 now,3 now")]
+
+
 def test_withdrawals_are_forgotten_once_they_are_over(machine, group):
     with store_of(machine, group) as store:
         store.withdraw(claim(2).key, put(store, claim(1))[0].time - 119)

@@ -254,6 +254,16 @@ def test_a_number_of_a_life_never_goes_back(machine):
         assert machine.client().get(key) == b"1000"
 
 
+def test_the_last_claim_is_missed_though_many_others_were_found_since(machine):
+    """A server that crashed may lack it alone."""
+    *others, last = [claim(n) for n in range(store_of_redis.MOST_MARKS + 2)]
+    with unwatched(machine.url) as store:
+        for it in (*others, last, *others):
+            put(store, it)
+        machine.client().delete(b"svid:{svid}:" + last.key)
+        assert store.state().deaf > last.expires
+
+
 def test_each_member_has_numbers_of_its_own(machine):
     """By them it sees that a server is an older copy: those of another member may be greater."""
 
@@ -586,7 +596,7 @@ def test_an_address_that_leads_to_another_server(machine, tmp_path):
 def test_a_cluster_whose_servers_do_not_know_their_names(tmp_path):
     """They tell no host, which then is the one that was asked.
 
-    The slots of two shards are the last and the first one of a range.
+    The slots of two shards are the last and the first one of a range. A server may get them later.
     """
     more = ["--cluster-enabled", "yes", "--cluster-preferred-endpoint-type", "unknown-endpoint"]
     more += ["--cluster-require-full-coverage", "no"]
@@ -598,8 +608,11 @@ def test_a_cluster_whose_servers_do_not_know_their_names(tmp_path):
     with held_ports(2) as (port, bus):
         made = Machine(tmp_path / "one", *more, "--cluster-port", str(bus), port=port)
     try:
-        made.client().execute_command("CLUSTER ADDSLOTSRANGE", *ranges)
+        made.client().execute_command("CLUSTER ADDSLOTSRANGE", *ranges[:4])
         with RedisStore(f"redis://127.0.0.1:{port}", wait=PATIENCE) as store:
+            with pytest.raises(StoreFault, match="no server of the Cluster has a slot"):
+                store.put([claim(1), claim(200)])
+            made.client().execute_command("CLUSTER ADDSLOTSRANGE", *ranges[4:])
             assert put(store, claim(1), claim(200))[1].owner == b"o" * 32
             assert len(store._shards) == 16
     finally:
