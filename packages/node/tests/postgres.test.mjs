@@ -400,6 +400,20 @@ test("warnings of a store", async () => {
   assert.equal(count("has ended"), 1);
 });
 
+test("a token that lives too long for a number of the server holds up no other one of its call", async () => {
+  const name = await group(), forever = { ...claim(1), expires: 2n ** 64n - 1n };
+  await withStores([{ group: name }], async (store) => {
+    await put(store, claim(0));
+    for (const claims of [[forever], [forever, claim(2)]]) {
+      const found = await until(async () => {
+        const all = (await store.putEach(claims)).map((it) => it.reason ?? "answered");
+        return !all.some((it) => ["silent", "unlooked"].includes(it)) && all; // (on a busy machine)
+      });
+      assert.deepEqual(found, ["late", "answered"].slice(0, claims.length));
+    }
+  });
+});
+
 test("a store that is not there yet", async () => {
   await withStores([{ group: "later" }], async (store) => {
     const { reason, message } = await faultOf(store);
