@@ -4,6 +4,7 @@ import assert from "node:assert/strict";
 import { readFile } from "node:fs/promises";
 import { createServer } from "node:http";
 import { test } from "node:test";
+import { atEnd } from "./ending.mjs";
 import { PACKAGE, TOP, issuer, token } from "./making.mjs";
 
 const { Browser } = await import(`${TOP}/packages/page/tests/browser.mjs`);
@@ -32,6 +33,7 @@ test("a token is accepted once, in Chromium too", async () => {
     res.setHeader("Content-Type", TYPES[req.url.split(".").at(-1)] ?? "text/plain").end(content);
   });
   await new Promise((resolve) => server.listen(0, "127.0.0.1", resolve));
+  atEnd(() => server.close());
   const browser = await Browser.start();
   try {
     const { targetId } = await browser.send("Target.createTarget", { url: "about:blank" });
@@ -54,6 +56,5 @@ test("a token is accepted once, in Chromium too", async () => {
     assert.equal(result.value, [`${url}svid.wasm can't be fetched: status 404`, id, "Replayed", "BadSignature", "NotThreeParts", `Replayed,Replayed,${id}`].join(" "));
   } finally {
     await browser.close();
-    server.close();
   }
 });

@@ -9,7 +9,8 @@ import { tmpdir } from "node:os";
 import { join } from "node:path";
 import { after, before, test } from "node:test";
 import { authority, certificate, vouching } from "./certificates.mjs";
-import { PACKAGE, PATIENCE, gate, imported, issuer, run, said, token, until, within } from "./making.mjs";
+import { atEnd, imported } from "./ending.mjs";
+import { PACKAGE, PATIENCE, gate, issuer, run, said, token, until, within } from "./making.mjs";
 
 const { Validator } = await imported(), { Sources } = await imported("src/follow.js");
 const NODE = process.execArgv.filter((it) => !it.startsWith("--test"));
@@ -66,7 +67,9 @@ async function serving(shown, listener, make = createServer) {
   await new Promise((resolve) => server.listen(0, "127.0.0.1", resolve));
   it.url = `https://localhost:${server.address().port}/bundle`;
   it.show = (other) => server.setSecureContext(other);
+  it.open = () => new Promise((resolve) => server.getConnections((_, count) => resolve(count)));
   it.close = () => (server.closeAllConnections(), new Promise((resolve) => server.close(resolve)));
+  atEnd(it.close);
   return it;
 }
 
@@ -244,6 +247,15 @@ test("https_web: what a server answers beside a bundle is a fault, and the last 
   assert.equal(plain.asked, 0);
   it.sources.close();
   await Promise.all([server.close(), plain.close()]);
+});
+
+test("an answer that is no bundle leaves no connection", async () => {
+  const server = await serving(ofWeb(), (_req, res) => res.writeHead(404).end("none".repeat(1_000_000)));
+  const it = await looking({ "example.org": { url: server.url, authorities: web.cert } }, { longest: 0.01 });
+  await until(() => server.asked > 8);
+  await until(async () => (await server.open()) < 3);
+  it.sources.close();
+  await server.close();
 });
 
 test("https_web: a server that does not answer to the end in time is asked again", async () => {

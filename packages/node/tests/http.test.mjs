@@ -5,7 +5,8 @@ import { createServer, request } from "node:http";
 import { createRequire } from "node:module";
 import { test } from "node:test";
 import { format } from "node:util";
-import { imported, issuer, now, token, until, within } from "./making.mjs";
+import { imported } from "./ending.mjs";
+import { issuer, now, token, until, within } from "./making.mjs";
 
 const { MemoryStore, Validator, guard, protect } = await imported();
 // (Debian's packages stand where only `require` looks)

@@ -7,7 +7,8 @@ import { join } from "node:path";
 import { test } from "node:test";
 import { setFlagsFromString } from "node:v8";
 import { runInNewContext } from "node:vm";
-import { PATIENCE, imported, issuer, said, token, until } from "./making.mjs";
+import { imported } from "./ending.mjs";
+import { PATIENCE, issuer, said, token, until } from "./making.mjs";
 
 const { Bundles, Validator } = await imported(), { MemoryStore } = await imported("testing.js");
 // (each life starts the module nine times: SVID_TEST_LIVES says how many are to be lived)
@@ -110,5 +111,24 @@ test("lives of validators leave no descriptor, no timer and no memory", async ()
   } finally {
     process.off("warning", note);
     await rm(room, { recursive: true });
+  }
+});
+
+test("keys of bundles that were replaced are freed", async () => {
+  const { subtle } = globalThis.crypto ?? (await import("node:crypto")).webcrypto, { importKey } = subtle, one = issuer(), keys = [];
+  subtle.importKey = async (...given) => {
+    const key = await importKey.apply(subtle, given);
+    keys.push(new WeakRef(key));
+    return key;
+  };
+  try {
+    const validator = await Validator.open({ audiences: "ledger", bundles: one.bundles, mode: "reuse", wait: PATIENCE });
+    assert.equal(await said(validator.check(token(one))), "accepted");
+    validator.renew(issuer().bundles);
+    assert.equal(keys.length, 1);
+    await until(() => (collect(), !keys[0].deref()));
+    validator.close();
+  } finally {
+    subtle.importKey = importKey;
   }
 });

@@ -2,7 +2,8 @@
 
 import assert from "node:assert/strict";
 import { test } from "node:test";
-import { PACKAGE, PATIENCE, counted, gate, imported, issuer, listed, now, run, said, seen, token, until, within } from "./making.mjs";
+import { imported } from "./ending.mjs";
+import { PACKAGE, PATIENCE, counted, gate, issuer, listed, now, run, said, seen, token, until, within } from "./making.mjs";
 
 const { MemoryStore, SvidError, Unavailable, Validator } = await imported();
 const { sentences } = await listed();

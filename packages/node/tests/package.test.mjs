@@ -1,6 +1,7 @@
 // The archive by itself, and the types.
 
 import assert from "node:assert/strict";
+import { readFileSync } from "node:fs";
 import { copyFile, mkdir, mkdtemp, readFile, readdir, rm, writeFile } from "node:fs/promises";
 import { tmpdir } from "node:os";
 import { join } from "node:path";
@@ -11,6 +12,7 @@ import { PACKAGE, TOP, digest, imported, read, run } from "./making.mjs";
 // The sources of the package that is tested.
 const SOURCES = fileURLToPath(new URL("..", import.meta.url));
 const NODE = process.execArgv.filter((it) => !it.startsWith("--test"));
+const sourceOf = (name) => readFileSync(join(SOURCES, name), "utf8");
 let room;
 
 before(async () => {
@@ -88,9 +90,9 @@ test("no name in the package is unknown or unused", async () => {
 });
 
 test("the types have what the package has", async () => {
-  const types = read("packages/node/index.d.ts"), svid = await imported();
+  const types = sourceOf("index.d.ts"), svid = await imported();
   for (const it of ["index", "testing"]) {
-    const declared = [...read(`packages/node/${it}.d.ts`).matchAll(/^export (?:(?:class|function|const) (\w+)|\{ (\w+) \})/gm)].map(([, name, other]) => name ?? other);
+    const declared = [...sourceOf(`${it}.d.ts`).matchAll(/^export (?:(?:class|function|const) (\w+)|\{ (\w+) \})/gm)].map(([, name, other]) => name ?? other);
     assert.deepEqual(declared.sort(), Object.keys(await imported(`${it}.js`)).sort());
   }
   for (const name of ["Validator", "Bundles"]) {
@@ -106,7 +108,7 @@ test("the types have what the package has", async () => {
 });
 
 for (const file of ["index.d.ts", "testing.d.ts"]) test(`everything public in ${file} is documented`, () => {
-  const lines = read(`packages/node/${file}`).split("\n");
+  const lines = sourceOf(file).split("\n");
   for (const [n, line] of lines.entries()) {
     if (!/^export (class|interface|type|function|const) |^ {2}(static |readonly )?\w+\??[(:]/.test(line) || /constructor|\boff: /.test(line)) continue;
     const isOfOutgoing = /^ {2}(statusCode|setHeader|end)\b/.test(line);

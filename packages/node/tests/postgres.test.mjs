@@ -11,7 +11,8 @@ import { createInterface } from "node:readline";
 import { after, test } from "node:test";
 import { TLSSocket } from "node:tls";
 import { authority, certificate } from "./certificates.mjs";
-import { PATIENCE, ended, gate, imported, issuer, now, run, said, token, until, within } from "./making.mjs";
+import { imported } from "./ending.mjs";
+import { PATIENCE, ended, gate, issuer, now, run, said, token, until, within } from "./making.mjs";
 import { OfGo, roomy } from "./of-go.mjs";
 
 const pg = createRequire(import.meta.url)("pg");
@@ -35,6 +36,11 @@ const room = await mkdtemp(join(tmpdir(), "svid-postgres-")), ofGo = new OfGo("p
 
 // A server of PostgreSQL, which takes `kill`, `start`, `pause`, `resume` and SQL.
 const serving = spawn(await ofGo.program(), ["-test.run", "^TestAServerOfAnotherLanguage$"], { env: { ...roomy(), SVID_STORE_SERVER: "1" }, stdio: ["pipe", "pipe", "inherit"] });
+after(async () => {
+  serving.stdin.end();
+  await ended("the server", serving);
+  await rm(room, { recursive: true, force: true });
+});
 const lines = createInterface({ input: serving.stdout })[Symbol.asyncIterator]();
 const heard = async () => (await within("an answer of the server", lines.next())).value;
 const url = await heard();
@@ -42,11 +48,6 @@ const tell = async (what) => {
   serving.stdin.write(`${what}\n`);
   return heard();
 };
-after(async () => {
-  serving.stdin.end();
-  await ended("the server", serving);
-  await rm(room, { recursive: true, force: true });
-});
 
 let groups = 0;
 const OWNER = new Uint8Array(32).fill(111), WITHDRAWN = new Uint8Array(32);
@@ -397,6 +398,20 @@ test("warnings of a store", async () => {
     assert((await put(store, claim(1))).deaf >= claim(1).expires);
   });
   assert.equal(count("has ended"), 1);
+});
+
+test("a token that lives too long for a number of the server holds up no other one of its call", async () => {
+  const name = await group(), forever = { ...claim(1), expires: 2n ** 64n - 1n };
+  await withStores([{ group: name }], async (store) => {
+    await put(store, claim(0));
+    for (const claims of [[forever], [forever, claim(2)]]) {
+      const found = await until(async () => {
+        const all = (await store.putEach(claims)).map((it) => it.reason ?? "answered");
+        return !all.some((it) => ["silent", "unlooked"].includes(it)) && all; // (on a busy machine)
+      });
+      assert.deepEqual(found, ["late", "answered"].slice(0, claims.length));
+    }
+  });
 });
 
 test("a store that is not there yet", async () => {

@@ -9,7 +9,8 @@ import { syncBuiltinESMExports } from "node:module";
 import { tmpdir } from "node:os";
 import { basename, dirname, join } from "node:path";
 import { after, afterEach, before, beforeEach, test } from "node:test";
-import { PACKAGE, PATIENCE, TOP, built, ended, gate, hex, imported, issuer, now, run, said, token, until, within } from "./making.mjs";
+import { imported } from "./ending.mjs";
+import { PACKAGE, PATIENCE, TOP, built, ended, gate, hex, issuer, now, run, said, token, until, within } from "./making.mjs";
 
 const { Validator } = await imported(), { Library } = await imported("src/library.js");
 const { Journal } = await imported("src/journal.js"), { LocalStore } = await imported("src/local.js"), { OutOfMemory } = await imported("src/errors.js");

@@ -2,7 +2,8 @@
 
 import assert from "node:assert/strict";
 import { test } from "node:test";
-import { PATIENCE, imported, said } from "./making.mjs";
+import { imported } from "./ending.mjs";
+import { PATIENCE, said } from "./making.mjs";
 
 const { Validator } = await imported(), { Clock, Issuer, MemoryStore } = await imported("testing.js");
 

@@ -13,6 +13,10 @@ await Validator.open({ audiences: "ledger" });
 await Validator.open({ audiences: "ledger", bundles: "{}", follow: { folder: "bundles" } });
 const follow: Follow = { folder: "bundles", sources: { "example.com": "a.json", "example.net": { url: "https://example.net/", id: "spiffe://example.net/server" } } };
 const followed = await Validator.open({ audiences: "ledger", follow: { ...follow, onFault: (why, source) => console.error(why?.message, source) }, now: () => 5n });
+// @ts-expect-error (a source that is well again has no fault)
+const heard: Follow = { folder: "bundles", onFault: (why) => console.error(why.message) };
+// @ts-expect-error (a validator that is ready has no reason)
+const unready: string = followed.unready();
 // @ts-expect-error (no life has this name)
 await Validator.open({ audiences: "ledger", bundles: "{}", longest: "short" });
 await Validator.open({ audiences: "ledger", bundles: "{}", longest: "unlimited" });
@@ -89,4 +93,4 @@ const listener = protect(validator, (req: { rawHeaders: string[]; svid: Accepted
 const bearer = validator.bearer(["Bearer a"]);
 if (bearer.token) await validator.check(bearer.token);
 else console.log(bearer.several || bearer.spelling);
-void [claims, followed, ofExpress, unsure, id, expires, message, early, moment, uses, names, middleware, listener, reason, isKnown];
+void [claims, followed, heard, unready, ofExpress, unsure, id, expires, message, early, moment, uses, names, middleware, listener, reason, isKnown];

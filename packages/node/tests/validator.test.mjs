@@ -8,7 +8,8 @@ import { tmpdir } from "node:os";
 import { join } from "node:path";
 import { test } from "node:test";
 import { inspect } from "node:util";
-import { PACKAGE, TOP, counted, digest, exhausted, hex, imported, issuer, listed, made, now, read, run, said, seen, token, within } from "./making.mjs";
+import { imported } from "./ending.mjs";
+import { PACKAGE, TOP, counted, digest, exhausted, hex, issuer, listed, made, now, read, run, said, seen, token, within } from "./making.mjs";
 
 const { Bundles, MemoryStore, REFUSALS, Refusal, SvidError, Validator } = await imported();
 const { sentences } = await listed();

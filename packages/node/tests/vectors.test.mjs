@@ -5,7 +5,8 @@ import { mkdtemp, rm, writeFile } from "node:fs/promises";
 import { tmpdir } from "node:os";
 import { join } from "node:path";
 import { test } from "node:test";
-import { bytesOf, hex, imported, listed, read } from "./making.mjs";
+import { imported } from "./ending.mjs";
+import { bytesOf, hex, listed, read } from "./making.mjs";
 
 const { BadBundles, BadMessages, Bundles, Refusal, SvidError, Validator, guard } = await imported();
 const { Library } = await imported("src/library.js");

@@ -2,7 +2,8 @@
 
 import assert from "node:assert/strict";
 import { test } from "node:test";
-import { imported, listed, now } from "./making.mjs";
+import { imported } from "./ending.mjs";
+import { listed, now } from "./making.mjs";
 
 const { Validator } = await imported(), { Library } = await imported("src/library.js");
 const { LISTED, sentences, wholeClause } = await listed();
