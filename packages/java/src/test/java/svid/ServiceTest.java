@@ -544,7 +544,7 @@ public class ServiceTest {
     public void aWithdrawalWhileTheMachineWasSuspended() throws Exception {
         for (Mode mode : List.of(Mode.ONCE, Mode.BOUND, Mode.REUSE)) {
             Suspended store = new Suspended(clock);
-            try (Validator validator = open(options().mode(mode).store(store).wait(PATIENT))) {
+            try (Validator validator = open(options().mode(mode).store(store).wait(Duration.ofSeconds(Making.PATIENCE)))) {
                 store.rest(validator);
                 for (int n = 0; n < 4; n++) {
                     String token = issuer.token("/a", "ledger");

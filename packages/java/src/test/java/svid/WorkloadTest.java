@@ -364,7 +364,9 @@ public class WorkloadTest {
             until(() -> {
                 stream.set(new Workload(agent.address, 5000, 10_000));
                 try {
-                    return stream.get().next().keySet().equals(Set.of("spiffe://example.org"));
+                    assertEquals(Set.of("spiffe://example.org"), stream.get().next().keySet());
+                    agent.gives(Map.of("spiffe://example.org", NO_KEYS));
+                    return !stream.get().next().isEmpty(); // (only one whose first message was not late has another)
                 } catch (IOException late) {
                     stream.get().close();
                     return false;
