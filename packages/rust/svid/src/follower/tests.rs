@@ -71,6 +71,21 @@ fn a_bundle_stays_when_the_source_goes_that_gave_it_first() {
     assert_eq!(shared.state().held.keys().collect::<Vec<_>>(), ["example.org"]);
 }
 
+/// Its file may have had the same bundle as before meanwhile.
+#[test]
+fn a_fault_that_comes_again_is_told_again() {
+    let heard = Heard::default();
+    let requests = Requests::open(&heard.options(), false).expect("it opens");
+    let shared = quiet(&requests, Sources::new(), State::default());
+    for count in 1..=3 {
+        assert!(shared.take("a.example", "a test", Ok(r#"{"keys":[]}"#.into()), Form::Bundle));
+        for _ in 0..2 {
+            assert!(!shared.take("a.example", "a test", Err("it is away".to_owned()), Form::Bundle));
+        }
+        assert_eq!(heard.count("it is away"), count);
+    }
+}
+
 #[test]
 fn of_a_long_file_no_more_is_read_than_a_bundle_has() {
     let room = Room::new("long");

@@ -758,6 +758,8 @@ fn requests_and_withdrawals_have_their_time_from_when_they_come() {
 fn withdrawals_are_heard() {
     let store = Fickle::new();
     let other = opened(&strict(&store));
+    // (one whose token has expired holds up none of the others)
+    store.store.withdraw(TokenKey([9; 32]), time() - 1).expect("there is memory");
     for mode in [Mode::Once, Mode::Reuse, Mode::Bound] {
         let (before, after) = (another(), another());
         withdraw(&other, before).expect("the store is well");
@@ -1106,6 +1108,31 @@ fn a_panic_leaves_nobody_behind() {
     assert!(nothing_waits(&guard));
     assert_eq!(guard.requests.core().due(), Ok(u64::MAX));
     assert_eq!(answer(soon(&guard, &fresh(1))), "accepted");
+}
+
+/// So it has where that one was first in the store.
+#[test]
+fn a_panic_after_an_answer_of_the_store_leaves_nobody_behind() {
+    let (store, panics) = (Fickle::new(), Arc::new(AtomicBool::new(false)));
+    let does = Arc::clone(&panics);
+    let verifier = By(move || {
+        if does.swap(false, Ordering::AcqRel) {
+            std::panic::panic_any("a test");
+        }
+    });
+    let guard = verifying(&strict(&store).wait(LONG), verifier);
+    let go = store.hold();
+    let first = soon(&guard, &fresh(1));
+    until(|| !store.counts().is_empty());
+    let second = soon(&guard, &fresh(1));
+    until(|| guard.requests.core().waits() == 2);
+    // (so the first one looks for its keys again)
+    guard.follow(bundles()).expect("they are good");
+    panics.store(true, Ordering::Release);
+    go.store(true, Ordering::Release);
+    until(|| first.is_finished());
+    assert!(first.join().is_err());
+    assert_eq!(answer(second), "accepted");
 }
 
 /// What a service writes into its log has neither bundles nor tokens, and is short.
@@ -1642,11 +1669,12 @@ fn a_guard_takes_snapshots_by_itself() {
     assert!(room.0.join("snapshot").exists(), "one is taken at the start");
     let journal = guard.journal.as_ref().expect("it has one");
     assert_eq!(guard.validator_id(), journal.validator_id());
-    for _ in 0..2 {
+    for withdraws in [false, false, true] {
         std::fs::remove_file(room.0.join("snapshot")).expect("it is there");
         until(|| {
             journal.let_a_snapshot_be_due();
-            check(&guard, &fresh(another())) == "accepted" && room.0.join("snapshot").exists()
+            let is_kept = if withdraws { withdraw(&guard, another()).is_ok() } else { check(&guard, &fresh(another())) == "accepted" };
+            is_kept && room.0.join("snapshot").exists()
         });
     }
     assert_eq!(*heard.lock().unwrap(), [""; 0]);
