@@ -758,14 +758,14 @@ fn requests_and_withdrawals_have_their_time_from_when_they_come() {
 fn withdrawals_are_heard() {
     let store = Fickle::new();
     let other = opened(&strict(&store));
-    // (one whose token has expired holds up none of the others)
-    store.store.withdraw(TokenKey([9; 32]), time() - 1).expect("there is memory");
     for mode in [Mode::Once, Mode::Reuse, Mode::Bound] {
         let (before, after) = (another(), another());
         withdraw(&other, before).expect("the store is well");
         let guard = opened(&ledger().mode(mode).store(Arc::clone(&store) as Arc<dyn Store>).wait(LONG));
         let judged = |number: usize| word(guard.judge(fresh(number)));
         assert_eq!((unready(&guard).as_str(), judged(before).as_str()), ("", "Withdrawn"));
+        // (one whose token has expired holds up none of the others)
+        store.store.withdraw(TokenKey([9; 32]), time() - 1).expect("there is memory");
         withdraw(&other, after).expect("the store is well");
         until(|| judged(after) == "Withdrawn");
         // (what it lost, it tells no more)
@@ -784,24 +784,28 @@ fn withdrawals_are_heard() {
     assert_eq!(alone.asked.load(Ordering::Relaxed), 0);
 }
 
-/// A clock of the service that panics does not end who hears of them: they are heard once it is well.
+/// A clock of the service that panics does not end who hears of them, and one that jumps loses none: they are heard once it is well.
 #[test]
 fn withdrawals_while_the_clock_panics() {
-    let (store, panics, token) = (Fickle::new(), Arc::new(AtomicBool::new(false)), another());
-    let fails = Arc::clone(&panics);
-    let clock = move || match fails.load(Ordering::Acquire) {
-        true => std::panic::panic_any("a test"),
-        false => time(),
-    };
-    let (options, heard) = hearing(ledger().store(Arc::clone(&store) as Arc<dyn Store>).wait(LONG).clock(clock));
-    let guard = opened(&options);
-    assert_eq!(unready(&guard), "");
-    panics.store(true, Ordering::Release);
-    withdraw(&opened(&strict(&store)), token).expect("the store is well");
-    let is_heard = |it: &String| it == "the withdrawals of the group's store can't be read: the call panicked";
-    until(|| heard.lock().unwrap().iter().any(is_heard));
-    panics.store(false, Ordering::Release);
-    until(|| word(guard.judge(fresh(token))) == "Withdrawn");
+    for panics in [true, false] {
+        let (store, is_wrong, token) = (Fickle::new(), Arc::new(AtomicBool::new(false)), another());
+        let wrong = Arc::clone(&is_wrong);
+        let clock = move || match wrong.load(Ordering::Acquire) {
+            true if panics => std::panic::panic_any("a test"),
+            true => time() + 7200,
+            false => time(),
+        };
+        let (options, heard) = hearing(ledger().step(3600).store(Arc::clone(&store) as Arc<dyn Store>).wait(LONG).clock(clock));
+        let guard = opened(&options);
+        assert_eq!(unready(&guard), "");
+        is_wrong.store(true, Ordering::Release);
+        withdraw(&opened(&strict(&store)), token).expect("the store is well");
+        let why = if panics { "the call panicked" } else { "now is more than step seconds past" };
+        let is_heard = |it: &String| it.starts_with(&format!("the withdrawals of the group's store can't be read: {why}"));
+        until(|| heard.lock().unwrap().iter().any(is_heard));
+        is_wrong.store(false, Ordering::Release);
+        until(|| word(guard.judge(fresh(token))) == "Withdrawn");
+    }
 }
 
 /// Until they were read, no token is judged.
