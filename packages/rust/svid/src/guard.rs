@@ -221,7 +221,7 @@ impl<V> Guard<V> {
     /// Takes a snapshot in the background, if one is due.
     fn tidy(&self) {
         let journal = match &self.journal {
-            Some(journal) if journal.is_snapshot_due() => Arc::clone(journal),
+            Some(journal) if journal.wants_snapshot() => Arc::clone(journal),
             _ => return,
         };
         let mut last = match self.snapshot.try_lock() {

@@ -71,6 +71,36 @@ fn a_bundle_stays_when_the_source_goes_that_gave_it_first() {
     assert_eq!(shared.state().held.keys().collect::<Vec<_>>(), ["example.org"]);
 }
 
+/// Each fault is told once, and again where the source was well meanwhile: its file may have had the same bundle as before.
+#[test]
+fn a_fault_that_comes_again_is_told_again() {
+    let (heard, room, good) = (Heard::default(), Room::new("again"), r#"{"keys":[]}"#);
+    let requests = Requests::open(&heard.options(), false).expect("it opens");
+    let folder = room.0.join("folder");
+    let shared = quiet(&requests, Sources::new().folder(&folder), State::default());
+    let hold = |text: &str| {
+        let held = Held { text: text.into(), form: Form::Bundle, source: "another test".to_owned() };
+        shared.state().held.insert("b.example".to_owned(), held);
+        shared.state().is_due = true;
+        shared.tell_all();
+    };
+    for count in 1..=2 {
+        assert!(shared.take("a.example", "a test", Ok(good.into()), Form::Bundle));
+        hold(good);
+        std::fs::create_dir(&folder).expect("nothing is there");
+        shared.look();
+        std::fs::remove_dir(&folder).expect("it is there");
+        for _ in 0..2 {
+            assert!(!shared.take("a.example", "a test", Err("it is away".to_owned()), Form::Bundle));
+            hold("half");
+            shared.look();
+        }
+        for source in ["a test", "all bundles together", &folder.display().to_string()] {
+            assert_eq!(heard.count(&format!(": {source}: ")), count, "{:?}", heard.all());
+        }
+    }
+}
+
 #[test]
 fn of_a_long_file_no_more_is_read_than_a_bundle_has() {
     let room = Room::new("long");

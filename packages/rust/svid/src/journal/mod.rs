@@ -60,26 +60,24 @@ pub struct Journal {
 struct Keeper {
     folder: Folder,
     /// Held over a snapshot.
-    switch: Mutex<Switch>,
+    switch: Mutex<()>,
     /// Held over a write. A thread that has the switch may take it; never the other way round.
     writing: Mutex<Writing>,
     /// Guards what the next write takes. No other locks but those of its messages are taken with it held.
     gate: Mutex<Gate>,
     /// The next write has something to take, or the journal is being closed.
     comes: Condvar,
-    /// A snapshot was due after the last write.
+    /// A snapshot was due after the last write, and nobody has heard of it. Whoever looks at that has `writing`.
     is_due: AtomicBool,
 }
 
-struct Switch {
+struct Writing {
+    /// A snapshot is due, however long the journals are.
     wants: bool,
+    /// From when on one may be due: at no time while one is being taken.
+    from: Option<Instant>,
     /// How many bytes the snapshot has.
     kept: u64,
-    /// Until when none is due.
-    pause: Option<Instant>,
-}
-
-struct Writing {
     numbers: Numbers,
     /// The journal that grows.
     file: Option<Growing>,
@@ -131,7 +129,7 @@ impl Journal {
     /// Lets the next write find that a snapshot is due.
     #[cfg(test)]
     pub(crate) fn let_a_snapshot_be_due(&self) {
-        lock(&self.keeper.switch).wants = true;
+        lock(&self.keeper.writing).wants = true;
     }
 
     fn open_by(folder: Folder) -> Result<Journal, JournalError> {
@@ -145,14 +143,14 @@ impl Journal {
         }
         let (known, journals) = (folder.validator_id()?, folder.journals().map_err(|why| JournalError::io(folder.path(""), why))?);
         let names = std::iter::once((0, SNAPSHOT.to_owned())).chain(journals.iter().map(|it| (*it, journal_name(*it))));
-        let mut switch = Switch { wants: journals.len() >= MANY_JOURNALS, kept: 0, pause: None };
-        let (mut found, mut torn, mut older) = (Vec::new(), Vec::new(), 0);
+        let (mut wants, mut kept, mut older) = (journals.len() >= MANY_JOURNALS, 0, 0);
+        let (mut found, mut torn) = (Vec::new(), Vec::new());
         for (number, name) in names {
             let file = folder.path(&name);
             let content = match folder.read(&name) {
                 Ok(content) => content,
                 Err(why) if number == 0 && why.kind() == ErrorKind::NotFound => {
-                    switch.wants = true;
+                    wants = true;
                     continue;
                 }
                 Err(why) => return Err(JournalError::io(file, why)),
@@ -165,7 +163,7 @@ impl Journal {
                 torn.push(file);
             }
             match number {
-                0 => switch.kept = read.at,
+                0 => kept = read.at,
                 _ => older += read.at,
             }
             found.push(read);
@@ -179,6 +177,9 @@ impl Journal {
         }
         let (oldest, newest) = (journals.first().copied().unwrap_or(1), journals.last().copied().unwrap_or(0));
         let writing = Writing {
+            wants,
+            from: Some(Instant::now()),
+            kept,
             numbers: Numbers::open(validator_id, oldest, newest)?,
             file: None,
             next: None,
@@ -189,13 +190,14 @@ impl Journal {
         };
         let keeper = Arc::new(Keeper {
             folder,
-            switch: Mutex::new(switch),
+            switch: Mutex::new(()),
             writing: Mutex::new(writing),
             gate: Mutex::new(Gate { commit: None, is_closing: false }),
             comes: Condvar::new(),
             is_due: AtomicBool::new(false),
         });
-        keeper.make_calls(&mut lock(&keeper.switch), None)?;
+        keeper.make_calls(None)?;
+        keeper.look(&lock(&keeper.writing));
         let works = Arc::clone(&keeper);
         let writer = thread::Builder::new().name("svid-journal".to_owned()).spawn(move || works.work());
         let writer = Some(writer.map_err(|why| JournalError::io(keeper.folder.path(""), why))?);
@@ -239,35 +241,33 @@ impl Journal {
         }
     }
 
-    /// Whether a snapshot was due after the last write. It waits for nothing.
-    pub(crate) fn is_snapshot_due(&self) -> bool {
-        self.keeper.is_due.load(Ordering::Relaxed)
-    }
-
-    /// Whether a snapshot is due: there is none, or the journals are many or long. It is not while one is being taken, nor for a minute after
-    /// one that failed.
+    /// Whether a snapshot was due after the last write: there was none, or the journals were many or long. None is while one is being taken, nor
+    /// for a minute after one that failed. Whoever hears of it takes it, since nobody else does before the next write. It waits for nothing.
     pub(crate) fn wants_snapshot(&self) -> bool {
-        self.keeper.wants_snapshot()
+        self.keeper.is_due.swap(false, Ordering::Relaxed)
     }
 
     /// Replaces the snapshot by the record of the validator, and drops the journals before it. `piece` writes a piece of the record, and is called
     /// until all is written. Threads may append all the while. A use must be in the record before it is appended, as a check does it.
     ///
     /// After an error nothing is lost, and nothing is written to what is there instead of a folder that was moved.
-    pub(crate) fn snapshot(&self, piece: impl FnMut(&mut Part, &mut [u8]) -> Result<usize, Error>) -> Result<(), JournalError> {
-        let taken = self.take_snapshot(piece);
-        self.keeper.is_due.store(self.wants_snapshot(), Ordering::Relaxed);
-        taken
-    }
-
-    fn take_snapshot(&self, mut piece: impl FnMut(&mut Part, &mut [u8]) -> Result<usize, Error>) -> Result<(), JournalError> {
-        let mut switch = lock(&self.keeper.switch);
+    pub(crate) fn snapshot(&self, mut piece: impl FnMut(&mut Part, &mut [u8]) -> Result<usize, Error>) -> Result<(), JournalError> {
+        let _switch = lock(&self.keeper.switch);
         self.keeper.folder.stood()?;
-        lock(&self.keeper.writing).numbers.begin()?;
-        switch.pause = Instant::now().checked_add(PAUSE);
-        self.keeper.make_calls(&mut switch, Some(&mut piece))?;
-        (switch.wants, switch.pause) = (false, None);
-        Ok(())
+        {
+            let mut writing = lock(&self.keeper.writing);
+            writing.numbers.begin()?;
+            writing.from = None;
+            self.keeper.look(&writing);
+        }
+        let taken = self.keeper.make_calls(Some(&mut piece));
+        let mut writing = lock(&self.keeper.writing);
+        match taken {
+            Ok(()) => (writing.wants, writing.older, writing.from) = (false, 0, Some(Instant::now())),
+            Err(_) => writing.from = Instant::now().checked_add(PAUSE),
+        }
+        self.keeper.look(&writing);
+        taken
     }
 }
 
@@ -295,16 +295,11 @@ impl std::fmt::Debug for Journal {
 type Piece<'a> = &'a mut dyn FnMut(&mut Part, &mut [u8]) -> Result<usize, Error>;
 
 impl Keeper {
-    fn wants_snapshot(&self) -> bool {
-        let switch = match self.switch.try_lock() {
-            Ok(switch) => switch,
-            Err(_) => return false,
-        };
-        if switch.pause.map_or(false, |until| Instant::now() < until) {
-            return false;
-        }
-        let writing = lock(&self.writing);
-        switch.wants || writing.older.saturating_add(writing.numbers.end()) > switch.kept.max(SMALL)
+    /// Looks whether a snapshot is due.
+    fn look(&self, writing: &Writing) {
+        let is_long = writing.older.saturating_add(writing.numbers.end()) > writing.kept.max(SMALL);
+        let may_be = writing.from.map_or(false, |it| it <= Instant::now());
+        self.is_due.store(may_be && (writing.wants || is_long), Ordering::Relaxed);
     }
 
     /// Adds messages to what the next write takes.
@@ -355,7 +350,6 @@ impl Keeper {
                     let result = self.put_commit(&commit);
                     *lock(&commit.result) = Some(result.clone());
                     commit.ended.notify_all();
-                    self.is_due.store(self.wants_snapshot(), Ordering::Relaxed);
                     let reports = std::mem::take(&mut *lock(&commit.reports));
                     reports.into_iter().for_each(|it| it.tell(&result));
                 }
@@ -372,14 +366,13 @@ impl Keeper {
     fn put_commit(&self, commit: &Commit) -> Result<(), JournalError> {
         let mut writing = lock(&self.writing);
         let messages = lock(&commit.messages);
-        match messages.is_empty() {
-            true => Ok(()),
-            false => writing.put(&messages, &self.folder),
-        }
+        let put = if messages.is_empty() { Ok(()) } else { writing.put(&messages, &self.folder) };
+        self.look(&writing);
+        put
     }
 
     /// Makes the calls of the system that are due, until one fails.
-    fn make_calls(&self, switch: &mut Switch, mut piece: Option<Piece<'_>>) -> Result<(), JournalError> {
+    fn make_calls(&self, mut piece: Option<Piece<'_>>) -> Result<(), JournalError> {
         let unfinished = format!("{SNAPSHOT}{UNFINISHED}");
         let mut beside = None;
         loop {
@@ -397,7 +390,7 @@ impl Keeper {
                 (ffi::CALL_NOTHING, _) => break,
                 (ffi::CALL_CREATE_JOURNAL, _) => io(&name, self.folder.create(&name).map(|file| lock(&self.writing).next = Some(file))),
                 (ffi::CALL_SYNC_FOLDER, _) => io("", self.folder.sync()),
-                (ffi::CALL_WRITE_SNAPSHOT, Some(piece)) => self.write_snapshot(switch, &unfinished, &mut beside, piece),
+                (ffi::CALL_WRITE_SNAPSHOT, Some(piece)) => self.write_snapshot(&unfinished, &mut beside, piece),
                 (ffi::CALL_SYNC_SNAPSHOT, _) => io(&unfinished, beside.as_ref().map_or(Ok(()), Growing::sync)),
                 (ffi::CALL_RENAME_SNAPSHOT, _) => io(SNAPSHOT, self.folder.rename(&unfinished, SNAPSHOT)),
                 (ffi::CALL_REMOVE_JOURNAL, _) => io(&name, self.folder.remove(&name)),
@@ -417,7 +410,7 @@ impl Keeper {
     }
 
     /// Writes a snapshot: each piece of the record, and a mark.
-    fn write_snapshot(&self, switch: &mut Switch, name: &str, beside: &mut Option<Growing>, piece: Piece<'_>) -> Result<(), JournalError> {
+    fn write_snapshot(&self, name: &str, beside: &mut Option<Growing>, piece: Piece<'_>) -> Result<(), JournalError> {
         let made = self.folder.create(name).map_err(|why| JournalError::io(self.folder.path(name), why))?;
         let file = beside.insert(made);
         let (mut part, mut at, mut frame, mut room) = (Part::default(), 0u64, Vec::new(), Vec::new());
@@ -439,7 +432,7 @@ impl Keeper {
             write(text)?;
         }
         write(b"")?;
-        switch.kept = at;
+        lock(&self.writing).kept = at;
         Ok(())
     }
 
@@ -449,12 +442,10 @@ impl Keeper {
         if went_well && call == ffi::CALL_SYNC_FOLDER && writing.next.is_some() {
             writing.mark(&self.folder); // the journal is closed
         }
-        let before = writing.numbers.newest();
+        let (before, end) = (writing.numbers.newest(), writing.numbers.end());
         writing.numbers.answer(went_well)?;
         if writing.numbers.newest() != before {
-            if writing.file.is_some() {
-                writing.older = 0;
-            }
+            writing.older = writing.older.saturating_add(end);
             writing.file = writing.next.take();
             (writing.room, writing.is_marked) = (0, true);
         }

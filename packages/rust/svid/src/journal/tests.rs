@@ -167,7 +167,7 @@ fn a_snapshot_replaces_journals() {
     assert_eq!(uses(&mut loaded(&mut journal)), 20_001);
 }
 
-/// Once the journals are longer than the last one, and than eight mebibytes.
+/// Once the journals are longer than the last one, and than eight mebibytes. Those before a snapshot that failed count too.
 #[test]
 fn a_snapshot_is_due() {
     let room = Room::new("due");
@@ -188,11 +188,19 @@ fn a_snapshot_is_due() {
     let journal = Journal::open(&room.0).expect("nobody has it");
     assert!(!journal.wants_snapshot());
     append(&journal, 2);
-    // (the writer looks at that too after a write: whoever looks at the same moment sees none)
-    until("a snapshot to be due", || journal.wants_snapshot());
+    assert!(journal.wants_snapshot());
+    assert!(!journal.wants_snapshot(), "one thread takes it");
     snapshot(&journal).expect("the disk is well");
     append(&journal, 2);
     assert!(!journal.wants_snapshot());
+    append(&journal, 9);
+    assert!(journal.wants_snapshot(), "it may follow the last one at once");
+    journal.snapshot(|_, _| Err(Error::NoMemory)).expect_err("there is no record");
+    append(&journal, 2);
+    assert!(!journal.wants_snapshot(), "not for a minute");
+    lock(&journal.keeper.writing).from = Some(Instant::now());
+    append(&journal, 2);
+    assert!(journal.wants_snapshot());
 }
 
 /// A journal grows by zeros now and then, and not with each write.
@@ -321,6 +329,7 @@ fn appends_within_a_snapshot() {
         for _ in 0..2 {
             journal.append(&entry(1).message().unwrap(), patience()).expect("it is kept meanwhile");
         }
+        assert!(!journal.wants_snapshot(), "one is being taken");
         part.done = 1;
         Ok(PIECE)
     };

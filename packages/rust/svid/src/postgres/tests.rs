@@ -645,40 +645,61 @@ fn looks_have_pauses() {
     assert!(why.starts_with("address 1: ") && why.contains("; address 2: "), "{why}");
 }
 
-/// What a server hears once it has agreed to TLS: a client that asks for it says nothing before.
+/// What a server hears once it has agreed to TLS: a client that asks for it says nothing before. One that has an authority says nothing to a server that
+/// this one does not vouch for, also in the mode that checks nothing else.
 #[test]
 fn an_address_speaks_tls() {
     let group = openssl::ec::EcGroup::from_curve_name(openssl::nid::Nid::X9_62_PRIME256V1).unwrap();
-    let key = openssl::pkey::PKey::from_ec_key(openssl::ec::EcKey::generate(&group).unwrap()).unwrap();
-    let mut certificate = openssl::x509::X509::builder().unwrap();
-    certificate.set_pubkey(&key).unwrap();
-    certificate.set_not_before(&openssl::asn1::Asn1Time::days_from_now(0).unwrap()).unwrap();
-    certificate.set_not_after(&openssl::asn1::Asn1Time::days_from_now(1).unwrap()).unwrap();
-    certificate.sign(&key, openssl::hash::MessageDigest::sha256()).unwrap();
+    let certified = || {
+        let key = openssl::pkey::PKey::from_ec_key(openssl::ec::EcKey::generate(&group).unwrap()).unwrap();
+        let mut certificate = openssl::x509::X509::builder().unwrap();
+        certificate.set_pubkey(&key).unwrap();
+        certificate.set_not_before(&openssl::asn1::Asn1Time::days_from_now(0).unwrap()).unwrap();
+        certificate.set_not_after(&openssl::asn1::Asn1Time::days_from_now(1).unwrap()).unwrap();
+        certificate.sign(&key, openssl::hash::MessageDigest::sha256()).unwrap();
+        (key, certificate.build())
+    };
+    let ((key, certificate), (_, other)) = (certified(), certified());
     let mut acceptor = openssl::ssl::SslAcceptor::mozilla_intermediate_v5(openssl::ssl::SslMethod::tls_server()).unwrap();
     acceptor.set_private_key(&key).unwrap();
-    acceptor.set_certificate(&certificate.build()).unwrap();
+    acceptor.set_certificate(&certificate).unwrap();
+    acceptor.set_verify_callback(openssl::ssl::SslVerifyMode::PEER, |_, _| true);
     let acceptor = acceptor.build();
-    let listener = std::net::TcpListener::bind("127.0.0.1:0").expect("a port");
-    listener.set_nonblocking(true).expect("it can be");
-    let url = format!("postgres://somebody@{}/d", listener.local_addr().expect("it listens"));
-    let _store = PostgresStore::open(&options(), &[&url], "svid", 1).expect("it begins");
-    until("a connection over TLS", || {
-        let mut stream = match listener.accept() {
-            Ok((stream, _)) => stream,
-            Err(_) => return false,
-        };
+    // Whether a client says who it is whose address has these parameters, and whether it shows a certificate then.
+    let says = |parameters: &str| {
+        let listener = std::net::TcpListener::bind("127.0.0.1:0").expect("a port");
+        listener.set_nonblocking(true).expect("it can be");
+        let url = format!("postgres://somebody@{}/d{parameters}", listener.local_addr().expect("it listens"));
+        let _store = PostgresStore::open(&options(), &[&url], "svid", 1).expect("it begins");
+        let (mut stream, _) = accepted(|| listener.accept());
         stream.set_nonblocking(false).and_then(|()| stream.set_read_timeout(Some(patience()))).expect("it can be");
         let mut asked = [0; 8];
-        stream.read_exact(&mut asked).expect("it asks for TLS");
-        assert_eq!(asked, [0, 0, 0, 8, 0x04, 0xd2, 0x16, 0x2f]);
+        if stream.read_exact(&mut asked).is_err() {
+            return None; // (on a busy machine its time may be over)
+        }
+        assert_eq!(asked, [0, 0, 0, 8, 0x04, 0xd2, 0x16, 0x2f], "it asks for TLS");
         stream.write_all(b"S").expect("it hears");
         let mut begins = [0; 64];
-        match acceptor.accept(stream) {
-            Ok(mut stream) => stream.read(&mut begins).map_or(false, |len| begins[..len].windows(8).any(|it| it == b"somebody")),
-            Err(_) => false,
-        }
-    });
+        let mut stream = acceptor.accept(stream).ok()?;
+        let len = stream.read(&mut begins).ok()?;
+        begins[..len].windows(8).any(|it| it == b"somebody").then(|| stream.ssl().peer_certificate().is_some())
+    };
+    let room = Room::new("tls");
+    let by = |name: &str, mode: &str, certificate: &openssl::x509::X509| {
+        let file = room.0.join(name);
+        std::fs::write(&file, certificate.to_pem().unwrap()).expect("it is written");
+        format!("?{mode}sslrootcert={}", file.display())
+    };
+    let checked = by("own", "sslmode=verify-ca&", &certificate);
+    let file = room.0.join("key");
+    std::fs::write(&file, key.private_key_to_pem_pkcs8().unwrap()).expect("it is written");
+    let shows = format!("{checked}&sslcert={}&sslkey={}", room.0.join("own").display(), file.display());
+    for (parameters, has_certificate) in [("", false), (&by("own", "", &certificate), false), (&checked, false), (&shows, true)] {
+        until("a connection over TLS", || says(parameters) == Some(has_certificate));
+    }
+    for mode in ["", "sslmode=require&", "sslmode=verify-ca&"] {
+        assert_eq!(says(&by("other", mode, &other)), None, "{mode}");
+    }
 }
 
 /// A deployment may name all of them, and set some. (This test asks itself.)

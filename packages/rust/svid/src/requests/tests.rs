@@ -764,6 +764,8 @@ fn withdrawals_are_heard() {
         let guard = opened(&ledger().mode(mode).store(Arc::clone(&store) as Arc<dyn Store>).wait(LONG));
         let judged = |number: usize| word(guard.judge(fresh(number)));
         assert_eq!((unready(&guard).as_str(), judged(before).as_str()), ("", "Withdrawn"));
+        // (one whose token has expired holds up none of the others)
+        store.store.withdraw(TokenKey([9; 32]), time() - 1).expect("there is memory");
         withdraw(&other, after).expect("the store is well");
         until(|| judged(after) == "Withdrawn");
         // (what it lost, it tells no more)
@@ -782,24 +784,28 @@ fn withdrawals_are_heard() {
     assert_eq!(alone.asked.load(Ordering::Relaxed), 0);
 }
 
-/// A clock of the service that panics does not end who hears of them: they are heard once it is well.
+/// A clock of the service that panics does not end who hears of them, and one that jumps loses none: they are heard once it is well.
 #[test]
 fn withdrawals_while_the_clock_panics() {
-    let (store, panics, token) = (Fickle::new(), Arc::new(AtomicBool::new(false)), another());
-    let fails = Arc::clone(&panics);
-    let clock = move || match fails.load(Ordering::Acquire) {
-        true => std::panic::panic_any("a test"),
-        false => time(),
-    };
-    let (options, heard) = hearing(ledger().store(Arc::clone(&store) as Arc<dyn Store>).wait(LONG).clock(clock));
-    let guard = opened(&options);
-    assert_eq!(unready(&guard), "");
-    panics.store(true, Ordering::Release);
-    withdraw(&opened(&strict(&store)), token).expect("the store is well");
-    let is_heard = |it: &String| it == "the withdrawals of the group's store can't be read: the call panicked";
-    until(|| heard.lock().unwrap().iter().any(is_heard));
-    panics.store(false, Ordering::Release);
-    until(|| word(guard.judge(fresh(token))) == "Withdrawn");
+    for panics in [true, false] {
+        let (store, is_wrong, token) = (Fickle::new(), Arc::new(AtomicBool::new(false)), another());
+        let wrong = Arc::clone(&is_wrong);
+        let clock = move || match wrong.load(Ordering::Acquire) {
+            true if panics => std::panic::panic_any("a test"),
+            true => time() + 7200,
+            false => time(),
+        };
+        let (options, heard) = hearing(ledger().step(3600).store(Arc::clone(&store) as Arc<dyn Store>).wait(LONG).clock(clock));
+        let guard = opened(&options);
+        assert_eq!(unready(&guard), "");
+        is_wrong.store(true, Ordering::Release);
+        withdraw(&opened(&strict(&store)), token).expect("the store is well");
+        let why = if panics { "the call panicked" } else { "now is more than step seconds past" };
+        let is_heard = |it: &String| it.starts_with(&format!("the withdrawals of the group's store can't be read: {why}"));
+        until(|| heard.lock().unwrap().iter().any(is_heard));
+        is_wrong.store(false, Ordering::Release);
+        until(|| word(guard.judge(fresh(token))) == "Withdrawn");
+    }
 }
 
 /// Until they were read, no token is judged.
@@ -1106,6 +1112,31 @@ fn a_panic_leaves_nobody_behind() {
     assert!(nothing_waits(&guard));
     assert_eq!(guard.requests.core().due(), Ok(u64::MAX));
     assert_eq!(answer(soon(&guard, &fresh(1))), "accepted");
+}
+
+/// So it has where that one was first in the store.
+#[test]
+fn a_panic_after_an_answer_of_the_store_leaves_nobody_behind() {
+    let (store, panics) = (Fickle::new(), Arc::new(AtomicBool::new(false)));
+    let does = Arc::clone(&panics);
+    let verifier = By(move || {
+        if does.swap(false, Ordering::AcqRel) {
+            std::panic::panic_any("a test");
+        }
+    });
+    let guard = verifying(&strict(&store).wait(LONG), verifier);
+    let go = store.hold();
+    let first = soon(&guard, &fresh(1));
+    until(|| !store.counts().is_empty());
+    let second = soon(&guard, &fresh(1));
+    until(|| guard.requests.core().waits() == 2);
+    // (so the first one looks for its keys again)
+    guard.follow(bundles()).expect("they are good");
+    panics.store(true, Ordering::Release);
+    go.store(true, Ordering::Release);
+    until(|| first.is_finished());
+    assert!(first.join().is_err());
+    assert_eq!(answer(second), "accepted");
 }
 
 /// What a service writes into its log has neither bundles nor tokens, and is short.
@@ -1642,11 +1673,12 @@ fn a_guard_takes_snapshots_by_itself() {
     assert!(room.0.join("snapshot").exists(), "one is taken at the start");
     let journal = guard.journal.as_ref().expect("it has one");
     assert_eq!(guard.validator_id(), journal.validator_id());
-    for _ in 0..2 {
+    for withdraws in [false, false, true] {
         std::fs::remove_file(room.0.join("snapshot")).expect("it is there");
         until(|| {
             journal.let_a_snapshot_be_due();
-            check(&guard, &fresh(another())) == "accepted" && room.0.join("snapshot").exists()
+            let is_kept = if withdraws { withdraw(&guard, another()).is_ok() } else { check(&guard, &fresh(another())) == "accepted" };
+            is_kept && room.0.join("snapshot").exists()
         });
     }
     assert_eq!(*heard.lock().unwrap(), [""; 0]);

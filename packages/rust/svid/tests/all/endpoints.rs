@@ -362,6 +362,15 @@ fn a_server_of_another_trust_domain() {
     let (_guard, heard) = opened(sources(&host.bundle()));
     until("a warning", || !heard.all().is_empty());
     assert!(heard.all()[0].contains("no authority"), "{:?}", heard.all());
+    // A file of the endpoint's own comes before the bundle of another source.
+    let room = Room::new("own");
+    let own = |host: &str, first: &str| {
+        let all = Sources::new().bundle("host.example", host);
+        all.https_spiffe("example.org", &endpoint.address, "spiffe://host.example/server", file(&room, first))
+    };
+    let (guard, heard) = opened(own(&with(&host, &[&authority()]), &with(&host, &[&by])));
+    until("the bundle", || is_good(&guard, &issuer));
+    assert!(heard.all().is_empty(), "{:?}", heard.all());
     let none = Sources::new().https_spiffe("example.org", &endpoint.address, "spiffe://host.example/server", None);
     assert!(warning(none).contains("the bundle of host.example, by which its server is known, was not read yet"));
 }
