@@ -283,7 +283,7 @@ func (e *Engine) do(own *Request, effect Effect) {
 			close(effect.done)
 		}
 	case Verify:
-		e.findSigner(effect.Request)
+		effect.Key, effect.Fault = e.keyring.VerifyToken(effect.reading()) // which key made the signature
 		e.stepFor(own, Verified(effect))
 	case Append:
 		if own != nil && effect.Write == own.write {
@@ -325,9 +325,6 @@ func (e *Engine) recall(r *Request) {
 	t.VerifiedBy(r.Key)
 	_ = t.Read() // Here it holds no lock. The validator says what is wrong with the token.
 }
-
-// findSigner finds the key that made the signature of a request's token.
-func (e *Engine) findSigner(r *Request) { r.Key, r.Fault = e.keyring.VerifyToken(r.reading()) }
 
 // keep brings the uses of a request to the disk. Nobody waits here for the disk: the machine answers the request, at the latest when its
 // time is over.
@@ -445,18 +442,13 @@ func (e *Engine) SetBundles(domains map[string]json.RawMessage) error {
 		e.verified.clear()
 		e.usable.Store(usable)
 	}
-	e.tellUsable()
-	return err
-}
-
-// tellUsable tells the machine whether a token can be accepted by the trust bundles. The caller holds renewing.
-func (e *Engine) tellUsable() {
-	u := e.usable.Load()
-	if why := u.useless(); why != "" {
+	usable = e.usable.Load()
+	if why := usable.useless(); why != "" {
 		e.step(Useless(why))
 	} else {
-		e.step(Bundled(len(u.keys) > 0))
+		e.step(Bundled(len(usable.keys) > 0))
 	}
+	return err
 }
 
 // SetRules lets tokens for these audiences, and of callers of these patterns, be accepted from now on, and no others. On an error
@@ -503,7 +495,8 @@ func (e *Engine) Ready() error {
 	if e.Mode == Once && e.Journal != nil && e.Journal.Moved() {
 		return errMoved
 	}
-	switch err := e.readyNow(); {
+	now, full, away := e.time(), e.outlook.noRoom.Load(), e.isAway()
+	switch err := withMachine(e, func(m *Machine) error { return m.Ready(now, full, away) }); {
 	case err == errAway:
 		return e.whyAway()
 	case err == errNoBundles && e.Missing != nil:
@@ -517,13 +510,6 @@ func (e *Engine) Ready() error {
 		return errStarved
 	}
 	return e.usable.Load().noCaller(e.rulesNow().Allow)
-}
-
-func (e *Engine) readyNow() error {
-	now := e.time()
-	e.mu.Lock()
-	defer e.mu.Unlock()
-	return e.machine.Ready(now, e.outlook.noRoom.Load(), e.isAway())
 }
 
 // withMachine looks at the machine of an engine.
@@ -623,8 +609,9 @@ func (e *Engine) isToHaveBundle(domain string) bool {
 // the store has a digest of the caller, and no validator: so zeros there too.
 func (e *Engine) Withdraw(key svid.TokenKey, exp uint64) (use svid.Use, usedBy svid.ValidatorID, err error) {
 	e.look()
-	w := &Withdraw{Key: key, Expires: exp}
-	e.call(&w.Call, w)
+	w := &Withdraw{Call: Call{done: make(chan struct{})}, Key: key, Expires: exp}
+	e.step(w)
+	<-w.done
 	if w.Err != nil {
 		return svid.Use{}, usedBy, w.Err
 	}
@@ -632,13 +619,6 @@ func (e *Engine) Withdraw(key svid.TokenKey, exp uint64) (use svid.Use, usedBy s
 		return w.Use, usedBy, nil
 	}
 	return w.Use, w.UsedBy.ValidatorID(), nil
-}
-
-// call lets a call happen, and waits for its answer.
-func (e *Engine) call(c *Call, event Event) {
-	c.done = make(chan struct{})
-	e.step(event)
-	<-c.done
 }
 
 // Find returns the key and expiry of a token for these audiences whose signature

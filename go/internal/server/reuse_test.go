@@ -177,8 +177,11 @@ func TestVerifiedTokensHaveABound(t *testing.T) {
 	v := newVerified()
 	keys := [3]*svid.Key{new(svid.Key), new(svid.Key), new(svid.Key)}
 	accept := func(one string, by *svid.Key) { v.keep(v.recall(one), one, by, svid.Use{}) }
-	accept("stays", keys[2])
-	accept("stays", keys[2])
+	tooLong := strings.Repeat("s", mostHeldLen+1) // to be held
+	for i := 0; i < 2; i++ {
+		accept("stays", keys[2])
+		accept(tooLong, keys[2])
+	}
 	for i := 0; i < 3*mostInGeneration; i++ {
 		accept(fmt.Sprint("once ", i), keys[0])
 	}
@@ -187,6 +190,9 @@ func TestVerifiedTokensHaveABound(t *testing.T) {
 	}
 	for i := 0; i < 3*mostInGeneration; i++ {
 		v.recall("stays")
+		if i%(mostInGeneration/4) == 0 {
+			v.recall(tooLong)
+		}
 		one := fmt.Sprint("twice ", i)
 		accept(one, keys[i%3])
 		accept(one, keys[i%3])
@@ -197,8 +203,10 @@ func TestVerifiedTokensHaveABound(t *testing.T) {
 	if n := len(v.known.young) + len(v.known.old); n > 2*mostInGeneration {
 		t.Errorf("%d are known", n)
 	}
-	if m := v.recall("stays"); m.key != keys[2] {
-		t.Errorf("a token that came all the while is not known: %+v", m)
+	for _, one := range []string{"stays", tooLong} {
+		if m := v.recall(one); m.key != keys[2] {
+			t.Errorf("a token that came all the while is not known: %+v", m)
+		}
 	}
 	for i := 3*mostInGeneration - 3; i < 3*mostInGeneration; i++ {
 		if m := v.recall(fmt.Sprint("twice ", i)); m.key != keys[i%3] {

@@ -59,13 +59,17 @@ func (m *Machine) lookTwice(message []byte) {
 	}
 }
 
-// sayTwice says that a token was accepted twice, if it was.
+// sayTwice says that a token was accepted twice, if it was by the library's report (docs/FORMATS.md, "Texts of the program").
 func (m *Machine) sayTwice(own, other svid.Use) {
-	twice, err := isTwice(own, other)
+	report := ""
+	messages, err := svid.Batches([]svid.Use{own, other})
+	if err == nil {
+		report, err = svid.Report(messages)
+	}
 	if err != nil {
 		m.Log.Error("report", err)
 	}
-	if !twice {
+	if _, keys, _ := strings.Cut(report, "\ntwice "); !strings.Contains(keys, own.Key.String()) {
 		return
 	}
 	m.own.drop(own.Key)
@@ -73,18 +77,4 @@ func (m *Machine) sayTwice(own, other svid.Use) {
 	ids := []string{own.ValidatorID.String(), other.ValidatorID.String()}
 	sort.Strings(ids)
 	m.Log.Error("accepted twice", errTwice, "key", own.Key.String(), "validator_ids", strings.Join(ids, " "))
-}
-
-// isTwice says whether two uses accept one token, by the library's report (docs/FORMATS.md, "Texts of the program").
-func isTwice(own, other svid.Use) (bool, error) {
-	messages, err := svid.Batches([]svid.Use{own, other})
-	if err != nil {
-		return false, err
-	}
-	report, err := svid.Report(messages)
-	if err != nil {
-		return false, err
-	}
-	_, keys, _ := strings.Cut(report, "\ntwice ")
-	return strings.Contains(keys, own.Key.String()), nil
 }

@@ -148,12 +148,6 @@ func (v Verified) happen(m *Machine) {
 		m.leave(r, r.Fault)
 		return
 	}
-	m.verified(r)
-}
-
-// verified lets the token of a request be judged by the key that made its signature.
-func (m *Machine) verified(r *Request) {
-	r.stage = waiting
 	r.reading().VerifiedBy(r.Key)
 	m.judge(r)
 }
