@@ -107,8 +107,10 @@ func TestAWithdrawalThatTheStoreLost(t *testing.T) {
 		w.at(second*time.Second, func() { asked[second] = late.ask(one, owner, 0) })
 	}
 	w.at(2*time.Second, func() { late.offset += 10000 * time.Second })
-	w.at(3*time.Second, func() { other.withdraw(one) })
-	w.at(7*time.Second, func() { w.do(deed{kind: "lose entries"}) })
+	lose := func() { w.do(deed{kind: "lose entries"}) }
+	w.at(5*time.Second/2, lose)
+	w.at(3*time.Second, func() { other.withdraw(one) }) // (the store has no claim of it)
+	w.at(7*time.Second, lose)
 	w.at(8*time.Second, func() { late.offset = 0 })
 	w.at(12*time.Second, func() { other.withdraw(one) })
 	w.end()
