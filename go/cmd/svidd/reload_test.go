@@ -334,6 +334,9 @@ func TestReloadSaysWhatBecameOfIt(t *testing.T) {
 	write()
 	must(t, os.WriteFile(bundle, []byte("{"), 0o600))
 	reload(2, "the last good one stays: example.org: it is no JSON object")
+	write(`alow = ["spiffe://example.org"]`)
+	reload(2, "the options stay as they are")
+	write()
 	if again := p.metric("svidd_config_last_reload_success_timestamp_seconds"); again != good {
 		t.Errorf("the last good reload was at %s, and not at %s", again, good)
 	}

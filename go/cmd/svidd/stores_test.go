@@ -292,6 +292,19 @@ func TestWhyAStoreIsNotReached(t *testing.T) {
 	}
 }
 
+// A store that is well takes seconds to open, since the group's members compare what they know. Nobody says that it is not reached.
+func TestAStoreThatTakesItsTime(t *testing.T) {
+	t.Parallel()
+	_, url := stores["Redis"](t)
+	s := newStage(t, "strict", bundleOption(bundleFile(t, example)), "--store", url)
+	s.more = append(s.more, inHaste+"=1")
+	s.launch()
+	s.await("ready", func() bool { status, _ := s.get("/readyz"); return status == 200 })
+	if lines := s.events("store not reached"); len(lines) > 0 {
+		t.Errorf("%v", lines)
+	}
+}
+
 // A store that takes connections and answers nothing is one line, however often svidd looks at it: from another port each time.
 func TestAStoreThatHangsIsSaidOnce(t *testing.T) {
 	t.Parallel()

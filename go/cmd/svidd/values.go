@@ -180,14 +180,11 @@ func meant(f *flag.FlagSet, name string) string {
 	return ""
 }
 
-// nearest returns the name that is spelled most like this one: it begins with this one, or at most a third of the letters differ. It is ""
+// nearest returns the name that is spelled most like this one: it begins with this one, or a third of the letters and one more differ at the most. It is ""
 // where there is none.
 func nearest(name string, names []string) (near string) {
 	name = strings.ToLower(strings.ReplaceAll(strings.Trim(name, "-"), "_", "-"))
 	least := len(name)/3 + 1
-	if least > 3 {
-		least = 3
-	}
 	for _, one := range names {
 		apart := distance(name, one)
 		if len(name) >= 3 && strings.HasPrefix(one, name) {

@@ -72,6 +72,8 @@ func TestAMistypedOption(t *testing.T) {
 		{[]string{"serve", "--work=a"}, "no option is named --work: did you mean --workload-api? 'svidd serve --help' lists them"},
 		{[]string{"serve", "--nats_ca=a"}, "no option is named --nats_ca: did you mean --nats-ca? 'svidd serve --help' lists them"},
 		{[]string{"serve", "--bundels=a"}, "no option is named --bundels: did you mean --bundles? 'svidd serve --help' lists them"},
+		{[]string{"serve", "--workload-iapi=a"}, "no option is named --workload-iapi: did you mean --workload-api? 'svidd serve --help' lists them"},
+		{[]string{"serve", "--workload-address=a"}, "no option is named --workload-address: did you mean --workload-api? 'svidd serve --help' lists them"},
 		{[]string{"serve", "--flavour"}, "no option is named --flavour. 'svidd serve --help' lists them"},
 		{[]string{"serve", "--audience"}, "--audience wants a value. 'svidd serve --help' says which"},
 		{[]string{"serve", "--replicas=many"}, "--replicas: \"many\" parse error"},

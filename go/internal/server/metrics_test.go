@@ -2,6 +2,7 @@ package server
 
 import (
 	"fmt"
+	"os"
 	"regexp"
 	"strings"
 	"testing"
@@ -62,6 +63,15 @@ func TestMetricsAreWellFormed(t *testing.T) {
 			t.Errorf("there is no %q in\n%s", want, w.Body)
 		}
 	}
+}
+
+// The process has as many open files as /metrics says, whose own look at them is none.
+func TestOpenFiles(t *testing.T) {
+	e := engine(t, Options{Mode: Reuse})
+	await(t, "the number of open files", func() bool {
+		files, err := os.ReadDir("/proc/self/fd")
+		return err == nil && strings.Contains(request(e.Handler(), "GET", "/metrics").Body.String(), fmt.Sprintf("\nprocess_open_fds %d\n", len(files)-1))
+	})
 }
 
 var prometheusName = regexp.MustCompile(`^[a-z]+(_[a-z]+)+$`)
