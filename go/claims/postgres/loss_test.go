@@ -469,12 +469,8 @@ func TestWhatIsOverGoes(t *testing.T) {
 func TestATokenThatIsWithdrawnAgain(t *testing.T) {
 	t.Parallel()
 	s := start(t)
-	a, err := New(Options{URLs: []string{s.URL}, Name: "svid", Terms: claimstest.Usual})
-	if err != nil {
-		t.Fatal(err)
-	}
-	defer a.Close()
-	before := claimstest.Open(t, a)
+	a := open(t, Options{URLs: []string{s.URL}, Name: "svid"})
+	before := claimstest.State(t, a)
 	w := claims.Withdrawal{Key: claimstest.Key(), Expires: before.Time - claimstest.Usual.Margin - 1}
 	claimstest.Withdraw(t, open(t, Options{URLs: []string{s.URL}, Name: "svid"}), w)
 	w.Expires += 3000

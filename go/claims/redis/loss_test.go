@@ -368,10 +368,11 @@ func TestALookThatHasNoTime(t *testing.T) {
 func TestATokenThatIsWithdrawnAgain(t *testing.T) {
 	t.Parallel()
 	s := start(t)
-	a, b := openedOwn(t, Options{URLs: []string{s.URL}}), openedOwn(t, Options{URLs: []string{s.URL}})
+	a, b := opened(t, Options{URLs: []string{s.URL}}), opened(t, Options{URLs: []string{s.URL}})
 	before := claimstest.State(t, a)
 	w := withdrawal()
 	claimstest.Withdraw(t, a, w)
+	a.Close()
 	w.Expires += 1000
 	if owner := claimstest.Withdraw(t, b, w); owner != claims.Withdrawn {
 		t.Errorf("%x", owner)

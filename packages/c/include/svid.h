@@ -1533,8 +1533,8 @@ static inline uint32_t svid_validator_verify(svid_validator *v, uint64_t now, co
         svid_token_close(&read);
         return status;
     }
-    /* Where no key may have signed the token, no row was written: the check answers the first refusal that holds, which may be another. */
-    end = told->len;
+    /* Where no key may have signed the token, the check answers the first refusal that holds, which may be another. */
+    end = status == SVID_OK ? told->len : 0;
     if (end > 0) input_len = (size_t)rows[0] << 24 | (size_t)rows[1] << 16 | (size_t)rows[2] << 8 | rows[3];
     /* The first field is the signature. Behind it, each two are an algorithm and a key. */
     for (n = 0; at < end && key == NULL; n++) {

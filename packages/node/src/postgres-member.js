@@ -318,7 +318,7 @@ export class Member {
     const one = { key, owner: Buffer.alloc(OWNER), expires };
     const found = foundOf(answer, one, 0);
     if (found instanceof StoreFault) throw found;
-    this.#keep([one], [found], answer);
+    if (isStored(answer, 0)) this.#keep([one], [found], answer); // (a withdrawal that was there may end earlier)
     return found.owner;
   }
 

@@ -35,7 +35,7 @@ export const SCRIPTS = {
     "if not r or r.run ~= s.run then return nil, 'look' end\n" +
     "return r, s\n" +
     "end\n" +
-    "local MARK = 80\n" +
+    "local MARK, WITHDRAWN = 80, string.rep('\\0', 32)\n" +
     "local function put(r, s, first)\n" +
     "local cells, all, reads, new, own = {}, true, false, nil, ''\n" +
     "for n = first, #ARGV, 3 do\n" +
@@ -49,7 +49,7 @@ export const SCRIPTS = {
     "else\n" +
     "local is = redis.call('GETRANGE', key, 0, 31)\n" +
     "cell, reads = (is == '' and '\\0' or '\\1') .. is .. string.rep('\\0', 32 - #is), true\n" +
-    "if is == owner then own = own .. mark end\n" +
+    "if is == owner and owner ~= WITHDRAWN then own = own .. mark end -- (a withdrawal that was there may end earlier)\n" +
     "end\n" +
     "all = all and cell == '\\1' .. owner\n" +
     "cells[#cells + 1] = cell\n" +

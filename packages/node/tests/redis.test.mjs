@@ -29,7 +29,7 @@ const TESTS = {
     "TestRightsOfAnotherLanguage|TestPasswords|TestTLS|TestASocket",
   losses: "TestAnEntryThatIsRemovedByHand|TestWhatAMemberKnows|TestATokenThatLivesTooLong|TestMembersAgree|TestEachPutLooksAtTheEpoch|" +
     "TestAnEndCoversWhatEachMemberKnows|TestAStoreThatWasMadeAnew|TestMembersCompareFirst|TestWhatIsOverIsNotKept|TestAClockThatIsADayOff|" +
-    "TestAnAnswerOfAnEarlierRun|TestAnEntryThatWasFound|TestEntriesThatWereFound|TestALateAnswerOfAServerThatIsGone",
+    "TestAnAnswerOfAnEarlierRun|TestAnEntryThatWasFound|TestEntriesThatWereFound|TestATokenThatIsWithdrawnAgain|TestALateAnswerOfAServerThatIsGone",
   ends: "TestFullMemory|TestFullDisk|TestLateAnswers|TestKilledOverAndOver|TestAServerThatIsSlow",
   replicas: "TestAReplicaAlone|TestAReplicaUnderTheSameName|TestTooFewReplicas|TestTwoPrimaries|TestAPrimaryThatWasAReplica|TestEachPutLooksAtTheRun",
   takeovers: "TestATakeover|TestATakeoverWithReplicas|TestAnswersInAnotherOrder",
@@ -144,7 +144,7 @@ test("each test of a store in Go is run", async () => {
     "TestServersThatHang", "TestEachSearchForThePrimaryLeavesNothing", "TestABurstLeavesFewConnections", "TestAServerThatIsAwayIsAskedNowAndThen",
     "TestMembersThatComeAndGoLeaveNoKey", "TestALookThatANewConnectionOvertook", "TestAnAddressThatLeadsToAnotherServer", "TestAContextThatEndsLater", "TestPasswordsOfSentinels",
     "TestWhatIsAskedOnceLeavesNothing", "TestAServerWhoseConnectionsEnd", "TestAServerThatIsNamedTwice", "TestAnOldPrimaryAfterASuspension", "TestAnAnswerOfAServerThatWasReplaced",
-    "TestALookThatHasNoTime", "TestATokenThatIsWithdrawnAgain"];
+    "TestALookThatHasNoTime"];
   await ofGo.hasNoMore(others);
 });
 

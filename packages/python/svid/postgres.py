@@ -198,7 +198,8 @@ class PostgresStore(GroupStore):
         found = found_of(answer, one, 0)
         if isinstance(found, StoreFault):
             raise found
-        self._keep([one], [found], answer)
+        if _is_stored(answer, 0):  # (a withdrawal that was there may end earlier)
+            self._keep([one], [found], answer)
         return found.owner
 
     def _withdrawals(self, after: str, end: float) -> tuple[list[tuple[bytes, int]], str]:

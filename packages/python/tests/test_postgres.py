@@ -52,7 +52,7 @@ TESTS = {
     "|TestAStoreMadeAgain|TestADumpThatIsReadInAgain|TestAClockThatIsADayOff|TestASmallStepBack",
     "calls": "TestAClaimThatWaitsWhileTheEpochEnds|TestOneOrder|TestWithdrawalsOfAnotherEpoch"
     "|TestAnEntryThatIsGoneMeanwhile|TestWhatIsOverGoes|TestALookAtAStoreOfWhichMuchIsOver"
-    "|TestTimesOfTheLibrary|TestNobodyLooks|TestAClaimThatIsNotCommitted",
+    "|TestATokenThatIsWithdrawnAgain|TestTimesOfTheLibrary|TestNobodyLooks|TestAClaimThatIsNotCommitted",
     "standbys": "TestFailoverToAStandbyThatLacksClaims|TestFailoverToAStandbyThatHasAll"
     "|TestFailoverToTheWrongStandby|TestACancelledWait",
     "primaries": "TestTwoPrimaries|TestTwoStandbysArePromoted|TestServersOfTwoClusters"
@@ -174,7 +174,6 @@ def test_every_test_of_a_store_is_run(binary):
         "TestASessionThatCantBeginLeavesNothing",
         "TestEachCallThatIsUnderWayMayBeTheLast",
         "TestEachClaimThatWasThereIsKept",
-        "TestATokenThatIsWithdrawnAgain",
     }
     assert {it for names in TESTS.values() for it in names.split("|")} == {*listed} - others
 

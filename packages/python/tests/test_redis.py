@@ -49,7 +49,7 @@ TESTS = {
     "|TestMembersAgree|TestEachPutLooksAtTheEpoch|TestAnEndCoversWhatEachMemberKnows"
     "|TestAStoreThatWasMadeAnew|TestMembersCompareFirst|TestWhatIsOverIsNotKept"
     "|TestAClockThatIsADayOff|TestAnAnswerOfAnEarlierRun|TestAnEntryThatWasFound"
-    "|TestEntriesThatWereFound"
+    "|TestEntriesThatWereFound|TestATokenThatIsWithdrawnAgain"
     "|TestALateAnswerOfAServerThatIsGone",
     "ends": "TestFullMemory|TestFullDisk|TestLateAnswers|TestKilledOverAndOver"
     "|TestAServerThatIsSlow",
@@ -93,7 +93,6 @@ OTHERS = {
     "TestAnOldPrimaryAfterASuspension",
     "TestAnAnswerOfAServerThatWasReplaced",
     "TestALookThatHasNoTime",
-    "TestATokenThatIsWithdrawnAgain",
 }
 
 

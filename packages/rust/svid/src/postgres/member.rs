@@ -176,7 +176,9 @@ impl Member {
         let (keys, _, ends) = arrays(std::slice::from_ref(&one));
         let answer = self.decide(said::WITHDRAW, &[&keys[0], &ends[0]], 1, end).await?;
         let found = answer.found(0, WITHDRAWN)?;
-        self.keep(&[one], &[Ok(found)], &answer);
+        if answer.has_stored(0) {
+            self.keep(&[one], &[Ok(found)], &answer); // (a withdrawal that was there may end earlier)
+        }
         Ok(found.owner)
     }
 

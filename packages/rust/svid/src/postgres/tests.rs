@@ -22,7 +22,7 @@ const SUSPENDED: &str = "SVID_STORE_SUSPENDED";
 const UNLOOKED: &str = "not all servers were looked at";
 
 /// Tests of go/claims/postgres that a wrong body fails.
-const CALLS: &str = "TestAClaimThatWaitsWhileTheEpochEnds|TestOneOrder|TestAClaimThatIsNotCommitted|TestAnEntryThatIsGoneMeanwhile";
+const CALLS: &str = "TestAClaimThatWaitsWhileTheEpochEnds|TestOneOrder|TestAClaimThatIsNotCommitted|TestAnEntryThatIsGoneMeanwhile|TestATokenThatIsWithdrawnAgain";
 const LOSSES: &str = "TestRowsThatGoByHandEndTheEpoch|TestALookMissesRows|TestAnOlderCopyThatWentOn|TestALateAnswerOfAServerThatIsGone|TestAnotherClaimOfACall";
 const LATE: &str = "TestALateAnswerOfAServerThatIsGone";
 const STANDBYS: &str = "TestACancelledWait|TestWhatIsGivenUpEndsAtTheServer|TestStandbysAreNotWaitedForAnyMore";

@@ -275,9 +275,8 @@ final class PostgresMember implements AutoCloseable {
         if (one.fault != null) {
             throw one.fault;
         }
-        if (one.found.owner().equals(Owner.WITHDRAWN)) {
-            Claim its = new Claim(key, Owner.WITHDRAWN, expiry);
-            keep(answer.isStored(0) ? its : null, answer.isStored(0) ? List.of() : List.of(its), answer.epoch);
+        if (answer.isStored(0)) { // (a withdrawal that was there may end earlier)
+            keep(new Claim(key, Owner.WITHDRAWN, expiry), List.of(), answer.epoch);
         }
         return one.found.owner();
     }

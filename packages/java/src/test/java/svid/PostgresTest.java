@@ -64,7 +64,7 @@ public class PostgresTest {
     private static final String LOSSES = "TestRowsThatGoByHandEndTheEpoch|TestALookMissesRows|TestAnOlderCopyThatWentOn|TestAStoreMadeAgain"
             + "|TestADumpThatIsReadInAgain|TestAClockThatIsADayOff|TestASmallStepBack|TestALateAnswerOfAServerThatIsGone|TestAnotherClaimOfACall";
     private static final String CALLS = "TestAClaimThatWaitsWhileTheEpochEnds|TestOneOrder|TestWithdrawalsOfAnotherEpoch"
-            + "|TestAnEntryThatIsGoneMeanwhile|TestWhatIsOverGoes|TestALookAtAStoreOfWhichMuchIsOver|TestTimesOfTheLibrary|TestNobodyLooks"
+            + "|TestAnEntryThatIsGoneMeanwhile|TestWhatIsOverGoes|TestATokenThatIsWithdrawnAgain|TestALookAtAStoreOfWhichMuchIsOver|TestTimesOfTheLibrary|TestNobodyLooks"
             + "|TestAClaimThatIsNotCommitted";
     private static final String STANDBYS =
             "TestFailoverToAStandbyThatLacksClaims|TestFailoverToAStandbyThatHasAll|TestFailoverToTheWrongStandby|TestACancelledWait";
@@ -220,7 +220,7 @@ public class PostgresTest {
                 "TestAServerThatDoesNotSayWhatItIsLeavesNothing", "TestAContextThatEndsWithItsAnswer",
                 "TestASessionThatCantBeginLeavesNothing", "TestEachCallThatIsUnderWayMayBeTheLast", "TestEachClaimThatWasThereIsKept",
                 "TestALookIsAsOldAsItsBeginning", "TestALateAnswerAfterASuspension", "TestALookEndsWithItsStore",
-                "TestAConnectionThatBeginsEndsWithItsContext", "TestATokenThatIsWithdrawnAgain"));
+                "TestAConnectionThatBeginsEndsWithItsContext"));
         assertEquals(new TreeSet<>(listed), run);
     }
 
