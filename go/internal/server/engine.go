@@ -366,7 +366,8 @@ func (e *Engine) hear() {
 		for _, w := range these {
 			e.machine.Step(now, Kept{w})
 		}
-		effects := e.machine.Effects(room[:0]) // (and nothing is due sooner)
+		effects := e.machine.Effects(room[:0])
+		e.arm()
 		e.mu.Unlock()
 		for _, effect := range effects {
 			e.do(nil, effect)
