@@ -51,13 +51,9 @@ func (e *joinError) Unwrap() error { return ErrBundles }
 
 // join calls svid_bundles_join with as much room as it needs.
 func join(texts []byte, documents []C.svid_document) (out []byte, told C.svid_told, status C.uint32_t) {
-	var first *C.svid_document
-	if len(documents) > 0 {
-		first = &documents[0]
-	}
 	out = make([]byte, 2*len(texts)+64)
 	for {
-		status = C.svid_bundles_join(start(texts), C.size_t(len(texts)), first, C.size_t(len(documents)), start(out), C.size_t(len(out)), &told)
+		status = C.svid_bundles_join(start(texts), C.size_t(len(texts)), first(documents), C.size_t(len(documents)), start(out), C.size_t(len(out)), &told)
 		if status != C.SVID_TOO_SHORT {
 			return out[:told.len], told, status
 		}

@@ -96,14 +96,10 @@ func (v *Validator) ReadEach(now, position uint64, values [][]byte, edition uint
 	}
 	v.makeRoom(len(room), len(readings))
 	v.row.pack(values, len(readings))
-	var out *C.svid_fate
-	if len(room) > 0 {
-		out = &v.fates[0]
-	}
 	read = int(C.read_each(&v.handle, C.uint64_t(now), C.uint64_t(position), start(v.row.values), &v.row.lens[0], C.size_t(len(v.row.lens)),
-		out, C.size_t(len(room)), &v.readings[0], &v.status, &v.told))
+		first(v.fates[:len(room)]), C.size_t(len(room)), &v.readings[0], &v.status, &v.told))
 	v.row.values = nil
-	first := 0
+	at := 0
 	for i := range v.readings[:read] {
 		c := &v.readings[i]
 		r := Reading{Order: Order(c.order), From: int(c.from), Count: int(c.count)}
@@ -113,9 +109,9 @@ func (v *Validator) ReadEach(now, position uint64, values [][]byte, edition uint
 			}
 		}
 		readings[i] = r
-		for end := first + r.Count; first < end; first++ {
-			fate := fateOf(v.fates[first].fate)
-			room[first] = LogUse{Use: useOf(&v.fates[first].used, fate == FateWithdrawal), Fate: fate}
+		for end := at + r.Count; at < end; at++ {
+			fate := fateOf(v.fates[at].fate)
+			room[at] = LogUse{Use: useOf(&v.fates[at].used, fate == FateWithdrawal), Fate: fate}
 		}
 	}
 	return read, nil

@@ -117,11 +117,7 @@ func (f *Folder) Due() (call Call, journal uint64, err error) {
 func (f *Folder) Answer(ok bool) error {
 	f.mu.Lock()
 	defer f.mu.Unlock()
-	var answer C.uint32_t
-	if ok {
-		answer = 1
-	}
-	return folderFailure(C.svid_journal_answer(&f.folder, answer))
+	return folderFailure(C.svid_journal_answer(&f.folder, C.uint32_t(oneIf(ok))))
 }
 
 // Growing returns the number of the journal that grows, and how many bytes its synced frames take: the next one goes there.

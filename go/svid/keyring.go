@@ -231,7 +231,7 @@ func (k *Keyring) question(token string, number int, keys *keyCache) (asked Ques
 	}
 	a := <-k.askers
 	defer func() { k.askers <- a }()
-	asked, err = a.question(token, number)
+	asked, err = questionOf(&a.handle, &a.lent, token, number, &a.told)
 	return asked, true, err
 }
 
@@ -247,7 +247,7 @@ func (a *asker) candidates(token string, keys *keyCache) (all []Candidate, err e
 		return nil, err
 	}
 	for number, m := range makers {
-		asked, err := a.question(token, number)
+		asked, err := questionOf(&a.handle, &a.lent, token, number, &a.told)
 		if err != nil {
 			return nil, err
 		}
@@ -293,11 +293,6 @@ func askToken(v *C.svid_validator, t *Token, room *[]byte, told *C.svid_told) ([
 		}
 		return (*room)[:told.len], nil
 	}
-}
-
-// question returns the question of the candidate with this number.
-func (a *asker) question(token string, number int) (Question, error) {
-	return questionOf(&a.handle, &a.lent, token, number, &a.told)
 }
 
 // questionOf returns the question of the candidate with this number, by the bundles of a validator, which it lends to a handle that has none.
@@ -493,19 +488,11 @@ func (k *Keyring) Judge(by Judgment, now uint64, token string, yes []Question) (
 	}
 	defer func() { _ = exchange(&a.handle, &a.lent, &a.told) }() // (both handles are open)
 	status := C.judge_alone(&a.lent, &setting, start(own), C.size_t(len(own)), first(lens), C.size_t(len(lens)),
-		questions(yes), C.size_t(len(yes)), token, start(id), C.size_t(len(id)), &used, &a.told)
+		(*C.svid_question)(unsafe.Pointer(first(yes))), C.size_t(len(yes)), token, start(id), C.size_t(len(id)), &used, &a.told)
 	if err := failure(status, &a.told); err != nil {
 		return Accepted{}, err
 	}
 	return Accepted{ID: string(id[:a.told.len]), Use: useOf(&used, false)}, nil
-}
-
-// questions is the address of the first question, and nil where there is none.
-func questions(yes []Question) *C.svid_question {
-	if len(yes) == 0 {
-		return nil
-	}
-	return (*C.svid_question)(unsafe.Pointer(&yes[0]))
 }
 
 // findMaker is the index of the first key that made the signature, or -1. ErrNoMemory: no key is known to have

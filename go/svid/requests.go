@@ -143,9 +143,7 @@ type Deed struct {
 func (v *Validator) OpenMember(terms MemberTerms) error {
 	t := C.svid_member_terms{mode: C.uint64_t(terms.Mode), disk: oneIf(terms.Disk), store: oneIf(terms.Store), log: oneIf(terms.Log),
 		wait: C.uint64_t(terms.Wait), ahead: C.uint64_t(terms.Ahead), lasts: C.uint64_t(terms.Lasts)}
-	for i, b := range terms.Life {
-		t.life[i] = C.uint8_t(b)
-	}
+	*(*Life)(unsafe.Pointer(&t.life)) = terms.Life
 	v.mu.Lock()
 	defer v.mu.Unlock()
 	status := C.svid_member_open(&v.handle, &t)

@@ -80,13 +80,6 @@ func (s *sayer) grow() {
 	}
 }
 
-func first(lens []C.size_t) *C.size_t {
-	if len(lens) == 0 {
-		return nil
-	}
-	return &lens[0]
-}
-
 // saidBy cuts the texts of a token by their lengths, as svid_token_says wrote them.
 func saidBy(said *C.svid_said, lens []C.size_t, texts string) Said {
 	next := func() string {

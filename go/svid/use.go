@@ -86,7 +86,7 @@ func Batches(uses []Use) ([]byte, error) {
 	}
 	var told C.svid_told
 	for out := make([]byte, usualBatch*len(uses)); ; out = make([]byte, told.len) {
-		status := C.svid_entries_write(firstEntry(entries), C.size_t(len(entries)), start(out), C.size_t(len(out)), &told)
+		status := C.svid_entries_write(first(entries), C.size_t(len(entries)), start(out), C.size_t(len(out)), &told)
 		if status == C.SVID_TOO_SHORT {
 			continue
 		}
@@ -95,13 +95,6 @@ func Batches(uses []Use) ([]byte, error) {
 		}
 		return out[:told.len], nil
 	}
-}
-
-func firstEntry(entries []C.svid_entry) *C.svid_entry {
-	if len(entries) == 0 {
-		return nil
-	}
-	return &entries[0]
 }
 
 // Pieces returns what messages tell as messages of at most most bytes each: the same uses, and the same moment. It is for
@@ -139,7 +132,7 @@ func Pieces(messages []byte, most int) ([][]byte, error) {
 func Uses(messages []byte) ([]Use, error) {
 	var told C.svid_told
 	for entries := make([]C.svid_entry, len(messages)/(usualBatch*3/4)+1); ; entries = make([]C.svid_entry, told.len) {
-		status := C.svid_entries_read(start(messages), C.size_t(len(messages)), firstEntry(entries), C.size_t(len(entries)), &told)
+		status := C.svid_entries_read(start(messages), C.size_t(len(messages)), first(entries), C.size_t(len(entries)), &told)
 		if status == C.SVID_TOO_SHORT {
 			continue
 		}

@@ -96,9 +96,7 @@ func Open(o Options) (*Validator, error) {
 		o.Step = NoLimit // (to the library, each second would be a jump)
 	}
 	terms := C.svid_terms{longest: C.uint64_t(o.Longest), ahead: C.uint64_t(o.Ahead), step: C.uint64_t(o.Step)}
-	for i, b := range o.ValidatorID {
-		terms.validator_id[i] = C.uint8_t(b)
-	}
+	*(*ValidatorID)(unsafe.Pointer(&terms.validator_id)) = o.ValidatorID
 	v := &Validator{bundles: 1, terms: terms}
 	if err := v.open(own, o.Bundles); err != nil {
 		return nil, err
@@ -125,11 +123,14 @@ func audienceLines(audiences []string) ([]byte, error) {
 }
 
 // start is the address of the first byte, and nil where there is none.
-func start(b []byte) *C.uint8_t {
-	if len(b) == 0 {
+func start(b []byte) *C.uint8_t { return (*C.uint8_t)(unsafe.Pointer(first(b))) }
+
+// first is the address of the first element, and nil where there is none.
+func first[T any](all []T) *T {
+	if len(all) == 0 {
 		return nil
 	}
-	return (*C.uint8_t)(unsafe.Pointer(&b[0]))
+	return &all[0]
 }
 
 // Close frees the record and all else that the library holds. Later calls
@@ -198,10 +199,8 @@ func (v *Validator) accepted(status C.uint32_t, t *Token) (Accepted, error) {
 	if id := v.id[:v.told.len]; string(id) != t.id { // (The token may have been judged before: its ID asks for memory once.)
 		t.id = string(id)
 	}
-	return Accepted{ID: t.id, Use: v.use(false), bundles: v.bundles}, nil
+	return Accepted{ID: t.id, Use: useOf(&v.used, false), bundles: v.bundles}, nil
 }
-
-func (v *Validator) use(withdrawn bool) Use { return useOf(&v.used, withdrawn) }
 
 // Withdraw withdraws the token of this key, which expires at exp, and returns the
 // use that the record gained. The token is refused as Withdrawn from now on,
@@ -214,7 +213,7 @@ func (v *Validator) Withdraw(now uint64, key TokenKey, exp uint64) (Use, error) 
 	if err := failure(status, &v.told); err != nil {
 		return Use{}, err
 	}
-	return v.use(true), nil
+	return useOf(&v.used, true), nil
 }
 
 // Tick advances the record to now, and drops what has expired by then.

@@ -252,18 +252,6 @@ func reply(m *client.Msg) error {
 	return nil
 }
 
-// fault returns the error that an answer of the API has.
-func fault(data []byte) error {
-	var failed struct{ Error *client.APIError }
-	if err := json.Unmarshal(data, &failed); err != nil {
-		return errOther
-	}
-	if failed.Error != nil {
-		return failed.Error
-	}
-	return nil
-}
-
 // What the server calls an error.
 const (
 	notEnabled           = 10076

@@ -85,19 +85,14 @@ func (s *Store) ready(ctx context.Context) (*known, uint64, error) {
 	}
 }
 
-// A loss is why an epoch ends.
-type loss string
-
-func (l loss) Error() string { return string(l) }
-
 // An exam is what the server says of the store, and what of it is wrong.
 type exam struct {
 	all   [kinds]*info
 	now   int64
 	run   string
 	is    *known
-	lost  loss  // what was lost; "" for nothing
-	unfit error // settings by which claims may be lost
+	lost  string // why the epoch ends: what was lost; "" for nothing
+	unfit error  // settings by which claims may be lost
 
 	// What the store must have: as it was before the server was asked.
 	own                  own
@@ -158,7 +153,7 @@ func (s *Store) examine(ctx context.Context, k *known) (x exam, err error) {
 	s.ownMu.Lock()
 	x.own, x.last, x.lastWithdrawal = s.own, s.last, s.lastWithdrawal
 	s.ownMu.Unlock()
-	var missing loss
+	var missing string
 	if x.all, missing, err = s.present(ctx, k); err != nil {
 		return x, err
 	}
@@ -193,7 +188,7 @@ func (s *Store) examine(ctx context.Context, k *known) (x exam, err error) {
 	if k != nil && x.lost == "" {
 		switch {
 		case x.unfit != nil && s.wasUnfit != x.unfit.Error():
-			x.lost = loss(x.unfit.Error())
+			x.lost = x.unfit.Error()
 		case x.unfit == nil && s.wasUnfit != "":
 			x.lost = "the streams had settings by which they may have lost claims"
 		}
@@ -355,8 +350,8 @@ func (i *info) isAlone() bool {
 	return i.Cluster == nil && i.Config.Number("num_replicas") == 1 && string(i.Config["allow_direct"]) == "true"
 }
 
-// present returns all streams. It makes those that are missing; the loss says which, if there was a store before.
-func (s *Store) present(ctx context.Context, k *known) (all [kinds]*info, missing loss, err error) {
+// present returns all streams. It makes those that are missing; missing says which, if there was a store before.
+func (s *Store) present(ctx context.Context, k *known) (all [kinds]*info, missing string, err error) {
 	for gone := time.Now(); ; {
 		if all, err = s.infos(ctx); err != nil {
 			return all, "", err
@@ -370,7 +365,7 @@ func (s *Store) present(ctx context.Context, k *known) (all [kinds]*info, missin
 				if time.Since(gone) < removing {
 					continue
 				}
-				missing = loss("someone removed the stream " + s.stream(kind(i)))
+				missing = "someone removed the stream " + s.stream(kind(i))
 			}
 			if err := s.make(ctx, kind(i)); err != nil {
 				return all, "", err
@@ -508,7 +503,7 @@ func (s *Store) finish(ctx context.Context, x exam, k *known) error {
 			return err
 		}
 		if is.Epoch != before && is.Deaf >= plus(uint64(latest)/uint64(time.Second), is.Lasts) {
-			s.log("the epoch ended: claims may be lost", "why", string(x.lost), "epoch", is.Epoch, "deaf", is.Deaf)
+			s.log("the epoch ended: claims may be lost", "why", x.lost, "epoch", is.Epoch, "deaf", is.Deaf)
 			return nil
 		}
 	}
@@ -516,7 +511,7 @@ func (s *Store) finish(ctx context.Context, x exam, k *known) error {
 }
 
 // missed says what of the store is lost, "" for nothing.
-func (s *Store) missed(ctx context.Context, x exam) (loss, error) {
+func (s *Store) missed(ctx context.Context, x exam) (string, error) {
 	is, now, own, c, w := x.is, x.now, x.own, x.all[ofClaims], x.all[ofWithdrawals]
 	switch {
 	case is.Claims != 0 && c.Created.UnixNano() != is.Claims:
@@ -526,12 +521,12 @@ func (s *Store) missed(ctx context.Context, x exam) (loss, error) {
 	case c.State.Last < x.last || w.State.Last < x.lastWithdrawal:
 		return "the streams end before what they acknowledged", nil
 	case c.State.Deleted > is.Deleted:
-		return loss(fmt.Sprintf("claims are gone: %d between the first one and the last one, and %d before", c.State.Deleted, is.Deleted)), nil
+		return fmt.Sprintf("claims are gone: %d between the first one and the last one, and %d before", c.State.Deleted, is.Deleted), nil
 	case w.State.Deleted > is.Gone:
-		return loss(fmt.Sprintf("withdrawals are gone: %d between the first one and the last one, and %d before", w.State.Deleted, is.Gone)), nil
+		return fmt.Sprintf("withdrawals are gone: %d between the first one and the last one, and %d before", w.State.Deleted, is.Gone), nil
 	}
 	if now+int64(seconds(is.Back)) < s.time.Load() || now+int64(seconds(is.Back)) < is.Began {
-		return loss(fmt.Sprintf("the store's time went back to %d", now/int64(time.Second))), nil
+		return fmt.Sprintf("the store's time went back to %d", now/int64(time.Second)), nil
 	}
 	if why := s.front(is, c, now, ofClaims, is.First); why != "" {
 		return why, nil
@@ -560,7 +555,7 @@ type sample struct {
 
 // front says what is lost in front of a stream's first message: what came after a sample must be there until it has the stream's age, unless it
 // was gone when the epoch began, at the position first.
-func (s *Store) front(is *known, i *info, now int64, k kind, first uint64) loss {
+func (s *Store) front(is *known, i *info, now int64, k kind, first uint64) string {
 	keeps := i.Config.Number("max_age")
 	if keeps == 0 {
 		keeps = 1 << 62
@@ -575,7 +570,7 @@ func (s *Store) front(is *known, i *info, now int64, k kind, first uint64) loss 
 	slack := int64(seconds(is.Back)) + int64(time.Second)
 	for _, one := range all {
 		if i.State.First > one.last+1 && i.State.First > first && now-one.time < keeps-slack {
-			return loss(fmt.Sprintf("messages are gone from the beginning of %s, and are too young for that", s.stream(k)))
+			return fmt.Sprintf("messages are gone from the beginning of %s, and are too young for that", s.stream(k))
 		}
 	}
 	if now-all[len(all)-1].time >= keeps/64 {

@@ -131,7 +131,14 @@ func refusal(m *client.Msg) error {
 	if err := reply(m); err != nil {
 		return err
 	}
-	return fault(m.Data)
+	var failed struct{ Error *client.APIError }
+	if err := json.Unmarshal(m.Data, &failed); err != nil {
+		return errOther
+	}
+	if failed.Error != nil {
+		return failed.Error
+	}
+	return nil
 }
 
 func is(err error, code client.ErrorCode) bool {

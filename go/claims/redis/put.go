@@ -140,10 +140,6 @@ func (s *Store) putPart(ctx context.Context, p *part, these []claims.Claim, foun
 	s.leave(c, err)
 }
 
-func untilText(c *claims.Claim, known *sent) string {
-	return strconv.FormatUint(svid.StaysUntil(c.Expires, known.record.terms.Margin), 10)
-}
-
 func (it *shard) key(c *claims.Claim) string { return it.prefix + string(c.Key[:]) }
 
 // putNew puts claims, each where there is no entry. again has those of the part that found one.
@@ -161,7 +157,8 @@ func (s *Store) putNew(ctx context.Context, c *conn, p *part, known []sent, thes
 		}
 		found[i] = claims.Found{}
 		asked = append(asked, n)
-		if err := c.Send("SET", p.shards[p.of[n]].key(one), one.Owner[:], "NX", "EXAT", untilText(one, k)); err != nil {
+		until := svid.StaysUntil(one.Expires, k.record.terms.Margin)
+		if err := c.Send("SET", p.shards[p.of[n]].key(one), one.Owner[:], "NX", "EXAT", strconv.FormatUint(until, 10)); err != nil {
 			return nil, err
 		}
 	}
