@@ -608,11 +608,13 @@ def test_a_cluster_whose_servers_do_not_know_their_names(tmp_path):
     with held_ports(2) as (port, bus):
         made = Machine(tmp_path / "one", *more, "--cluster-port", str(bus), port=port)
     try:
-        made.client().execute_command("CLUSTER ADDSLOTSRANGE", *ranges[:4])
+        ask = made.client().execute_command
+        ask("CLUSTER ADDSLOTSRANGE", *ranges[:4])
+        until(lambda: ask("CLUSTER INFO")["cluster_state"] == "ok")
         with RedisStore(f"redis://127.0.0.1:{port}", wait=PATIENCE) as store:
             with pytest.raises(StoreFault, match="no server of the Cluster has a slot"):
                 store.put([claim(1), claim(200)])
-            made.client().execute_command("CLUSTER ADDSLOTSRANGE", *ranges[4:])
+            ask("CLUSTER ADDSLOTSRANGE", *ranges[4:])
             assert put(store, claim(1), claim(200))[1].owner == b"o" * 32
             assert len(store._shards) == 16
     finally:
