@@ -830,6 +830,23 @@ def test_servers_that_hang(machine, tmp_path):
             put(store, claim(1))
 
 
+def test_a_server_that_hangs_is_asked_last(machine, tmp_path, monkeypatch):
+    """Each call that looks for the servers of a Cluster would wait for it."""
+    monkeypatch.setattr(_scripts, "ASK_WAIT", 50)
+    with socket.socket(socket.AF_UNIX) as hangs:
+        hangs.bind(f"{tmp_path}/hangs")
+        hangs.listen()
+        servers = store_of_redis._Servers([f"unix://{tmp_path}/hangs", machine.url], End())
+
+        def is_answered():
+            with contextlib.suppress(StoreFault):
+                return servers.is_cluster(time.monotonic() + PATIENCE) is False
+
+        until(is_answered)
+        monkeypatch.setattr(_scripts, "ASK_WAIT", 1000 * PATIENCE)
+        assert is_answered()
+
+
 class Told(GroupStore):
     """A store whose server says what a test wants."""
 
