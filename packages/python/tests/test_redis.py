@@ -951,6 +951,24 @@ def test_each_outage_is_warned_of(monkeypatch, caplog):
     assert caplog.text.count("can't be looked at") == 2
 
 
+def test_an_outage_is_told_by_the_look_at_the_store(monkeypatch, caplog):
+    """What reads the withdrawals then says less."""
+
+    class Unfit(Told):
+        def _look(self, end):
+            self.looks.append(end)
+            raise StoreFault("unfit", "its settings")
+
+        def _withdrawals(self, after, end):
+            raise StoreFault("silent")
+
+    monkeypatch.setattr("svid._group._statements.STATE_EVERY", 10)
+    with Unfit() as store:
+        store._watch()
+        store.look_again()
+    assert caplog.messages == ["the group's store can't be looked at: its settings"]
+
+
 def test_who_withdraws_a_token_again_does_not_take_that_back():
     """Neither by this member nor by another one."""
     with Told() as store:
