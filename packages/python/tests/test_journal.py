@@ -10,13 +10,13 @@ import logging
 import os
 import pathlib
 import random
+import resource
 import select
 import shutil
 import signal
 import socket
 import struct
 import subprocess
-import sys
 import threading
 import time
 
@@ -51,9 +51,14 @@ def append(journal, *numbers):
 
 def found(folder):
     """The numbers of the uses that a start finds in a folder."""
-    messages = []
     with contextlib.closing(svid.Journal(folder)) as journal:
-        journal.load(messages.append)
+        return loaded(journal)
+
+
+def loaded(journal):
+    """The numbers of the uses that a start has found."""
+    messages = []
+    journal.load(messages.append)
     return {int.from_bytes(key, "big") for *_, key, _ in entries_of(b"".join(messages))}
 
 
@@ -64,7 +69,7 @@ def names(folder):
 class Other:
     """Another process: a fork of this one, which takes less than a Python that starts.
 
-    It does some work, which gets what writes to the pipe that `said` reads. It ends by a kill.
+    It does some work, which gets what writes to the pipe that `said` reads, and ends, or is killed.
     """
 
     def __init__(self, work):
@@ -73,7 +78,6 @@ class Other:
         if not self._child:
             try:
                 work(functools.partial(os.write, writer))
-                signal.pause()
             finally:
                 os._exit(1)
         os.close(writer)
@@ -240,9 +244,8 @@ def test_one_process_holds_a_folder(tmp_path):
 def opens_elsewhere(folder):
     """What another process says that opens a folder."""
     opens = functools.partial(answer, lambda: type(svid.Journal(folder)).__name__)
-    with Other(lambda tell: tell(f"{opens()}\n".encode())) as other:
-        with answering(other, "the other process"):
-            return other.said.readline().decode().strip()
+    with Other(lambda tell: tell(opens().encode())) as other, answering(other, "it"):
+        return other.said.read().decode()
 
 
 def test_who_waits_for_a_folder_takes_one_descriptor_no_more(tmp_path):
@@ -703,6 +706,7 @@ def test_a_kill_at_any_time_loses_no_acceptance(tmp_path, monkeypatch):
 
         for which in range(3):
             threading.Thread(target=accepts, args=(which,), daemon=True).start()
+        signal.pause()
 
     for turn in range(12):
         with Other(functools.partial(work, turn)) as worker, answering(worker, "the worker"):
@@ -738,9 +742,8 @@ def test_a_write_that_was_torn_anywhere(tmp_path):
             for rest in b"", bytes(end - cut) + text[end:], garbled:
                 folder = crashed(tmp_path / "state", tmp_path / "crashed")
                 (folder / "journal.1").write_bytes(text[:cut] + rest)
-                with contextlib.closing(svid.Journal(folder)) as other, validator() as checks:
-                    other.load(checks.take)
-                    assert {it.key[31] for it in checks.report().uses} == {1, 2}
+                with contextlib.closing(svid.Journal(folder)) as other:
+                    assert loaded(other) == {1, 2}
                     is_blank = not (text[:cut] + rest)[begin:].strip(b"\0")
                     assert other.torn == (() if is_blank else (str(folder / "journal.1"),))
                 shutil.rmtree(folder)
@@ -1371,29 +1374,22 @@ def test_want_of_memory_behind_a_sync_is_a_passing_fault(tmp_path, monkeypatch):
 
 def test_a_full_disk_is_a_passing_fault(tmp_path):
     """By a limit of the process on the length of a file."""
-    text = """
-import resource, sys, svid
-from test_journal import append
-journal = svid.Journal(sys.argv[1])
-number = 0
-for most in 1000, 1500, resource.RLIM_INFINITY:
-    resource.setrlimit(resource.RLIMIT_FSIZE, (most, resource.RLIM_INFINITY))
-    try:
-        while number < 40:
-            append(journal, number)
-            print(number)
-            number += 1
-    except svid.Unavailable as why:
-        print("full at", number, "File too large" in str(why))
-        number += 1
-"""
-    environment = {
-        **os.environ,
-        "PYTHONPATH": os.pathsep.join([*sys.path, os.path.dirname(__file__)]),
-    }
-    words = [sys.executable, "-c", text, tmp_path]
-    ran = subprocess.run(words, env=environment, capture_output=True, timeout=PATIENCE, check=True)
-    said = ran.stdout.decode().splitlines()
+
+    def work(tell):
+        journal, number = svid.Journal(tmp_path), 0
+        for most in 1000, 1500, resource.RLIM_INFINITY:
+            resource.setrlimit(resource.RLIMIT_FSIZE, (most, resource.RLIM_INFINITY))
+            try:
+                while number < 40:
+                    append(journal, number)
+                    tell(f"{number}\n".encode())
+                    number += 1
+            except svid.Unavailable as why:
+                tell(f"full at {number} {'File too large' in str(why)}\n".encode())
+                number += 1
+
+    with Other(work) as other, answering(other, "the other process"):
+        said = other.said.read().decode().splitlines()
     kept = [*range(8), *range(9, 13), *range(14, 40)]
     full = ["full at 8 True", "full at 13 True"]
     assert said == [
@@ -1408,10 +1404,15 @@ for most in 1000, 1500, resource.RLIM_INFINITY:
 
 def test_a_killed_process_is_let_in_at_once(tmp_path):
     """Its lock goes with it, however it ended."""
-    opened = []
-    with Other(lambda tell: opened.append(svid.Journal(tmp_path)) or tell(b"\n")) as other:
+
+    def work(tell):
+        journal = svid.Journal(tmp_path)
+        tell(f"{journal.torn}\n".encode())
+        signal.pause()
+
+    with Other(work) as other:
         with answering(other, "the other process"):
-            assert other.said.readline()
+            assert other.said.readline() == b"()\n"
         with pytest.raises(svid.Held):
             svid.Journal(tmp_path)
         other.kill()
