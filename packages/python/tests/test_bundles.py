@@ -277,7 +277,7 @@ def test_renewing_by_another_file(tmp_path):
 
 
 def test_keys_of_replaced_bundles_are_freed():
-    """Each bundle has four keys of 60 kB: those of 200 bundles that stayed would be 48 MB."""
+    """Each bundle has four keys of 60 kB: those of 70 bundles that stayed would be 17 MB."""
     text = """
 import base64, json, svid
 from making import NOW, PATIENCE, bundle, entry, private_key, token
@@ -287,7 +287,7 @@ def bundles(which):
 def most():
     return int(open("/proc/self/status").read().partition("VmHWM:")[2].split()[0])
 with svid.Validator(audiences="ledger", bundles=bundles(0), wait=PATIENCE) as checks:
-    for which in range(220):
+    for which in range(90):
         if which == 20:
             before = most()
         checks.renew(bundles(which))
@@ -301,7 +301,7 @@ print(most() - before)
     environment = {**os.environ, "PYTHONPATH": os.pathsep.join(sys.path)}
     words = [sys.executable, "-c", text]
     ran = subprocess.run(words, env=environment, capture_output=True, timeout=PATIENCE, check=True)
-    assert int(ran.stdout) < 24_000  # kilobytes, of the most that this process had
+    assert int(ran.stdout) < 8_000  # kilobytes, of the most that this process had
 
 
 def many_keys():

@@ -2,6 +2,7 @@
 
 import contextlib
 import errno
+import functools
 import gc
 import hashlib
 import itertools
@@ -9,13 +10,13 @@ import logging
 import os
 import pathlib
 import random
+import resource
 import select
 import shutil
 import signal
 import socket
 import struct
 import subprocess
-import sys
 import threading
 import time
 
@@ -32,6 +33,7 @@ from making import (
     validator,
 )
 from svid import _folder, _journal, _library
+from svid.records import entries_of
 
 BEGUN = int(time.time())
 FRAME = 120  # bytes of a frame with one use
@@ -49,13 +51,50 @@ def append(journal, *numbers):
 
 def found(folder):
     """The numbers of the uses that a start finds in a folder."""
-    with contextlib.closing(svid.Journal(folder)) as journal, validator() as checks:
-        journal.load(checks.take)
-        return {int.from_bytes(it.key, "big") for it in checks.report().uses}
+    with contextlib.closing(svid.Journal(folder)) as journal:
+        return loaded(journal)
+
+
+def loaded(journal):
+    """The numbers of the uses that a start has found."""
+    messages = []
+    journal.load(messages.append)
+    return {int.from_bytes(key, "big") for *_, key, _ in entries_of(b"".join(messages))}
 
 
 def names(folder):
     return sorted(it.name for it in folder.iterdir())
+
+
+class Other:
+    """Another process: a fork of this one, which takes less than a Python that starts.
+
+    It does some work, which gets what writes to the pipe that `said` reads, and ends, or is killed.
+    """
+
+    def __init__(self, work):
+        reader, writer = os.pipe()
+        self._child = os.fork()
+        if not self._child:
+            try:
+                work(functools.partial(os.write, writer))
+            finally:
+                os._exit(1)
+        os.close(writer)
+        self.said = open(reader, "rb")
+
+    def __enter__(self):
+        return self
+
+    def __exit__(self, *_):
+        self.kill()
+        self.said.close()
+
+    def kill(self):
+        if self._child:
+            os.kill(self._child, signal.SIGKILL)
+            status_of(self._child)
+            self._child = 0
 
 
 def until(true):
@@ -196,12 +235,17 @@ def test_one_process_holds_a_folder(tmp_path):
     name = f"process {os.getpid()} on {socket.gethostname()} since "
     assert raised.value.holder.startswith(name) and str(raised.value).count(name) == 1
     assert len(raised.value.holder) == len(name + "2026-01-01T00:00:00Z")
-    words = [sys.executable, "-c", "import svid, sys; svid.Journal(sys.argv[1])", tmp_path]
-    ran = subprocess.run(words, capture_output=True, timeout=PATIENCE, check=False)
-    assert b"svid.errors.Held" in ran.stderr
+    assert opens_elsewhere(tmp_path) == "Held"
     journal.close()
     journal.close()
-    assert subprocess.run(words, timeout=PATIENCE, check=True).returncode == 0
+    assert opens_elsewhere(tmp_path) == "Journal"
+
+
+def opens_elsewhere(folder):
+    """What another process says that opens a folder."""
+    opens = functools.partial(answer, lambda: type(svid.Journal(folder)).__name__)
+    with Other(lambda tell: tell(opens().encode())) as other, answering(other, "it"):
+        return other.said.read().decode()
 
 
 def test_who_waits_for_a_folder_takes_one_descriptor_no_more(tmp_path):
@@ -646,45 +690,32 @@ def test_appends_go_on_while_a_snapshot_is_written(tmp_path):
 # -- Kills, tears, damage
 
 
-WORKER = """
-import sys, threading, svid
-from making import PATIENCE, bundle, fresh
-from svid import _journal
-_journal._SMALL = 2000
-checks = svid.Validator(
-    audiences="ledger",
-    bundles=bundle({"kty": "EC", "use": "jwt-svid", "kid": "k1"}),
-    verifies=lambda *_: True,
-    state=sys.argv[1],
-    wait=PATIENCE,
-)
-lock = threading.Lock()
-def work(which):
-    for number in range(100_000):
-        text = fresh(jti=f"{sys.argv[2]} {which} {number}")
-        checks.check(text)
-        with lock:
-            sys.stdout.write(text + "\\n")
-            sys.stdout.flush()
-for which in range(3):
-    threading.Thread(target=work, args=(which,)).start()
-"""
-
-
-def test_a_kill_at_any_time_loses_no_acceptance(tmp_path):
+def test_a_kill_at_any_time_loses_no_acceptance(tmp_path, monkeypatch):
     """The worker also replaces its snapshot all the while, and begins again each time."""
     told, state, chance = [], tmp_path / "state", random.Random(7)
-    environment = {**os.environ, "PYTHONPATH": os.pathsep.join(sys.path)}
+    monkeypatch.setattr(_journal, "_SMALL", 2000)
+
+    def work(turn, tell):
+        checks = validator(state=state, verifies=lambda *_: True)
+
+        def accepts(which):
+            for number in itertools.count():
+                text = fresh(jti=f"{turn} {which} {number}")
+                checks.check(text)
+                tell(f"{text}\n".encode())
+
+        for which in range(3):
+            threading.Thread(target=accepts, args=(which,), daemon=True).start()
+        signal.pause()
+
     for turn in range(12):
-        words = [sys.executable, "-c", WORKER, state, str(turn)]
-        ran = subprocess.Popen(words, env=environment, stdout=subprocess.PIPE)
-        with ran, answering(ran, "the worker"):
-            # (a kill while Python starts shows nothing, and how fast it is differs by machine)
-            first = b"".join(ran.stdout.readline() for _ in range(chance.randint(1, 40)))
+        with Other(functools.partial(work, turn)) as worker, answering(worker, "the worker"):
+            # (a kill while the worker starts shows nothing, and how fast it is differs by machine)
+            first = b"".join(worker.said.readline() for _ in range(chance.randint(1, 40)))
             assert first
             time.sleep(chance.uniform(0, 0.01))
-            ran.kill()
-            rest = first + ran.stdout.read()
+            worker.kill()
+            rest = first + worker.said.read()
         told += rest[: rest.rindex(b"\n")].decode().split("\n")
     assert len(told) > 100
     with validator(state=state, verifies=lambda *_: True) as checks:
@@ -711,9 +742,8 @@ def test_a_write_that_was_torn_anywhere(tmp_path):
             for rest in b"", bytes(end - cut) + text[end:], garbled:
                 folder = crashed(tmp_path / "state", tmp_path / "crashed")
                 (folder / "journal.1").write_bytes(text[:cut] + rest)
-                with contextlib.closing(svid.Journal(folder)) as other, validator() as checks:
-                    other.load(checks.take)
-                    assert {it.key[31] for it in checks.report().uses} == {1, 2}
+                with contextlib.closing(svid.Journal(folder)) as other:
+                    assert loaded(other) == {1, 2}
                     is_blank = not (text[:cut] + rest)[begin:].strip(b"\0")
                     assert other.torn == (() if is_blank else (str(folder / "journal.1"),))
                 shutil.rmtree(folder)
@@ -1344,29 +1374,22 @@ def test_want_of_memory_behind_a_sync_is_a_passing_fault(tmp_path, monkeypatch):
 
 def test_a_full_disk_is_a_passing_fault(tmp_path):
     """By a limit of the process on the length of a file."""
-    text = """
-import resource, sys, svid
-from test_journal import append
-journal = svid.Journal(sys.argv[1])
-number = 0
-for most in 1000, 1500, resource.RLIM_INFINITY:
-    resource.setrlimit(resource.RLIMIT_FSIZE, (most, resource.RLIM_INFINITY))
-    try:
-        while number < 40:
-            append(journal, number)
-            print(number)
-            number += 1
-    except svid.Unavailable as why:
-        print("full at", number, "File too large" in str(why))
-        number += 1
-"""
-    environment = {
-        **os.environ,
-        "PYTHONPATH": os.pathsep.join([*sys.path, os.path.dirname(__file__)]),
-    }
-    words = [sys.executable, "-c", text, tmp_path]
-    ran = subprocess.run(words, env=environment, capture_output=True, timeout=PATIENCE, check=True)
-    said = ran.stdout.decode().splitlines()
+
+    def work(tell):
+        journal, number = svid.Journal(tmp_path), 0
+        for most in 1000, 1500, resource.RLIM_INFINITY:
+            resource.setrlimit(resource.RLIMIT_FSIZE, (most, resource.RLIM_INFINITY))
+            try:
+                while number < 40:
+                    append(journal, number)
+                    tell(f"{number}\n".encode())
+                    number += 1
+            except svid.Unavailable as why:
+                tell(f"full at {number} {'File too large' in str(why)}\n".encode())
+                number += 1
+
+    with Other(work) as other, answering(other, "the other process"):
+        said = other.said.read().decode().splitlines()
     kept = [*range(8), *range(9, 13), *range(14, 40)]
     full = ["full at 8 True", "full at 13 True"]
     assert said == [
@@ -1381,15 +1404,16 @@ for most in 1000, 1500, resource.RLIM_INFINITY:
 
 def test_a_killed_process_is_let_in_at_once(tmp_path):
     """Its lock goes with it, however it ended."""
-    text = (
-        "import svid, sys, time; j = svid.Journal(sys.argv[1]); print(flush=True); time.sleep(60)"
-    )
-    with subprocess.Popen([sys.executable, "-c", text, tmp_path], stdout=subprocess.PIPE) as ran:
-        try:
-            assert select.select([ran.stdout], [], [], PATIENCE)[0]
-            with pytest.raises(svid.Held):
-                svid.Journal(tmp_path)
-        finally:
-            ran.kill()
-        ran.wait()
+
+    def work(tell):
+        journal = svid.Journal(tmp_path)
+        tell(f"{journal.torn}\n".encode())
+        signal.pause()
+
+    with Other(work) as other:
+        with answering(other, "the other process"):
+            assert other.said.readline() == b"()\n"
+        with pytest.raises(svid.Held):
+            svid.Journal(tmp_path)
+        other.kill()
         svid.Journal(tmp_path).close()

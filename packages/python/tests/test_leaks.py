@@ -8,9 +8,10 @@ import tempfile
 
 import pytest
 
+from lives import WARM
 from making import PATIENCE
 
-LIVES = int(os.environ.get("SVID_TEST_LIVES") or 70)
+LIVES = int(os.environ.get("SVID_TEST_LIVES") or 40)
 FOLDER = "/dev/shm"  # (a disk would be forced ten times in each life)
 
 
@@ -37,4 +38,4 @@ def test_lives_do_not_add_up(held, kind, most):
     (What malloc keeps for a thread counts as held: some 70,000 bytes, in few lives or in many.)
     """
     before, after = (it[kind] for it in held)
-    assert after - before < most * LIVES
+    assert after - before < most * (LIVES - WARM)

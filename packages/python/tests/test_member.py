@@ -520,38 +520,59 @@ def test_a_claim_without_an_answer_stops_no_other():
         assert [it.answer for it in both] == [SUBJECT, SUBJECT]
 
 
-def test_a_store_that_answers_some_claims_alone_may_be_away():
-    """Its call ends well, but the server of a Cluster that has the others is away."""
+class Requests:
+    """Those that wait for claims: for each claim until it was put so many times."""
+
+    def __init__(self, most):
+        self.most, self.sent, self.is_answered = most, [], threading.Event()
+
+    def send(self, due):
+        these = [number for number, _ in self.sent]
+        if these.count(due.number) < self.most:
+            self.sent.append((due.number, time.monotonic()))
+            return svid.Claim(due.key, b"o" * 32, due.expires)
+
+    def reached(self):
+        """They are asked nothing."""
+
+    def found(self, _number, _found):
+        self.is_answered.set()
+
+
+@contextlib.contextmanager
+def partly_answered(requests):
+    """Two claims, of which a store answers the first one: the server of the other one is away."""
 
     class Partly(svid.testing.MemoryStore):
         def put_each(self, claims):
             found = self.put(claims)
-            return [*found[:1], *[ConnectionError("its server is away") for _ in found[1:]]]
+            return [
+                it if claim.key == bytes(32) else ConnectionError("its server is away")
+                for claim, it in zip(claims, found)
+            ]
 
-    class Requests:
-        """Those of a validator. One whose claim was put once waits no more."""
-
-        sent, is_answered = [], threading.Event()
-
-        def send(self, due):
-            if due.number not in self.sent:
-                self.sent.append(due.number)
-                return svid.Claim(due.key, b"o" * 32, due.expires)
-
-        def reached(self):
-            """They are asked nothing."""
-
-        def found(self, _number, _found):
-            self.is_answered.set()
-
-    requests = Requests()
     claims = _claims.Claims(Partly(), requests, tells=False)
     for n in range(2):
         claims.add(_claims.Due(n, bytes([n]) * 32, int(time.time()) + 300, bytes(16)))
     with contextlib.closing(claims):
         claims.begin(PATIENCE)
         assert requests.is_answered.wait(PATIENCE)
-        assert claims.look(0)
+        yield claims
+
+
+def test_a_store_that_answers_some_claims_alone_may_be_away():
+    """It is there, and its call ends well. But a server of a Cluster is away."""
+    with partly_answered(Requests(1)) as claims:
+        assert claims.is_there and claims.look(0)
+
+
+def test_a_claim_without_an_answer_rests():
+    """Else the servers that are there would be asked as often as they answer."""
+    requests = Requests(2)
+    with partly_answered(requests):
+        until(lambda: len(requests.sent) == 3)
+    first, again = (moment for number, moment in requests.sent if number == 1)
+    assert again - first > 0.009
 
 
 def test_calls_one_after_the_other_share_some_threads():

@@ -1,4 +1,4 @@
-"""Generated tokens, good and bad, in rows of 50: the package and the program say the same of each.
+"""Generated tokens, good and bad, in rows of 250: the package and the program say the same of each.
 
 `CASES` in the environment is how many tokens there are, the same ones each time. The questions that
 the program's table has are written by this test, from signatures that PyJWT verified.
@@ -28,7 +28,7 @@ from making import (
 from svid._library import MOST_CANDIDATES
 from svid.errors import REFUSALS
 
-ROW = 50
+ROW = 250
 ROWS = int(os.environ.get("CASES", "5000")) // ROW
 LONGEST = 3600
 DOMAIN = "example.org"
@@ -165,7 +165,7 @@ CHANGES += [with_a_byte_changed, with_a_byte_less, with_another_signature, with_
 def row():
     """Tokens. Some come again."""
     made = [any_token() for _ in range(ROW)]
-    for _ in range(chance.randint(0, 9)):
+    for _ in range(chance.randint(0, ROW // 5)):
         index = chance.randint(1, ROW - 1)
         made[index] = made[chance.randrange(index)]
     return made

@@ -345,7 +345,7 @@ def test_a_report_of_a_token_used_twice():
         (b"JSR\x02\x07", ("Kind", 1, 4)),
         (b"JSR\x02\x01" + bytes(12) + b"JSR", ("Truncated", 2, 3)),
         (bytes(67_108_865), ("Magic", 1, 0)),
-        ((b"JSR\x02\x01" + bytes(12)) * 3_947_581, ("TooMuch", 0, 0)),
+        ((b"JSR\x02\x02" + bytes(8200)) * 8180, ("TooMuch", 0, 0)),
     ],
     ids=["magic", "kind", "truncated", "too much, and bad", "too much"],
 )
@@ -447,7 +447,8 @@ def many_messages():
 def test_a_save_of_a_full_batch(tmp_path):
     """A batch has up to 65,536 uses, and the file may go on behind it."""
     uses = many_uses()
-    texts = [it.message[17:] for it in uses]
+    begin, _, end = svid.Use(NOW + 300, b"k" * 32, bytes(16), NOW).message.partition(b"k" * 32)
+    texts = [begin[17:] + it.key + end for it in uses]
     full = b"JSR\x02\x01" + NOW.to_bytes(8, "big") + (65_536).to_bytes(4, "big")
     kept = tmp_path / "kept"
     kept.write_bytes(full + b"".join(texts[:-1]) + uses[-1].message)

@@ -607,11 +607,13 @@ def test_a_cluster_whose_servers_do_not_know_their_names(tmp_path):
     with held_ports(2) as (port, bus):
         made = Machine(tmp_path / "one", *more, "--cluster-port", str(bus), port=port)
     try:
-        made.client().execute_command("CLUSTER ADDSLOTSRANGE", *ranges[:4])
+        ask = made.client().execute_command
+        ask("CLUSTER ADDSLOTSRANGE", *ranges[:4])
+        until(lambda: ask("CLUSTER INFO")["cluster_state"] == "ok")
         with RedisStore(f"redis://127.0.0.1:{port}", wait=PATIENCE) as store:
             with pytest.raises(StoreFault, match="no server of the Cluster has a slot"):
                 store.put([claim(1), claim(200)])
-            made.client().execute_command("CLUSTER ADDSLOTSRANGE", *ranges[4:])
+            ask("CLUSTER ADDSLOTSRANGE", *ranges[4:])
             assert put(store, claim(1), claim(200))[1].owner == b"o" * 32
             assert len(store._shards) == 16
     finally:
@@ -827,6 +829,23 @@ def test_servers_that_hang(machine, tmp_path):
             put(store, claim(1))
 
 
+def test_a_server_that_hangs_is_asked_last(machine, tmp_path, monkeypatch):
+    """Each call that looks for the servers of a Cluster would wait for it."""
+    monkeypatch.setattr(_scripts, "ASK_WAIT", 50)
+    with socket.socket(socket.AF_UNIX) as hangs:
+        hangs.bind(f"{tmp_path}/hangs")
+        hangs.listen()
+        servers = store_of_redis._Servers([f"unix://{tmp_path}/hangs", machine.url], End())
+
+        def is_answered():
+            with contextlib.suppress(StoreFault):
+                return servers.is_cluster(time.monotonic() + PATIENCE) is False
+
+        until(is_answered)
+        monkeypatch.setattr(_scripts, "ASK_WAIT", 1000 * PATIENCE)
+        assert is_answered()
+
+
 class Told(GroupStore):
     """A store whose server says what a test wants."""
 
@@ -929,6 +948,24 @@ def test_each_outage_is_warned_of(monkeypatch, caplog):
             store.is_away = is_away
             store.look_again()
     assert caplog.text.count("can't be looked at") == 2
+
+
+def test_an_outage_is_told_by_the_look_at_the_store(monkeypatch, caplog):
+    """What reads the withdrawals then says less."""
+
+    class Unfit(Told):
+        def _look(self, end):
+            self.looks.append(end)
+            raise StoreFault("unfit", "its settings")
+
+        def _withdrawals(self, after, end):
+            raise StoreFault("silent")
+
+    monkeypatch.setattr("svid._group._statements.STATE_EVERY", 10)
+    with Unfit() as store:
+        store._watch()
+        store.look_again()
+    assert caplog.messages == ["the group's store can't be looked at: its settings"]
 
 
 def test_who_withdraws_a_token_again_does_not_take_that_back():

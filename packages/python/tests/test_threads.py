@@ -483,13 +483,13 @@ print("end", flush=True)
 
 
 def test_validators_that_are_dropped_are_freed():
-    """Each has bundles of a megabyte: 100 that stayed would be 250 megabytes and more."""
+    """Each has bundles of a megabyte: 60 that stayed would be 150 megabytes and more."""
     text = """
 import svid
 import svid.testing
 key = b'{"kty":"EC","use":"jwt-svid","kid":"%s"}' % (b"k" * 60_000)
 bundles = b'{"a":{"keys":[%s]}}' % b",".join([key] * 16)
-for _ in range(100):
+for _ in range(60):
     svid.Validator(audiences="a", bundles=bundles)
 print(open("/proc/self/status").read().partition("VmHWM:")[2].split()[0])
 """
