@@ -5,6 +5,7 @@ import { Library } from "./library.js";
 import { StoreFault } from "./answers.js";
 import * as said from "./statements.js";
 
+const MOST_LASTS = 2n ** 52n; // (servers count in numbers of 53 bits, and add a time)
 const nameOf = (key) => Buffer.from(key).toString("hex");
 
 /** A member of a group's store. */
@@ -25,6 +26,7 @@ export class GroupStore {
     if (!(wait > 0 && wait < 2 ** 21)) throw new RangeError("wait is a number of seconds above 0");
     const library = await Library.start(), back = BigInt(said.STEP_BACK / 1000), least = BigInt(said.LEAST_MARGIN / 1000);
     const lasts = library.claimUntil(limit("longest", longest), 2n * limit("ahead", ahead));
+    if (lasts >= MOST_LASTS) throw new RangeError("longest is too great for a store: with twice ahead it is below 2^52 seconds");
     const margin = (limit("ahead", ahead) > least ? limit("ahead", ahead) : least) + back;
     if (!Number.isInteger(replicas) || replicas < 1) throw new RangeError("replicas is how many servers must have a claim: at least 1");
     const all = typeof servers === "string" ? [servers] : Array.from(servers ?? []);

@@ -6,7 +6,7 @@
 import { BadFolder, Closed, Unavailable } from "./errors.js";
 import { FRAMES, Folder, ID_FILE, SNAPSHOT, UNFINISHED, journalName, write } from "./folder.js";
 import { random } from "./given.js";
-import { FILE_DAMAGE, FILE_END, FILE_OTHER, FILE_TEAR, Library, MOST_PAYLOAD, joined } from "./library.js";
+import { FILE_END, FILE_OTHER, FILE_TEAR, Library, MOST_PAYLOAD, joined } from "./library.js";
 
 // The calls of the system (enum svid_call).
 const NOTHING = 0n, CREATE_JOURNAL = 1n, SYNC_FOLDER = 2n, WRITE_SNAPSHOT = 3n, SYNC_SNAPSHOT = 4n, RENAME_SNAPSHOT = 5n, REMOVE_JOURNAL = 6n;
@@ -134,9 +134,9 @@ export class Journal {
     if (!known && bytes.some((it) => it !== 0)) {
       throw new BadFolder(`the file ${ID_FILE} is missing in ${folder.path}, and ${path} can't be read without it: put back a copy`);
     }
-    if (status === FILE_DAMAGE) throw new BadFolder(`${path} is damaged at byte ${at}: look for a failing disk, and put back a copy of the file of the same day`);
     if (status === FILE_OTHER) throw new BadFolder(`${path} has format ${format}, and this version reads format 2: run the version that wrote it`);
     if (status === FILE_TEAR) warn(`a crash cut off a write at the end of ${path}: nobody had an answer`);
+    else if (status !== FILE_END) throw new BadFolder(`${path} is damaged at byte ${at}: look for a failing disk, and put back a copy of the file of the same day`);
     for (const it of messages) this.#found.push(it);
     if (number) this.#older += at;
     else this.#kept = at;

@@ -9,7 +9,7 @@ import { Accepted, Use } from "./records.js";
 /** What a call answers that did what it is for, and a member that has no bundle. */
 export const OK = 0, NO_BUNDLE = 212;
 /** Why reading of a file of a state folder ends. */
-export const FILE_END = 52, FILE_TEAR = 53, FILE_DAMAGE = 54, FILE_OTHER = 55;
+export const FILE_END = 52, FILE_TEAR = 53, FILE_OTHER = 55;
 /** The most bytes that are written to it at once. */
 export const MOST_PAYLOAD = 16_777_215;
 const TOO_SHORT = 1, NO_MEMORY = 2, CLOSED = 5, JUMP = 9, MAGIC = 11, BEARER_SEVERAL = 82, BEARER_SPELLING = 84, NOT_ALLOWED = 91;
@@ -149,8 +149,7 @@ export class Library {
   #saysOfAll() {
     const all = new Map();
     for (let status = 0; status < STATUSES; status++) {
-      const name = textOf(this.#text(() => this.#written("svid_status_name", status)));
-      const sentence = textOf(this.#text(() => this.#written("svid_status_sentence", status))), { more } = this.#told();
+      const name = textOf(this.#text("svid_status_name", status)), sentence = textOf(this.#text("svid_status_sentence", status)), { more } = this.#told();
       all.set(status, { name, says: sentence.slice(0, more), advice: sentence.slice(more + 1) });
     }
     return all;
@@ -241,17 +240,14 @@ export class Library {
     const rows = this.#written("svid_bundles_ask", this.#handle, this.#in.token, length, MOST_CANDIDATES);
     if (rows.status >= FIRST_REFUSAL) return null;
     if (rows.status !== OK) throw this.fault(rows.status);
-    const made = this.#written("svid_token_signature", this.#in.token, length, this.#in.small);
-    if (made.status !== OK) throw this.fault(made.status);
-    const signed = this.#seen(this.#in.token, this.#word(this.#in.small));
-    return { rows: rowsOf(rows.bytes), signed, signature: made.bytes };
+    const signature = this.#text("svid_token_signature", this.#in.token, length, this.#in.small);
+    return { rows: rowsOf(rows.bytes), signed: this.#seen(this.#in.token, this.#word(this.#in.small)), signature };
   }
 
   /** The question of a row of bundles. */
   question(token, number) {
     const length = this.#lendToken(token);
-    const status = this.#call("svid_bundles_question", this.#handle, this.#in.token, length, BigInt(number), this.#in.question);
-    if (status !== OK) throw this.fault(status);
+    this.#good("svid_bundles_question", this.#handle, this.#in.token, length, BigInt(number), this.#in.question);
     return this.#seen(this.#in.question, DIGEST);
   }
 
@@ -265,8 +261,7 @@ export class Library {
       if (yes) this.#set(this.#in.question, yes);
       const audiences = this.#audiences(own, lend, room);
       const lent = [this.#in.question, yes ? 1n : 0n, this.#in.token, length, this.#in.out, OUT_ROOM, this.#in.used];
-      const status = this.#call("svid_bundles_judge", this.#handle, setting, ...audiences, ...lent);
-      if (status !== OK) throw this.fault(status);
+      this.#good("svid_bundles_judge", this.#handle, setting, ...audiences, ...lent);
       return this.#accepted(token, own);
     });
   }
@@ -355,8 +350,7 @@ export class Library {
 
   /** Says what a check would, and adds nothing. `shown` has the key, and what it signed, or is null where no key did. Throws Refusal. */
   judge(now, token, own, shown) {
-    const status = this.#call("svid_validator_judge_token", this.#handle, now, ...this.#shown(shown), token.at, ...this.#outputs());
-    if (status !== OK) throw this.fault(status);
+    this.#good("svid_validator_judge_token", this.#handle, now, ...this.#shown(shown), token.at, ...this.#outputs());
     return this.#accepted(token.bytes, own);
   }
 
@@ -583,10 +577,7 @@ export class Library {
       this.#setWords(reader, [0n, 0n, 0n]);
       for (;;) {
         const status = this.#run("svid_journal_read", named, number, at, length, reader, frame), [payload, size, format] = this.#words(frame, 3);
-        if (status !== OK) {
-          if (status < FILE_END || status > FILE_OTHER) throw ofStatus(status);
-          return { status, at: Number(this.#word(reader + 8n)), format, messages };
-        }
+        if (status !== OK) return { status, at: Number(this.#word(reader + 8n)), format, messages };
         this.#run("svid_journal_bears", at + payload, size, bears);
         const begins = this.#word(bears + 32n); // (another writer may put a position before them)
         if (begins < size) messages.push(this.#seen(at + payload + begins, size - begins));
@@ -609,7 +600,7 @@ export class Library {
   // The payload of a token.
   #payload(token) {
     const length = this.#lendToken(token);
-    return this.#text(() => this.#written("svid_token_payload", this.#in.token, length));
+    return this.#text("svid_token_payload", this.#in.token, length);
   }
 
   /** What a token says: nobody has vouched for it. */
@@ -683,23 +674,18 @@ export class Library {
   withdraw(now, key, expires) {
     this.#open();
     this.#set(this.#in.small, key);
-    const status = this.#call("svid_validator_withdraw", this.#handle, now, this.#in.small, expires, this.#in.used);
-    if (status !== OK) throw this.fault(status);
+    this.#good("svid_validator_withdraw", this.#handle, now, this.#in.small, expires, this.#in.used);
     return this.#used(this.#in.used, true);
   }
 
   /** Advances the record. */
   tick(now) {
-    const status = this.#call("svid_validator_tick", this.#handle, now);
-    if (status !== OK) throw this.fault(status);
+    this.#good("svid_validator_tick", this.#handle, now);
   }
 
   /** Takes messages. */
   take(now, messages) {
-    this.#within(({ lend }) => {
-      const status = this.#call("svid_validator_take", this.#handle, now, ...lend(messages));
-      if (status !== OK) throw this.fault(status);
-    });
+    this.#within(({ lend }) => this.#good("svid_validator_take", this.#handle, now, ...lend(messages)));
   }
 
   /** The record as messages, in pieces of at most so many bytes. Other calls may come in between. */
@@ -709,8 +695,7 @@ export class Library {
       yield this.#within(({ room }) => {
         const at = room(PART), out = room(size);
         this.#set(at, part);
-        const status = this.#call("svid_validator_parts", this.#handle, at, out, BigInt(size));
-        if (status !== OK) throw this.fault(status);
+        this.#good("svid_validator_parts", this.#handle, at, out, BigInt(size));
         part.set(this.#seen(at, PART));
         done = this.#word(at + 8n) === 1n;
         return this.#seen(out, this.#length());
@@ -720,39 +705,31 @@ export class Library {
 
   /** The moment of the record, and how many uses it has. */
   size() {
-    const status = this.#call("svid_validator_size", this.#handle, this.#in.small);
-    if (status !== OK) throw this.fault(status);
+    this.#good("svid_validator_size", this.#handle, this.#in.small);
     const [moment, uses] = this.#words(this.#in.small, 2);
     return { moment, uses: Number(uses) };
   }
 
   /** The summary of the record. */
   summary() {
-    return this.#text(() => this.#written("svid_validator_summary", this.#handle));
+    return this.#text("svid_validator_summary", this.#handle);
   }
 
   /** The answer to a summary. */
   answer(now, summary) {
-    return this.#within(({ lend }) => {
-      const lent = lend(summary);
-      return this.#text(() => this.#written("svid_validator_answer", this.#handle, now, ...lent));
-    });
+    return this.#within(({ lend }) => this.#text("svid_validator_answer", this.#handle, now, ...lend(summary)));
   }
 
   /** What messages tell, for people to read. */
   report(messages) {
-    return this.#within(({ lend }) => {
-      const lent = lend(messages);
-      return textOf(this.#text(() => this.#written("svid_report", ...lent, 0n)));
-    });
+    return this.#within(({ lend }) => textOf(this.#text("svid_report", ...lend(messages), 0n)));
   }
 
   /** The uses of messages, in their order. */
   uses(messages) {
     return this.#within(({ lend, room }) => {
       const lent = lend(messages), most = Math.floor(messages.length / LEAST_ENTRY), entries = room(ENTRY * most);
-      const status = this.#call("svid_entries_read", ...lent, entries, BigInt(most));
-      if (status !== OK) throw this.fault(status);
+      this.#good("svid_entries_read", ...lent, entries, BigInt(most));
       const all = Array.from({ length: this.#length() }, (_, n) => entries + BigInt(ENTRY * n));
       return all.map((at) => ({ ...this.#use(at + 8n), withdrawn: this.#word(at) !== 0n }));
     });
@@ -764,8 +741,7 @@ export class Library {
     this.#open();
     this.#setWords(entry, [BigInt(withdrawn), expires, at]);
     this.#set(entry + 24n, joined([key, validatorId]));
-    const status = this.#call("svid_entries_write", entry, 1n, small, BigInt(BATCH));
-    if (status !== OK) throw this.fault(status);
+    this.#good("svid_entries_write", entry, 1n, small, BigInt(BATCH));
     return this.#seen(small, BATCH);
   }
 
@@ -774,6 +750,12 @@ export class Library {
   // Makes a call that tells.
   #call(name, ...given) {
     return this.#run(name, ...given, this.#in.told);
+  }
+
+  // The same, of a call that is to be OK.
+  #good(name, ...given) {
+    const status = this.#call(name, ...given);
+    if (status !== OK) throw this.fault(status);
   }
 
   // Makes a call. An instance that has stopped makes none.
@@ -806,8 +788,8 @@ export class Library {
   }
 
   // The text of a call that is OK.
-  #text(call) {
-    const { status, bytes } = call();
+  #text(name, ...given) {
+    const { status, bytes } = this.#written(name, ...given);
     if (status !== OK) throw this.fault(status);
     return bytes;
   }

@@ -124,19 +124,15 @@ async function reach(at, ask, end) {
  * has taken.
  */
 class Servers {
+  role; // the statement that asks what a server is
   #all;
-  #role;
   #watching = false;
   #ended = false;
   #heard = [];
 
   constructor(urls, role) {
     this.#all = urls.map((url, n) => new Server(n + 1, url));
-    this.#role = role;
-  }
-
-  get role() {
-    return this.#role;
+    this.role = role;
   }
 
   end() {
@@ -202,8 +198,8 @@ class Servers {
       connection = undefined;
     }
     try {
-      if (connection) role = await roleOf(connection, this.#role, end);
-      else [connection, role] = await reach(at, this.#role, end);
+      if (connection) role = await roleOf(connection, this.role, end);
+      else [connection, role] = await reach(at, this.role, end);
     } catch (why) {
       fault = brief(String(why.message));
       connection?.close();

@@ -9,7 +9,7 @@ export interface PostgresStoreOptions {
   servers: string | Iterable<string>;
   /** The group's name, which is that of the schema. By default "svid". */
   group?: string;
-  /** The `longest` of the validators. By default 3,600. */
+  /** The `longest` of the validators. By default 3,600, and with twice `ahead` below 2^52: more throws RangeError. */
   longest?: Seconds;
   /** The `ahead` of the validators. By default 30. */
   ahead?: Seconds;

@@ -77,7 +77,7 @@ export class Verifier {
     // (OpenSSL, in Node, takes a shorter one for RSA-PSS, and NSS, in Firefox, any even length for ECDSA)
     if (signature.length !== lengthBy(public_.algorithm)) return false;
     const saltLength = Number(hash.slice(4)) / 8;
-    return (await subtle()).verify({ name: family, hash, saltLength }, public_, signature, signed);
+    return (await webCrypto()).subtle.verify({ name: family, hash, saltLength }, public_, signature, signed);
   }
 
   // A key as WebCrypto has it, or null where it makes no signature.
@@ -86,7 +86,7 @@ export class Verifier {
     if (!der) return null;
     const { family, hash, curve } = ALGORITHMS[alg];
     try {
-      return await (await subtle()).importKey("spki", der, { name: family, hash, namedCurve: curve }, false, ["verify"]);
+      return await (await webCrypto()).subtle.importKey("spki", der, { name: family, hash, namedCurve: curve }, false, ["verify"]);
     } catch (why) {
       if (why?.name === "DataError") return null; // (a point that is not on its curve)
       throw why;
@@ -98,11 +98,4 @@ export class Verifier {
 // curve (RFC 7518, section 3.4).
 function lengthBy({ modulusLength, namedCurve }) {
   return namedCurve ? 2 * Math.ceil(Number(namedCurve.slice("P-".length)) / 8) : Math.ceil(modulusLength / 8);
-}
-
-let found;
-
-async function subtle() {
-  found ??= (await webCrypto()).subtle;
-  return found;
 }

@@ -806,6 +806,18 @@ test("terms of a store, and passwords", () =>
     delete process.env.REDISCLI_AUTH;
   }));
 
+test("a member whose tokens live too long for a store leaves it to the others, and the longest that it takes is counted with", () =>
+  withServer(async (machine) => {
+    const longest = 2n ** 52n - 61n;
+    for (const it of [longest + 1n, Number.MAX_SAFE_INTEGER, 2n ** 64n - 1n]) await assert.rejects(RedisStore.open({ servers: machine.url, longest: it }), RangeError);
+    await withStores(machine, [{ longest }], async (store) => {
+      assert(await isOf(store, 1, OWNER));
+      await machine.told("FLUSHALL");
+      await until(async () => (await put(store, claim(2))).deaf > longest);
+    });
+    await withStores(machine, [{}], async (store) => assert(await isOf(store, 2, OWNER)));
+  }));
+
 test("what is no store in Redis", async () => {
   const url = "redis://h";
   for (const options of [

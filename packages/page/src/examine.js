@@ -36,7 +36,7 @@ export async function examine(library, input) {
   if (asked.status !== OK) return { parts, names, bundles: shown, isUnnamed, fault: asked };
   const rows = await answered(asked.value.rows, input.token, library);
   const maker = rows.find((it) => it.answer.is === "good")?.key;
-  const judgedAt = later(input.now, input.record.moment);
+  const judgedAt = input.now > input.record.moment ? input.now : input.record.moment;
   const { judged, isUnasked, by } = judge(library, input, names, bundles, maker);
   const verdict = { ...explained(judged, { ...input, parts, names, library, now: judgedAt }), isUnasked };
   if (OF_RECORD.has(verdict.refusal)) {
@@ -97,10 +97,6 @@ function changed(library, input, bundles, body) {
 
 function expectOk(status) {
   if (status !== OK) throw new Error(`the library answered ${status}`);
-}
-
-function later(a, b) {
-  return a > b ? a : b;
 }
 
 async function answered(rows, token, library) {

@@ -15,9 +15,6 @@ const encoder = new TextEncoder();
 const decoder = new TextDecoder("utf-8", { ignoreBOM: true });
 const bytesOf = (it) => (typeof it === "string" ? encoder.encode(it) : it);
 
-/** A module that has no memory left for what a call is lent, or that stopped in an earlier call. */
-export class LibraryStopped extends Error {}
-
 /** The calls of one instance of the module. */
 export class Library {
   /** @param {WebAssembly.Module} module */
@@ -198,14 +195,13 @@ class Validator {
 
   /**
    * The first keys that may have signed a token.
-   * @returns `{ status, rows, more }`, and `more` says whether there are more such keys; a row has `alg`, `key`, the key as JSON, and `spki`, what
-   * `Library.spki` says of it
+   * @returns `{ status, rows }`: a row has `alg`, `key`, the key as JSON, and `spki`, what `Library.spki` says of it
    */
   ask(token) {
     const said = this.asked(token);
     // (the keys stand behind the number of bytes that are signed, and the signature)
     const rows = said.status === OK ? rowsOf(said.bytes.subarray(8 + numberAt(said.bytes, 4))) : [];
-    return { status: said.status, rows: rows.map((it) => ({ ...it, spki: this.library.spki(it.key, it.alg) })), more: said.more === 1 };
+    return { status: said.status, rows: rows.map((it) => ({ ...it, spki: this.library.spki(it.key, it.alg) })) };
   }
 
   /** What a verifier needs of a token, as the library writes it: as `Library.text`. */
@@ -241,12 +237,7 @@ class Validator {
       const [exp, at] = memory.words(used, 2), id = textOf(memory.seen(out, memory.words(told, 1)[0]));
       return { said: { status, id, exp, at, key: memory.seen(used + 16n, DIGEST) }, message: memory.seen(message, BATCH_OF_LEN) };
     };
-    // (a token that can't be read shows the validator the time, too)
-    return this.read(token, judged, (status) => ({ said: { status: this.tick(now) || status } }));
-  }
-
-  tick(now) {
-    return this.library.within((memory) => this.calls.svid_validator_tick(this.handle, now, memory.zeroed(TOLD)));
+    return this.read(token, judged, (status) => ({ said: { status } }));
   }
 
   // Reads a token, and gives its handle to `body`, or the status to `refused`.
@@ -295,7 +286,7 @@ class Lent {
 
   room(size) {
     const at = this.calls.room(BigInt(size));
-    if (at === 0n) throw new LibraryStopped("the module has no more memory");
+    if (at === 0n) throw new Error("the module has no more memory");
     this.rooms.push(at);
     return at;
   }
@@ -368,9 +359,4 @@ export function textOf(bytes) {
 /** Bytes as hexadecimal digits. */
 export function hexOf(bytes) {
   return Array.from(bytes, (it) => it.toString(16).padStart(2, "0")).join("");
-}
-
-/** Hexadecimal digits as bytes. */
-export function bytesOfHex(text) {
-  return Uint8Array.from(text.match(/../g) ?? [], (it) => parseInt(it, 16));
 }

@@ -277,4 +277,31 @@ test("text that looks like markup stays text", async () => {
   assert.equal(await page.run(() => document.querySelector("img")), null);
 });
 
+test("an entry that is open stays so while its row says the same, and no longer", async () => {
+  const [one, other] = await Promise.all([makeKey("ES256", "k1"), makeKey("ES256", "k2")]), opened = () => page.run(() => [...document.querySelectorAll("#keys details")].map((it) => it.open));
+  const bundles = (...keys) => JSON.stringify({ "example.org": { keys: keys.map((it) => it.entry) } });
+  await page.write({ token: "", bundles: bundles(one, other), own: "ledger", time: String(NOW) });
+  await page.run(() => (document.querySelector("#keys details").open = true));
+  for (const [keys, due] of [[[one, other], [true, false]], [[one], [true]], [[other, one], [false, false]]]) {
+    await page.write({ bundles: bundles(...keys) });
+    assert.deepEqual(await opened(), due);
+  }
+  await page.write({ bundles: "" });
+});
+
+test("the picture of all rows has the colours of the scheme, also when that changes", async () => {
+  await page.scheme("light");
+  await drop(...Array.from({ length: 50 }, (_, n) => use(n + 1, 1, -10, 100)));
+  const changed = (before) => page.run(async (before) => {
+    const picture = document.getElementById("picture");
+    while (picture.toDataURL() === before) await new Promise((resolve) => setTimeout(resolve, 5));
+    return picture.toDataURL();
+  }, before);
+  const light = await changed("");
+  await page.scheme("dark");
+  const dark = await changed(light);
+  await page.scheme("light");
+  assert.equal(await changed(dark), light);
+});
+
 test("nothing was complained of", async () => assert.deepEqual(await page.complaints(), []));
