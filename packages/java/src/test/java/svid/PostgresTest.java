@@ -316,6 +316,32 @@ public class PostgresTest {
         }
     }
 
+    /**
+     * A commit waits for a standby for ever. Where its call was given up, a look ends its session, if not the first one then a later one.
+     */
+    @Test
+    public void whatIsGivenUpEndsThoughALookFails() throws Exception {
+        String sessions = " pg_stat_activity WHERE application_name = 'PostgreSQL JDBC Driver'";
+        try (PostgresStore store = PostgresStore.at(url).group(group()).wait(Duration.ofMillis(1500)).open()) {
+            put(store, 1);
+            assertEquals("done", tell("CREATE TABLE earlier AS SELECT pid, backend_start FROM" + sessions));
+            assertEquals("done", tell("ALTER SYSTEM SET synchronous_standby_names = 'nobody'"));
+            assertEquals("done", tell("SELECT pg_reload_conf()"));
+            tell("pause");
+            try {
+                assertThrows(PostgresStore.Fault.class, () -> store.put(List.of(claim(2))));
+                assertThrows(PostgresStore.Fault.class, store::state);
+            } finally {
+                tell("resume");
+            }
+            String gone = "ASSERT NOT EXISTS (SELECT FROM" + sessions + " AND (pid, backend_start) IN (SELECT * FROM earlier))";
+            Making.until(() -> tell("DO $$ BEGIN " + gone + "; END $$").equals("done"));
+        } finally {
+            assertEquals("done", tell("ALTER SYSTEM RESET synchronous_standby_names"));
+            assertEquals("done", tell("SELECT pg_reload_conf()"));
+        }
+    }
+
     @Test
     public void closingEndsCalls() throws Exception {
         PostgresStore store = PostgresStore.at(url).group(group()).wait(Duration.ofSeconds(Making.PATIENCE)).open();

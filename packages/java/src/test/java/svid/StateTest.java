@@ -11,6 +11,7 @@ import static svid.Making.token;
 import static svid.Making.until;
 
 import com.google.gson.JsonObject;
+import com.sun.jna.Memory;
 import com.sun.jna.Pointer;
 import java.io.IOException;
 import java.io.RandomAccessFile;
@@ -284,19 +285,28 @@ public class StateTest {
         assertFalse(names(folder).contains("journal.1"));
     }
 
-    /** Requests let one be taken. */
+    /** Requests let one be taken, and so do withdrawals. */
     @Test
     public void aValidatorTakesSnapshotsByItself() throws Exception {
         Path folder = room().resolve("state");
         try (Journal journal = open(folder)) {
             Member member = new Member(Vectors.ledger(), Making.bundles().getBytes(), journal);
             member.begin(BEGUN);
-            assertTrue(names(folder).toString(), names(folder).contains("journal.2"));
-            for (int n = 0; n < 4; n++) {
-                append(journal, concatenated(2_200_000));
+            byte[] much = concatenated(2_200_000);
+            for (int last = 2; last < 4; last++) {
+                String before = "journal." + last;
+                String after = "journal." + (last + 1);
+                assertTrue(names(folder).toString(), names(folder).contains(before));
+                for (int n = 0; n < 4; n++) {
+                    append(journal, much);
+                }
+                if (last == 2) {
+                    member.check(token().getBytes(), () -> BEGUN, null);
+                } else {
+                    member.withdraw(BEGUN, TokenKey.of(new byte[TokenKey.LEN]), BEGUN + 60);
+                }
+                until(() -> names(folder).contains(after) && !names(folder).contains(before));
             }
-            member.check(token().getBytes(), () -> BEGUN, null);
-            until(() -> names(folder).contains("journal.3") && !names(folder).contains("journal.2"));
             member.close();
         }
     }
@@ -338,6 +348,24 @@ public class StateTest {
             assertFalse(journal.wantsSnapshot());
             append(journal, concatenated(2_000_000));
             assertTrue(journal.wantsSnapshot());
+        }
+    }
+
+    /** A write that has room for a part of it fails: the rest goes to no other part of the file. */
+    @Test
+    public void aWriteWithRoomForAPart() throws Exception {
+        String[] limits = {"prlimit", "--pid", Long.toString(ProcessHandle.current().pid()), "--fsize"};
+        long limit = 1L << 40; // (other threads may write files, too)
+        Disk disk = new Disk();
+        int file = disk.create(room().resolve("file"));
+        String before = HeaderTest.ran(limits[0], limits[1], limits[2], "--output=SOFT", "--noheadings", "--raw", limits[3]).strip();
+        HeaderTest.ran(limits[0], limits[1], limits[2], limits[3] + "=" + limit + ":");
+        try (Memory bytes = Library.allocated(8)) {
+            IOException why = assertThrows(IOException.class, () -> disk.write(file, bytes, 8, limit - 4));
+            assertTrue(why.getMessage(), why.getMessage().contains("too large"));
+        } finally {
+            HeaderTest.ran(limits[0], limits[1], limits[2], limits[3] + "=" + before + ":");
+            Disk.close(file);
         }
     }
 
