@@ -29,6 +29,7 @@ import java.util.Collections;
 import java.util.HashMap;
 import java.util.List;
 import java.util.Map;
+import java.util.Set;
 import java.util.concurrent.Callable;
 import java.util.concurrent.CopyOnWriteArrayList;
 import java.util.concurrent.Semaphore;
@@ -822,6 +823,9 @@ public class ServiceTest {
             assertThrows(SvidException.Unavailable.class, () -> validator.check(issuer.token("/a", "ledger")));
             clock.set(clock.instant().plus(Duration.ofHours(2)));
             validator.check(issuer.token("/a", Map.of("aud", "ledger", "iat", 1)));
+            Map<String, Object> claims = new HashMap<>(Map.of("aud", "ledger"));
+            claims.put("jti", null);
+            assertEquals(Set.of("sub", "exp", "iat", "aud"), validator.check(issuer.token("/a", claims)).claims().keySet());
             issuer.rotate();
             String rotated = issuer.token("/a", "ledger");
             assertEquals("NoKey", assertThrows(Refusal.class, () -> validator.check(rotated)).reason().toString());

@@ -290,7 +290,7 @@ public class StateTest {
     public void aValidatorTakesSnapshotsByItself() throws Exception {
         Path folder = room().resolve("state");
         try (Journal journal = open(folder)) {
-            Member member = new Member(Vectors.ledger(), Making.bundles().getBytes(), journal);
+            Member member = new Member(Vectors.ledger(), Making.bundles().getBytes(), null, journal);
             member.begin(BEGUN);
             byte[] much = concatenated(2_200_000);
             for (int last = 2; last < 4; last++) {
@@ -617,7 +617,7 @@ public class StateTest {
         String late = token();
         try (Journal journal = new Journal(room().resolve("state"), disk)) {
             Options options = Vectors.ledger();
-            Member member = new Member(options, Making.bundles().getBytes(), journal);
+            Member member = new Member(options, Making.bundles().getBytes(), null, journal);
             member.begin(BEGUN);
             member.check(token().getBytes(), () -> BEGUN, null);
             disk.before = FULL;
@@ -644,7 +644,7 @@ public class StateTest {
         Fickle disk = new Fickle();
         CountDownLatch open = new CountDownLatch(1);
         try (Journal journal = new Journal(room().resolve("state"), disk)) {
-            Member member = new Member(Vectors.ledger().wait(Duration.ofMillis(200)), Making.bundles().getBytes(), journal);
+            Member member = new Member(Vectors.ledger().wait(Duration.ofMillis(200)), Making.bundles().getBytes(), null, journal);
             member.begin(BEGUN);
             disk.before = name -> Making.await(open);
             until(() -> { // (a check that is late before it was judged stores nothing)
@@ -707,7 +707,7 @@ public class StateTest {
     public void wantOfMemoryAsAWriteFails() throws Exception {
         Fickle disk = new Fickle();
         Journal journal = new Journal(room().resolve("state"), disk);
-        Member member = new Member(Vectors.ledger().wait(Duration.ofSeconds(PATIENCE)), Making.bundles().getBytes(), journal);
+        Member member = new Member(Vectors.ledger().wait(Duration.ofSeconds(PATIENCE)), Making.bundles().getBytes(), null, journal);
         member.begin(BEGUN);
         disk.before = name -> {
             throw new Error() {
