@@ -342,6 +342,43 @@ public class PostgresTest {
         }
     }
 
+    /** Where a connection is lost, so are all others that wait: not each of them costs a call. */
+    @Test
+    public void aServerThatIsStartedAgainCostsFewCalls() throws Exception {
+        String group = group();
+        try (PostgresStore store = PostgresStore.at(url).group(group).wait(Duration.ofSeconds(Making.PATIENCE)).open()) {
+            put(store, 1);
+            assertEquals("done", does(group, "PERFORM pg_sleep(1)"));
+            assertEquals("done", tell("CREATE TRIGGER does AFTER INSERT ON " + group + ".claim EXECUTE FUNCTION " + group + ".does()"));
+            AtomicInteger claims = new AtomicInteger(1);
+            Making.until(() -> {
+                List<MemberTest.Soon> calls =
+                        Stream.generate(() -> new MemberTest.Soon(() -> store.put(List.of(claim(claims.incrementAndGet())))))
+                                .limit(Statements.MOST_CALLS)
+                                .toList();
+                for (MemberTest.Soon it : calls) {
+                    it.answer();
+                }
+                String many = "(SELECT count(*) FROM pg_stat_activity WHERE application_name = 'PostgreSQL JDBC Driver') >= 8";
+                return tell("DO $$ BEGIN ASSERT " + many + "; END $$").equals("done");
+            });
+            assertEquals("done", tell("kill"));
+            assertEquals("done", tell("start"));
+            List<String> lost = new ArrayList<>(); // why calls fail
+            Making.until(() -> {
+                try {
+                    store.put(List.of(claim(1)));
+                    return true;
+                } catch (PostgresStore.Fault why) {
+                    lost.add(why.getMessage());
+                    return false;
+                }
+            });
+            lost.removeIf(it -> !it.contains("terminating connection") && !it.contains("I/O error"));
+            assertTrue(lost.toString(), lost.size() < 3);
+        }
+    }
+
     @Test
     public void closingEndsCalls() throws Exception {
         PostgresStore store = PostgresStore.at(url).group(group()).wait(Duration.ofSeconds(Making.PATIENCE)).open();

@@ -470,7 +470,8 @@ public class StateTest {
         assertEquals(Disk.EINVAL, none.number);
         assertTrue(none.getMessage(), none.getMessage().contains("Invalid argument"));
         Fickle disk = new Fickle();
-        for (int number : List.of(Disk.EINVAL, Disk.EACCES, Disk.EPERM, Disk.EINTR)) {
+        final int EIO = 5; // (which nobody tells apart)
+        for (int number : List.of(Disk.EINVAL, Disk.EACCES, Disk.EPERM, EIO)) {
             Path folder = Files.createDirectory(room().resolve("state" + number));
             disk.before = name -> {
                 if (name.equals("sync")) {
@@ -478,7 +479,7 @@ public class StateTest {
                     throw new Disk.Failure("above", number);
                 }
             };
-            if (number == Disk.EINTR) {
+            if (number == EIO) {
                 IOException why = assertThrows(IOException.class, () -> new Journal(folder, disk));
                 assertTrue(why.getMessage(), why.getMessage().contains("may not last"));
                 assertFalse(names(folder).contains("place"));
