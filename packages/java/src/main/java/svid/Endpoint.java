@@ -81,7 +81,11 @@ final class Endpoint {
                 throw new IOException("it answers with status " + status);
             }
             try (InputStream body = connection.getInputStream()) {
-                return body.readNBytes(Follower.MOST + 1);
+                byte[] bundle = body.readNBytes(Follower.MOST + 1);
+                if (sockets.isLate()) {
+                    throw new IOException("the rest may lack"); // (a socket that is closed between two reads seems to be at its end)
+                }
+                return bundle;
             }
         } catch (IOException why) {
             throw sockets.isLate() ? new IOException("it did not answer within " + most + " milliseconds", why) : why;

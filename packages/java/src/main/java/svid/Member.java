@@ -68,12 +68,10 @@ final class Member extends State {
     private final Pointer whose = room.take(Owner.LEN);
     private final Pointer owner = room.take(Owner.LEN);
 
-    /** Opens it with its bundles, and with the state folder that it has, or null. It judges no token before {@link #begin}. */
-    Member(Options options, byte[] bundles, Journal journal) {
-        this(options, bundles, null, journal);
-    }
-
-    /** The same. Where there are sources, they give all bundles. */
+    /**
+     * Opens it with its bundles, or with sources that give all, or null, and with the state folder that it has, or null. It judges no token
+     * before {@link #begin}.
+     */
     Member(Options options, byte[] bundles, Sources sources, Journal journal) {
         super(options, bundles, journal == null ? options.idOrRandom() : journal.validatorId());
         this.journal = journal;

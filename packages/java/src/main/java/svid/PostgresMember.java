@@ -46,7 +46,6 @@ final class PostgresMember implements AutoCloseable {
     private static final int CELL = 33;
     private static final int WITHDRAWAL = 40;
     private static final int LONGEST_ERROR = 1024;
-    private static final Object[] NONE = {};
 
     /** What says how long ago something was. */
     volatile Supplier<Moment> clock = Moment::now; // (a test gives another one)
@@ -473,7 +472,7 @@ final class PostgresMember implements AutoCloseable {
             if (!one.role(end).primary) {
                 throw new Fault(Statements.IS_STANDBY);
             }
-            Object[] row = only(one.call(Statements.SESSION, end, NONE), 6);
+            Object[] row = only(one.call(Statements.SESSION, end), 6);
             one.session = (String) row[row.length - 1];
             synchronized (this) {
                 if (isClosed()) {
@@ -647,7 +646,7 @@ final class PostgresMember implements AutoCloseable {
         }
 
         Role role(long end) throws Fault, Answered {
-            Object[] row = only(call(Statements.ROLE, end, NONE), 4);
+            Object[] row = only(call(Statements.ROLE, end), 4);
             return new Role((long) row[0] == 1, (String) row[1], (String) row[2], (String) row[3]);
         }
 

@@ -82,7 +82,6 @@ public final class Refusal extends Denied {
 
         private final int number;
         private final String name;
-        private StatusText words;
 
         Reason(int number, String name) {
             this.number = number;
@@ -105,12 +104,7 @@ public final class Refusal extends Denied {
 
         /** What holds of the token. */
         public String sentence() {
-            StatusText known = words;
-            if (known == null) {
-                known = StatusText.of(number);
-                words = known;
-            }
-            return known == null ? name : known.says();
+            return StatusText.of(number, name).says();
         }
 
         /** Its name as all languages and the program {@code svid} have it, such as "Replayed". */

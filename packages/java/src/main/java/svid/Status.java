@@ -72,7 +72,6 @@ enum Status {
     private final int number;
     private final String label;
     private final String due;
-    private StatusText words;
 
     Status(int number, String label) {
         this(number, label, "");
@@ -118,14 +117,8 @@ enum Status {
         return words().clause() + (due.isEmpty() ? "" : ", and due is " + due);
     }
 
-    /** The words of the library, which are asked for once. Without memory for that, the name stands for them. */
     private StatusText words() {
-        StatusText known = words;
-        if (known == null) {
-            known = StatusText.of(number);
-            words = known;
-        }
-        return known == null ? new StatusText(label, "") : known;
+        return StatusText.of(number, label);
     }
 
     boolean isFrom(Status first, Status last) {

@@ -2,13 +2,22 @@ package svid;
 
 import com.sun.jna.Memory;
 import java.nio.charset.StandardCharsets;
+import java.util.Map;
+import java.util.concurrent.ConcurrentHashMap;
 
 /** What the library says of a status: what is wrong, and what to do, or nothing; each is a sentence. */
 record StatusText(String says, String advice) {
     private static final long USUAL = 64;
+    private static final Map<Integer, StatusText> KNOWN = new ConcurrentHashMap<>();
 
-    /** Asks the library. Null where there is no memory for the question. */
-    static StatusText of(int number) {
+    /** The words of the library, which is asked for them once. Without memory for that, the name stands for them. */
+    static StatusText of(int number, String name) {
+        StatusText known = KNOWN.computeIfAbsent(number, StatusText::asked);
+        return known == null ? new StatusText(name, "") : known;
+    }
+
+    /** Null where there is no memory for the question. */
+    private static StatusText asked(int number) {
         for (long size = USUAL;;) {
             try (Memory out = new Memory(size); Memory told = new Memory(Library.Told.SIZE)) {
                 int status = Library.svid_status_sentence(number, out, size, told);

@@ -134,8 +134,7 @@ public abstract sealed class SvidException extends RuntimeException {
 
         /** What the library says of such a status. */
         static String saidOf(int number) {
-            StatusText words = StatusText.of(number);
-            return words == null ? "status " + number : words.whole("");
+            return StatusText.of(number, "status " + number).whole("");
         }
     }
 

@@ -53,16 +53,11 @@ final class UnixChannel extends AbstractNioByteChannel {
 
     @Override
     protected boolean doConnect(SocketAddress remote, SocketAddress local) throws IOException {
-        try {
-            boolean isDone = socket().connect(remote);
-            if (!isDone) {
-                selectionKey().interestOps(SelectionKey.OP_CONNECT);
-            }
-            return isDone;
-        } catch (Throwable why) {
-            doClose();
-            throw why;
+        boolean isDone = socket().connect(remote);
+        if (!isDone) {
+            selectionKey().interestOps(SelectionKey.OP_CONNECT);
         }
+        return isDone;
     }
 
     @Override

@@ -736,6 +736,35 @@ public class FollowTest {
         }
     }
 
+    /** What came until the limit is no answer, also where its end seems to be there. */
+    @Test
+    public void anAnswerThatIsCutOff() throws Exception {
+        try (ServerSocket fast = context("web").getServerSocketFactory().createServerSocket(0, 5, InetAddress.getLoopbackAddress())) {
+            Thread serves = new Thread(() -> {
+                while (!fast.isClosed()) {
+                    try (Socket one = fast.accept()) {
+                        one.getOutputStream().write("HTTP/1.1 200 OK\r\n\r\n".getBytes());
+                        while (true) {
+                            one.getOutputStream().write(' ');
+                        }
+                    } catch (IOException why) {
+                        // (the client has gone, or the test is over)
+                    }
+                }
+            });
+            serves.setDaemon(true);
+            serves.start();
+            Sources sources = Sources.web("example.org", URI.create("https://localhost:" + fast.getLocalPort() + "/"), secret("ca.pem"));
+            Follower follower = new Follower(sources, (text, count) -> {});
+            follower.limit = 300;
+            Endpoint endpoint = new Endpoint(sources.all.get(0), follower);
+            for (int n = 0; n < 4; n++) {
+                IOException why = Making.given("the end of a request", () -> assertThrows(IOException.class, endpoint::fetched));
+                assertEquals("it did not answer within 300 milliseconds", why.getMessage());
+            }
+        }
+    }
+
     /** The pauses after faults grow to a minute. After a bundle comes the one that its hint wants, and the next fault has a short one. */
     @Test
     public void pausesOfAnAddress() throws Exception {

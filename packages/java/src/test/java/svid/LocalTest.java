@@ -240,7 +240,7 @@ public class LocalTest {
             }
             until(() -> {
                 put(6, owner(1), NOW + 30_000);
-                return names().stream().filter(it -> it.startsWith("journal.")).count() == 1;
+                return journals() == 1;
             });
             again();
             for (int key : List.of(7, 8, 9)) {
@@ -252,6 +252,24 @@ public class LocalTest {
         }
         now -= 61;
         assertEquals(Instant.ofEpochSecond(now + 61 + LASTS), put(7, owner(2), NOW + 30_000).deaf());
+    }
+
+    /** So it does where no claim is left that would tell the time. */
+    @Test
+    public void aSnapshotTellsTheTime() throws Exception {
+        again();
+        put(7, owner(1), NOW + 600);
+        now = NOW + 20_000;
+        for (int start = 0; start < 9; start++) {
+            again();
+        }
+        until(() -> {
+            open.put(List.of());
+            return journals() == 1;
+        });
+        again();
+        now -= 61;
+        assertEquals(Instant.ofEpochSecond(NOW + 20_000 + LASTS), put(7, owner(2), NOW + 600).deaf());
     }
 
     /** What the folder has is answered without the disk, also after the clock went back. */
@@ -266,8 +284,8 @@ public class LocalTest {
         assertEquals(new Store.Found(owner(1), Instant.ofEpochSecond(now), deaf), put(7, owner(2), NOW + 600));
     }
 
-    private List<String> names() {
-        return List.of(folder().toFile().list());
+    private long journals() {
+        return Arrays.stream(folder().toFile().list()).filter(it -> it.startsWith("journal.")).count();
     }
 
     private long size() throws Exception {

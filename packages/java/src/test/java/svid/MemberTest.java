@@ -1157,9 +1157,12 @@ public class MemberTest {
         try (Validator validator = open(strict(store).wait(Duration.ofMillis(100)))) {
             until(validator::isReady);
             store.before = AWAY;
-            assertEquals("Unavailable", soon(() -> validator.check(token())));
-            String away = "The group's store does not answer, so no token can be claimed.";
-            until(() -> validator.unready().equals(Optional.of(away)));
+            Optional<String> away = Optional.of("The group's store does not answer, so no token can be claimed.");
+            until(() -> {
+                assertEquals("Unavailable",
+                        soon(() -> validator.check(token()))); // (on a busy machine its time is over before it asks the store)
+                return validator.unready().equals(away);
+            });
             store.before = NOTHING;
             until(validator::isReady); // (each look asks the store)
         }

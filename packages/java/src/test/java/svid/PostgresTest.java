@@ -316,6 +316,69 @@ public class PostgresTest {
         }
     }
 
+    /**
+     * A commit waits for a standby for ever. Where its call was given up, a look ends its session, if not the first one then a later one.
+     */
+    @Test
+    public void whatIsGivenUpEndsThoughALookFails() throws Exception {
+        String sessions = " pg_stat_activity WHERE application_name = 'PostgreSQL JDBC Driver'";
+        try (PostgresStore store = PostgresStore.at(url).group(group()).wait(Duration.ofMillis(1500)).open()) {
+            put(store, 1);
+            assertEquals("done", tell("CREATE TABLE earlier AS SELECT pid, backend_start FROM" + sessions));
+            assertEquals("done", tell("ALTER SYSTEM SET synchronous_standby_names = 'nobody'"));
+            assertEquals("done", tell("SELECT pg_reload_conf()"));
+            tell("pause");
+            try {
+                assertThrows(PostgresStore.Fault.class, () -> store.put(List.of(claim(2))));
+                assertThrows(PostgresStore.Fault.class, store::state);
+            } finally {
+                tell("resume");
+            }
+            String gone = "ASSERT NOT EXISTS (SELECT FROM" + sessions + " AND (pid, backend_start) IN (SELECT * FROM earlier))";
+            Making.until(() -> tell("DO $$ BEGIN " + gone + "; END $$").equals("done"));
+        } finally {
+            assertEquals("done", tell("ALTER SYSTEM RESET synchronous_standby_names"));
+            assertEquals("done", tell("SELECT pg_reload_conf()"));
+        }
+    }
+
+    /** Where a connection is lost, so are all others that wait: not each of them costs a call. */
+    @Test
+    public void aServerThatIsStartedAgainCostsFewCalls() throws Exception {
+        String group = group();
+        try (PostgresStore store = PostgresStore.at(url).group(group).wait(Duration.ofSeconds(Making.PATIENCE)).open()) {
+            put(store, 1);
+            assertEquals("done", does(group, "PERFORM pg_sleep(1)"));
+            assertEquals("done", tell("CREATE TRIGGER does AFTER INSERT ON " + group + ".claim EXECUTE FUNCTION " + group + ".does()"));
+            AtomicInteger claims = new AtomicInteger(1);
+            Making.until(() -> {
+                List<MemberTest.Soon> calls =
+                        Stream.generate(() -> new MemberTest.Soon(() -> store.put(List.of(claim(claims.incrementAndGet())))))
+                                .limit(Statements.MOST_CALLS)
+                                .toList();
+                for (MemberTest.Soon it : calls) {
+                    it.answer();
+                }
+                String many = "(SELECT count(*) FROM pg_stat_activity WHERE application_name = 'PostgreSQL JDBC Driver') >= 8";
+                return tell("DO $$ BEGIN ASSERT " + many + "; END $$").equals("done");
+            });
+            assertEquals("done", tell("kill"));
+            assertEquals("done", tell("start"));
+            List<String> lost = new ArrayList<>(); // why calls fail
+            Making.until(() -> {
+                try {
+                    store.put(List.of(claim(1)));
+                    return true;
+                } catch (PostgresStore.Fault why) {
+                    lost.add(why.getMessage());
+                    return false;
+                }
+            });
+            lost.removeIf(it -> !it.contains("terminating connection") && !it.contains("I/O error"));
+            assertTrue(lost.toString(), lost.size() < 3);
+        }
+    }
+
     @Test
     public void closingEndsCalls() throws Exception {
         PostgresStore store = PostgresStore.at(url).group(group()).wait(Duration.ofSeconds(Making.PATIENCE)).open();

@@ -29,6 +29,7 @@ import java.util.Collections;
 import java.util.HashMap;
 import java.util.List;
 import java.util.Map;
+import java.util.Set;
 import java.util.concurrent.Callable;
 import java.util.concurrent.CopyOnWriteArrayList;
 import java.util.concurrent.Semaphore;
@@ -306,6 +307,29 @@ public class ServiceTest {
         }
     }
 
+    /** What a handler was given stays, in whatever order. */
+    @Test
+    public void eachPartOfAHandlerLeavesTheOthers() throws Exception {
+        try (Validator validator = open(options().mode(Mode.BOUND).store(new MemoryStore()).wait(Duration.ofSeconds(Making.PATIENCE)))) {
+            HttpServer server = HttpServer.create(new InetSocketAddress(InetAddress.getLoopbackAddress(), 0), 0);
+            ProtectedHandler handler = new ProtectedHandler(validator, List.of(IdPattern.of("spiffe://example.org/a")),
+                    (exchange, admission) -> exchange.sendResponseHeaders(admission == null ? 202 : 204, -1));
+            server.createContext("/first", handler.caller(exchange -> new byte[1]).open("/first/open"));
+            server.createContext("/last", handler.open("/last/open").caller(exchange -> new byte[1]));
+            server.start();
+            int port = server.getAddress().getPort();
+            try {
+                for (String path : List.of("/first", "/last")) {
+                    assertEquals("202", asked("GET", port, path + "/open"));
+                    assertEquals("204", asked("GET", port, path, "Bearer " + issuer.token("/a", "ledger")));
+                    assertTrue(asked("GET", port, path, "Bearer " + issuer.token("/b", "ledger")).startsWith("403"));
+                }
+            } finally {
+                server.stop(0);
+            }
+        }
+    }
+
     // -- Withdrawals
 
     private static String judged(Validator validator, String token) {
@@ -573,22 +597,29 @@ public class ServiceTest {
         }
     }
 
+    /** Not for who comes while it is made, and not for who comes after it. */
     @Test
     public void aLookFromBeforeASuspensionDoesNotCount() throws Exception {
-        Suspended store = new Suspended(clock);
-        Semaphore go = new Semaphore(0);
-        try (Validator validator = open(options().mode(Mode.REUSE).store(store).wait(PATIENT))) {
-            store.rest(validator);
-            int asked = store.asked.size();
-            store.after = () -> go.tryAcquire(Making.PATIENCE, TimeUnit.SECONDS);
-            store.readAgain(validator);
-            until(() -> store.asked.size() > asked);
-            String token = issuer.token("/a", "ledger");
-            withdrawnMeanwhile(store, token, 100);
-            MemberTest.Soon call = soon(validator, token);
-            until(() -> !call.thread.isAlive() || call.thread.getState() == Thread.State.TIMED_WAITING);
-            go.release(1000);
-            assertEquals("Withdrawn", call.answer());
+        for (boolean isOver : new boolean[] {false, true}) {
+            Suspended store = new Suspended(clock);
+            Semaphore go = new Semaphore(0);
+            try (Validator validator = open(options().mode(Mode.REUSE).store(store).wait(PATIENT))) {
+                store.rest(validator);
+                int asked = store.asked.size();
+                store.after = () -> go.tryAcquire(Making.PATIENCE, TimeUnit.SECONDS);
+                store.readAgain(validator);
+                until(() -> store.asked.size() > asked);
+                String token = issuer.token("/a", "ledger");
+                withdrawnMeanwhile(store, token, 100);
+                if (isOver) {
+                    go.release(1000);
+                    until(MemberTest.memberOf(validator).hearing::isAtRest);
+                }
+                MemberTest.Soon call = soon(validator, token);
+                until(() -> !call.thread.isAlive() || call.thread.getState() == Thread.State.TIMED_WAITING);
+                go.release(1000);
+                assertEquals("Withdrawn", call.answer());
+            }
         }
     }
 
@@ -779,6 +810,9 @@ public class ServiceTest {
                 String token = issuer.wrong(it, "/a", "ledger");
                 assertEquals(reasons.get(it), assertThrows(Refusal.class, () -> validator.check(token)).reason().toString());
             }
+            String early = issuer.wrong(Issuer.Wrong.NOT_YET, "/a", "ledger");
+            clock.advance(Duration.ofMinutes(30));
+            assertEquals("/a", validator.check(early).spiffeId().path());
             String token = issuer.token("/a", "ledger");
             clock.advance(Duration.ofMinutes(59));
             assertEquals("/a", validator.check(token).spiffeId().path());
@@ -789,6 +823,9 @@ public class ServiceTest {
             assertThrows(SvidException.Unavailable.class, () -> validator.check(issuer.token("/a", "ledger")));
             clock.set(clock.instant().plus(Duration.ofHours(2)));
             validator.check(issuer.token("/a", Map.of("aud", "ledger", "iat", 1)));
+            Map<String, Object> claims = new HashMap<>(Map.of("aud", "ledger"));
+            claims.put("jti", null);
+            assertEquals(Set.of("sub", "exp", "iat", "aud"), validator.check(issuer.token("/a", claims)).claims().keySet());
             issuer.rotate();
             String rotated = issuer.token("/a", "ledger");
             assertEquals("NoKey", assertThrows(Refusal.class, () -> validator.check(rotated)).reason().toString());

@@ -11,6 +11,7 @@ import static svid.Making.token;
 import static svid.Making.until;
 
 import com.google.gson.JsonObject;
+import com.sun.jna.Memory;
 import com.sun.jna.Pointer;
 import java.io.IOException;
 import java.io.RandomAccessFile;
@@ -284,19 +285,28 @@ public class StateTest {
         assertFalse(names(folder).contains("journal.1"));
     }
 
-    /** Requests let one be taken. */
+    /** Requests let one be taken, and so do withdrawals. */
     @Test
     public void aValidatorTakesSnapshotsByItself() throws Exception {
         Path folder = room().resolve("state");
         try (Journal journal = open(folder)) {
-            Member member = new Member(Vectors.ledger(), Making.bundles().getBytes(), journal);
+            Member member = new Member(Vectors.ledger(), Making.bundles().getBytes(), null, journal);
             member.begin(BEGUN);
-            assertTrue(names(folder).toString(), names(folder).contains("journal.2"));
-            for (int n = 0; n < 4; n++) {
-                append(journal, concatenated(2_200_000));
+            byte[] much = concatenated(2_200_000);
+            for (int last = 2; last < 4; last++) {
+                String before = "journal." + last;
+                String after = "journal." + (last + 1);
+                assertTrue(names(folder).toString(), names(folder).contains(before));
+                for (int n = 0; n < 4; n++) {
+                    append(journal, much);
+                }
+                if (last == 2) {
+                    member.check(token().getBytes(), () -> BEGUN, null);
+                } else {
+                    member.withdraw(BEGUN, TokenKey.of(new byte[TokenKey.LEN]), BEGUN + 60);
+                }
+                until(() -> names(folder).contains(after) && !names(folder).contains(before));
             }
-            member.check(token().getBytes(), () -> BEGUN, null);
-            until(() -> names(folder).contains("journal.3") && !names(folder).contains("journal.2"));
             member.close();
         }
     }
@@ -338,6 +348,24 @@ public class StateTest {
             assertFalse(journal.wantsSnapshot());
             append(journal, concatenated(2_000_000));
             assertTrue(journal.wantsSnapshot());
+        }
+    }
+
+    /** A write that has room for a part of it fails: the rest goes to no other part of the file. */
+    @Test
+    public void aWriteWithRoomForAPart() throws Exception {
+        String[] limits = {"prlimit", "--pid", Long.toString(ProcessHandle.current().pid()), "--fsize"};
+        long limit = 1L << 40; // (other threads may write files, too)
+        Disk disk = new Disk();
+        int file = disk.create(room().resolve("file"));
+        String before = HeaderTest.ran(limits[0], limits[1], limits[2], "--output=SOFT", "--noheadings", "--raw", limits[3]).strip();
+        HeaderTest.ran(limits[0], limits[1], limits[2], limits[3] + "=" + limit + ":");
+        try (Memory bytes = Library.allocated(8)) {
+            IOException why = assertThrows(IOException.class, () -> disk.write(file, bytes, 8, limit - 4));
+            assertTrue(why.getMessage(), why.getMessage().contains("too large"));
+        } finally {
+            HeaderTest.ran(limits[0], limits[1], limits[2], limits[3] + "=" + before + ":");
+            Disk.close(file);
         }
     }
 
@@ -442,7 +470,8 @@ public class StateTest {
         assertEquals(Disk.EINVAL, none.number);
         assertTrue(none.getMessage(), none.getMessage().contains("Invalid argument"));
         Fickle disk = new Fickle();
-        for (int number : List.of(Disk.EINVAL, Disk.EACCES, Disk.EPERM, Disk.EINTR)) {
+        final int EIO = 5; // (which nobody tells apart)
+        for (int number : List.of(Disk.EINVAL, Disk.EACCES, Disk.EPERM, EIO)) {
             Path folder = Files.createDirectory(room().resolve("state" + number));
             disk.before = name -> {
                 if (name.equals("sync")) {
@@ -450,7 +479,7 @@ public class StateTest {
                     throw new Disk.Failure("above", number);
                 }
             };
-            if (number == Disk.EINTR) {
+            if (number == EIO) {
                 IOException why = assertThrows(IOException.class, () -> new Journal(folder, disk));
                 assertTrue(why.getMessage(), why.getMessage().contains("may not last"));
                 assertFalse(names(folder).contains("place"));
@@ -589,7 +618,7 @@ public class StateTest {
         String late = token();
         try (Journal journal = new Journal(room().resolve("state"), disk)) {
             Options options = Vectors.ledger();
-            Member member = new Member(options, Making.bundles().getBytes(), journal);
+            Member member = new Member(options, Making.bundles().getBytes(), null, journal);
             member.begin(BEGUN);
             member.check(token().getBytes(), () -> BEGUN, null);
             disk.before = FULL;
@@ -616,7 +645,7 @@ public class StateTest {
         Fickle disk = new Fickle();
         CountDownLatch open = new CountDownLatch(1);
         try (Journal journal = new Journal(room().resolve("state"), disk)) {
-            Member member = new Member(Vectors.ledger().wait(Duration.ofMillis(200)), Making.bundles().getBytes(), journal);
+            Member member = new Member(Vectors.ledger().wait(Duration.ofMillis(200)), Making.bundles().getBytes(), null, journal);
             member.begin(BEGUN);
             disk.before = name -> Making.await(open);
             until(() -> { // (a check that is late before it was judged stores nothing)
@@ -679,7 +708,7 @@ public class StateTest {
     public void wantOfMemoryAsAWriteFails() throws Exception {
         Fickle disk = new Fickle();
         Journal journal = new Journal(room().resolve("state"), disk);
-        Member member = new Member(Vectors.ledger().wait(Duration.ofSeconds(PATIENCE)), Making.bundles().getBytes(), journal);
+        Member member = new Member(Vectors.ledger().wait(Duration.ofSeconds(PATIENCE)), Making.bundles().getBytes(), null, journal);
         member.begin(BEGUN);
         disk.before = name -> {
             throw new Error() {

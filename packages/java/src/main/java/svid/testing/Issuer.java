@@ -129,10 +129,7 @@ public final class Issuer {
         all.put("exp", now + LIFE.toSeconds());
         all.put("iat", now);
         all.put("jti", UUID.randomUUID().toString());
-        claims.forEach((name, it) -> {
-            all.put(name, it);
-            all.values().removeIf(Objects::isNull);
-        });
+        all.putAll(claims); // (Gson leaves out what is null)
         Map<String, Object> header = new LinkedHashMap<>();
         header.put("alg", "ES256");
         header.put("kid", by.id);
