@@ -18,7 +18,7 @@ import java.nio.file.attribute.PosixFilePermissions;
  */
 class Disk {
     /** The numbers of errors that a caller tells apart. */
-    static final int EPERM = 1, EAGAIN = 11, EACCES = 13, EINVAL = 22;
+    static final int EPERM = 1, EINTR = 4, EAGAIN = 11, EACCES = 13, EINVAL = 22;
 
     private static final Libc LIBC = Native.load("c", Libc.class);
     private static final int READ = 0, WRITE = 1, BOTH = 2, CREATE = 0100, EXCLUSIVE = 0200, CLOSE_ON_EXEC = 02000000;
@@ -110,6 +110,9 @@ class Disk {
     void write(int file, Pointer bytes, long len, long at) throws IOException {
         for (long done = 0; done < len;) {
             long written = LIBC.pwrite(file, bytes.share(done), len - done, at + done);
+            if (written < 0 && Native.getLastError() == EINTR) {
+                continue;
+            }
             must(written == 0 ? -1 : written, "the file that is written");
             done += written;
         }

@@ -53,11 +53,16 @@ final class UnixChannel extends AbstractNioByteChannel {
 
     @Override
     protected boolean doConnect(SocketAddress remote, SocketAddress local) throws IOException {
-        boolean isDone = socket().connect(remote);
-        if (!isDone) {
-            selectionKey().interestOps(SelectionKey.OP_CONNECT);
+        try {
+            boolean isDone = socket().connect(remote);
+            if (!isDone) {
+                selectionKey().interestOps(SelectionKey.OP_CONNECT);
+            }
+            return isDone;
+        } catch (Throwable why) {
+            doClose();
+            throw why;
         }
-        return isDone;
     }
 
     @Override
