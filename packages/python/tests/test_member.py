@@ -541,7 +541,7 @@ class Requests:
 
 @contextlib.contextmanager
 def partly_answered(requests):
-    """Two claims, of which a store answers the first one: the server of the other one is away."""
+    """A store answers the first one of two claims: the server of the other one is away."""
 
     class Partly(svid.testing.MemoryStore):
         def put_each(self, claims):
