@@ -580,6 +580,18 @@ func TestATokenThatComesWhileAGuardCloses(t *testing.T) {
 	<-closed
 }
 
+// POST /reload of a service's own admin socket calls what it was given, and says that no option changed: a list, as where some did.
+func TestAServiceReloads(t *testing.T) {
+	o := usual(t)
+	o.Mode, o.State = Reuse, ""
+	reloads := 0
+	w := httptest.NewRecorder()
+	open(t, o).Admin(func() { reloads++ }).ServeHTTP(w, httptest.NewRequest("POST", "/reload", nil))
+	if w.Code != 200 || w.Body.String() != `{"changed":[]}`+"\n" || reloads != 1 {
+		t.Errorf("%d %s, %d times", w.Code, w.Body, reloads)
+	}
+}
+
 // A lateLog is one that is joined once the engine of the guard has ended.
 type lateLog struct {
 	slowLog

@@ -181,7 +181,7 @@ func (c *CallerRule) ByEnvoy(source Source) Caller {
 // isURI says whether a text is an absolute URI with an authority, as SPIFFE IDs are.
 func isURI(text string) bool {
 	u, err := url.Parse(text)
-	return err == nil && u.Scheme != "" && strings.HasPrefix(text[len(u.Scheme):], "://")
+	return err == nil && strings.HasPrefix(text[len(u.Scheme):], "://")
 }
 
 // mostShown is how many bytes of a value that is no address stand in the log. No token is so short.

@@ -62,7 +62,11 @@ func TestHeldTokensHaveABound(t *testing.T) {
 		one := fmt.Sprint("twice ", i)
 		accept(one)
 		accept(one)
-		accept("stays")
+		if m := v.recall("stays"); !m.isHeld {
+			t.Fatalf("a token that comes all the while made room for token %d", i)
+		} else {
+			m.held.letGo()
+		}
 		if i == 1 {
 			m := v.recall(one)
 			early = m.held

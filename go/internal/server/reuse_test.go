@@ -180,7 +180,7 @@ func TestVerifiedTokensHaveABound(t *testing.T) {
 	tooLong := strings.Repeat("s", mostHeldLen+1) // to be held
 	for i := 0; i < 2; i++ {
 		accept("stays", keys[2])
-		accept(tooLong, keys[2])
+		accept(tooLong, keys[1])
 	}
 	for i := 0; i < 3*mostInGeneration; i++ {
 		accept(fmt.Sprint("once ", i), keys[0])
@@ -203,8 +203,8 @@ func TestVerifiedTokensHaveABound(t *testing.T) {
 	if n := len(v.known.young) + len(v.known.old); n > 2*mostInGeneration {
 		t.Errorf("%d are known", n)
 	}
-	for _, one := range []string{"stays", tooLong} {
-		if m := v.recall(one); m.key != keys[2] {
+	for one, key := range map[string]*svid.Key{"stays": keys[2], tooLong: keys[1]} {
+		if m := v.recall(one); m.key != key {
 			t.Errorf("a token that came all the while is not known: %+v", m)
 		}
 	}

@@ -101,6 +101,14 @@ func TestWhatIsNoDoubleAcceptance(t *testing.T) {
 			t.Errorf("%s: said %q", name, got)
 		}
 	}
+	// (Each own use comes back from the group, and costs no report.)
+	costs := func(use svid.Use) float64 {
+		message := batchOf(use)
+		return testing.AllocsPerRun(10, func() { e.step(doing(func(m *Machine) { m.lookTwice(message) })) })
+	}
+	if back, other := costs(own), costs(of(1, 2)); back > other {
+		t.Errorf("its own use asks for memory %v times, and another token %v times", back, other)
+	}
 	two := of(1, 2)
 	for i := 0; i < 2; i++ { // of others alone: each of the two says so
 		takeAll(e, carriers.Uses, batchOf(two))
