@@ -2,6 +2,7 @@
 
 import assert from "node:assert/strict";
 import { execFileSync } from "node:child_process";
+import { getEventListeners } from "node:events";
 import { mkdir, mkdtemp, rename, rm, unlink, writeFile } from "node:fs/promises";
 import { createServer as createPlainServer } from "node:http";
 import { createServer } from "node:https";
@@ -254,6 +255,20 @@ test("an answer that is no bundle leaves no connection", async () => {
   const it = await looking({ "example.org": { url: server.url, authorities: web.cert } }, { longest: 0.01 });
   await until(() => server.asked > 8);
   await until(async () => (await server.open()) < 3);
+  it.sources.close();
+  await server.close();
+});
+
+test("an address that is asked again and again leaves nobody each time who waits for the end", async (t) => {
+  const signals = new Set(), add = EventTarget.prototype.addEventListener;
+  t.mock.method(EventTarget.prototype, "addEventListener", function (type, ...more) {
+    if (type === "abort") signals.add(this);
+    return add.call(this, type, ...more);
+  });
+  const server = await serving(ofWeb(), answering(text(one))), it = await looking({ "example.org": { url: server.url, authorities: web.cert } });
+  await until(() => server.asked > 8);
+  const waiting = [...signals].map((one) => getEventListeners(one, "abort").length);
+  assert.ok(waiting.length && Math.max(...waiting) < 3, String(waiting));
   it.sources.close();
   await server.close();
 });

@@ -401,16 +401,21 @@ test("warnings of a store", async () => {
 });
 
 test("a token that lives too long for a number of the server holds up no other one of its call", async () => {
-  const name = await group(), forever = { ...claim(1), expires: 2n ** 64n - 1n };
+  const name = await group(), forever = { ...claim(1), expires: 2n ** 64n - 1n }, isSilent = (it) => ["silent", "unlooked"].includes(it?.reason); // (on a busy machine)
   await withStores([{ group: name }], async (store) => {
     await put(store, claim(0));
     for (const claims of [[forever], [forever, claim(2)]]) {
       const found = await until(async () => {
-        const all = (await store.putEach(claims)).map((it) => it.reason ?? "answered");
-        return !all.some((it) => ["silent", "unlooked"].includes(it)) && all; // (on a busy machine)
+        const all = await store.putEach(claims);
+        return !all.some(isSilent) && all.map((it) => it.reason ?? "answered");
       });
       assert.deepEqual(found, ["late", "answered"].slice(0, claims.length));
     }
+    const why = await until(async () => {
+      const fault = await store.withdraw(forever.key, forever.expires).catch((it) => it);
+      return !isSilent(fault) && fault;
+    });
+    assert.equal(why.reason, "late");
   });
 });
 

@@ -21,6 +21,11 @@ const use = (key, validator, at, exp, withdrawn = 0) => ({ key: Buffer.alloc(32,
 /** Drops a file on the page, whose record is empty then. */
 async function dropFile(name, content) {
   await page.click("forget");
+  await dropMore(name, content);
+}
+
+/** Drops a file on the page, and waits until it says what it took. */
+async function dropMore(name, content) {
   await page.run((name, encoded) => {
     const content = Uint8Array.from(atob(encoded), (it) => it.charCodeAt(0)), files = new DataTransfer(), told = document.getElementById("record-change");
     files.items.add(new File([content], name));
@@ -275,6 +280,12 @@ test("text that looks like markup stays text", async () => {
   await page.write({ token: [`{"alg":"${text}","kid":"${text}"}`, `{"sub":"${text}"}`, "s"].map((it) => base64url(it)).join(".") });
   assert.match(await page.text("header"), /<img src=x/);
   assert.equal(await page.run(() => document.querySelector("img")), null);
+});
+
+test("of files that are taken one after the other the last one is told of", async () => {
+  await drop(use(1, 1, -10, 100));
+  await dropMore("other", batch(NOW, [use(2, 1, -10, 100)]));
+  assert.match(await page.text("record-change"), /^other \(1 entry\): 1 new, 1 known\b/);
 });
 
 test("an entry that is open stays so while its row says the same, and no longer", async () => {
