@@ -176,11 +176,6 @@ final class Member extends State {
         }
     }
 
-    /** Whether the bundles come from sources. */
-    boolean isFollowing() {
-        return follower != null;
-    }
-
     /** Writes a snapshot in the background, if one is due. */
     void tidy() {
         if (journal != null && journal.wantsSnapshot()) {

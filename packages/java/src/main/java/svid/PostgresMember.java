@@ -7,7 +7,6 @@ import java.sql.PreparedStatement;
 import java.sql.ResultSet;
 import java.sql.SQLException;
 import java.sql.SQLWarning;
-import java.sql.Types;
 import java.time.Instant;
 import java.util.ArrayDeque;
 import java.util.ArrayList;
@@ -685,20 +684,12 @@ final class PostgresMember implements AutoCloseable {
         }
 
         private void set(PreparedStatement to, int at, Object value) throws SQLException {
-            if (value instanceof byte[] bytes) {
-                to.setBytes(at, bytes);
-            } else if (value instanceof byte[][] all) {
+            if (value instanceof byte[][] all) {
                 to.setArray(at, connection.createArrayOf("bytea", all));
             } else if (value instanceof Long[] all) {
                 to.setArray(at, connection.createArrayOf("int8", all));
-            } else if (value instanceof Long it) {
-                to.setLong(at, it);
-            } else if (value instanceof Integer it) {
-                to.setInt(at, it);
-            } else if (value == null) {
-                to.setNull(at, Types.VARCHAR);
             } else {
-                to.setString(at, (String) value);
+                to.setObject(at, value);
             }
         }
 

@@ -445,7 +445,7 @@ public final class Validator implements AutoCloseable {
      * @throws IllegalStateException of a validator that follows sources
      */
     public void renew(byte[] bundles) {
-        if (member.isFollowing()) {
+        if (member.follower != null) {
             throw new IllegalStateException("the validator follows its sources: change what they give");
         }
         try {

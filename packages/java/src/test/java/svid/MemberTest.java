@@ -1033,6 +1033,7 @@ public class MemberTest {
 
     @Test
     public void aValidatorThatIsForgottenEndsItsThreads() throws Exception {
+        until(() -> claiming().isEmpty() && reading() == 0); // (those of earlier tests)
         for (Mode mode : List.of(Mode.STRICT, Mode.REUSE)) { // (only the second one reads withdrawals)
             WeakReference<Validator> gone = new WeakReference<>(used(mode));
             until(() -> {

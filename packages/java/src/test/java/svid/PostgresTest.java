@@ -383,12 +383,9 @@ public class PostgresTest {
     public void closingEndsCalls() throws Exception {
         PostgresStore store = PostgresStore.at(url).group(group()).wait(Duration.ofSeconds(Making.PATIENCE)).open();
         put(store, 1);
-        List<String> why = new ArrayList<>();
         Thread thread = new Thread(() -> {
-            try {
-                store.put(List.of(claim(2)));
-            } catch (PostgresStore.Fault fault) {
-                why.add(fault.getMessage());
+            while (!faultOf(store).equals(Statements.IS_CLOSED)) {
+                // (a busy machine may close it later than a connection that begins is given up)
             }
         });
         tell("pause");
@@ -396,8 +393,7 @@ public class PostgresTest {
             thread.start();
             Making.until(() -> thread.getState() != Thread.State.NEW);
             store.close();
-            thread.join(Making.PATIENCE * 1000);
-            assertEquals(List.of(Statements.IS_CLOSED), why);
+            Making.joined(thread);
         } finally {
             tell("resume");
         }
