@@ -152,8 +152,6 @@ pub const BATCH_OF_LEN: usize = 82;
 pub const MOST_CANDIDATES: usize = 3;
 /// How many bits an RSA key may have, unless an option says more.
 pub const USUAL_RSA_BITS: usize = 4096;
-/// No RSA key may have more.
-pub const MOST_RSA_BITS: usize = 16_384;
 /// Enough room for any key as SubjectPublicKeyInfo.
 pub const SPKI_ROOM: usize = 2100;
 /// The most bytes that a payload of a state folder's file has.
@@ -249,13 +247,6 @@ pub struct Document {
     pub name_len: usize,
     pub text_len: usize,
     pub keys: u64,
-}
-
-#[repr(C)]
-#[derive(Debug, Clone, Copy, PartialEq, Eq)]
-pub struct Digests {
-    pub moment: u64,
-    pub digests: [[u8; 32]; 256],
 }
 
 #[repr(C)]

@@ -71,7 +71,7 @@ fn a_bundle_stays_when_the_source_goes_that_gave_it_first() {
     assert_eq!(shared.state().held.keys().collect::<Vec<_>>(), ["example.org"]);
 }
 
-/// The guard tells each fault once, and again where the source was well meanwhile: its file may have had the same bundle as before.
+/// A fault is reported once, and again where the source was well meanwhile: its file may have had the same bundle as before.
 #[test]
 fn a_fault_that_comes_again_is_told_again() {
     let (heard, room, good) = (Heard::default(), Room::new("again"), r#"{"keys":[]}"#);
