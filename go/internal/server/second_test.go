@@ -140,6 +140,10 @@ func TestTheTableOfCallersIsBounded(t *testing.T) {
 	if status := send(e, "192.0.2.1", token("b")); status != http.StatusOK || len(e.firsts.of) != mostCallers || e.Metrics.UnknownCaller.Load() != 1 {
 		t.Errorf("%d, %d kept, %d unknown", status, len(e.firsts.of), e.Metrics.UnknownCaller.Load())
 	}
+	now.Store(moment + 21) // (some have expired, and to look at all of them for each token would take long)
+	if status := send(e, "192.0.2.1", token("d")); status != http.StatusOK || len(e.firsts.of) != mostCallers || e.Metrics.UnknownCaller.Load() != 2 {
+		t.Errorf("%d, %d kept, %d unknown", status, len(e.firsts.of), e.Metrics.UnknownCaller.Load())
+	}
 	if status := send(e, "192.0.2.2", token("a")); status != http.StatusOK || e.Metrics.SecondCaller.Load() != 1 {
 		t.Errorf("%d: a known token's second caller is not reported", status)
 	}
