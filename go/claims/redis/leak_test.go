@@ -141,6 +141,13 @@ func TestAServerThatIsAwayIsAskedNowAndThen(t *testing.T) {
 	if took := time.Since(from); tried < 1 || tried > 1+int(took/askOthers) {
 		t.Errorf("one that is away was asked %d times in %v: %v", tried, took, faults[1])
 	}
+	from = time.Now()
+	for n, look := 0, pauses(); n < 8; n++ { // (as who waits for a server does)
+		look(limited(t))
+	}
+	if took := time.Since(from); took < 200*time.Millisecond {
+		t.Errorf("between 9 calls to a server that is away are %v in all", took)
+	}
 }
 
 // A server whose connection has ended is asked by another one at the next look: it may be the new primary.
