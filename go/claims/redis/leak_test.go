@@ -180,6 +180,9 @@ func TestAServerWhoseConnectionsEnd(t *testing.T) {
 	if asked != 5 {
 		t.Errorf("it was asked %d times in 5 looks: %v", asked, faults[0])
 	}
+	if len(s.open) > 0 {
+		t.Errorf("%d connections that ended are kept in mind", len(s.open))
+	}
 }
 
 // Members that come and go leave no key that stays for ever: a group's store has the same few, however often its members were restarted.
