@@ -115,6 +115,14 @@ func TestABurstLeavesFewConnections(t *testing.T) {
 	if len(s.open) != mostIdle {
 		t.Errorf("%d connections are kept in mind", len(s.open))
 	}
+	c, err := s.connection(limited(t), s.shards[0])
+	if err != nil {
+		t.Fatal(err)
+	}
+	s.leave(c, errReplica) // (so those that wait end, too)
+	if len(s.open) > 0 {
+		t.Errorf("%d connections that ended are kept in mind", len(s.open))
+	}
 }
 
 // A server that is away is asked now and then, and holds up no look at the others.
