@@ -453,6 +453,39 @@ func TestPutWithoutABroker(t *testing.T) {
 	awaitHeld(t, a, tell(t, a, 2))
 }
 
+// While the broker does not answer, a value is sent less and less often: it may be slow, since it has much to do.
+func TestAPutWaitsLongerEachTime(t *testing.T) {
+	t.Parallel()
+	s := natstest.Start(t)
+	nc := natstest.Connect(t, s.URL)
+	js, err := nc.JetStream()
+	if err != nil {
+		t.Fatal(err)
+	}
+	sent := make(chan time.Time, 100)
+	if _, err := natstest.Connect(t, s.URL).Subscribe("$KV.test.>", func(*nats.Msg) { sent <- time.Now() }); err != nil {
+		t.Fatal(err)
+	}
+	g := &Group{conn: nc, js: js, subject: "$KV.test.", member: "a"}
+	ctx, cancel := context.WithCancel(patient(t))
+	done, begun := make(chan error), time.Now()
+	go func() { done <- g.Put(ctx, Uses, 1, []byte("a value")) }()
+	for n, least := range []time.Duration{0, firstWait, 3 * firstWait, 7 * firstWait} {
+		select {
+		case at := <-sent:
+			if after := at.Sub(begun); after < least {
+				t.Errorf("attempt %d comes after %v", n+1, after)
+			}
+		case err := <-done:
+			t.Fatalf("%d attempts: %v", n, err)
+		}
+	}
+	cancel()
+	if err := <-done; err == nil {
+		t.Error("it is stored")
+	}
+}
+
 func TestAValueThatIsTooLarge(t *testing.T) {
 	t.Parallel()
 	s := natstest.Start(t)

@@ -2,7 +2,6 @@ package jetstream
 
 import (
 	"crypto/tls"
-	"crypto/x509"
 	"errors"
 	"fmt"
 	"net"
@@ -12,11 +11,12 @@ import (
 	"github.com/nats-io/nkeys"
 
 	"svid.example/go/v3/internal/regular"
+	"svid.example/go/v3/internal/secured"
 )
 
 const (
 	dialWait = 2 * time.Second // for a connection to one server
-	mostFile = 1 << 20         // bytes of one of Files
+	mostFile = 1 << 20         // bytes of a file of credentials
 )
 
 // Files are what a member shows to the broker, and by what it knows the broker. Each is read again for each connection, so
@@ -103,32 +103,5 @@ func (d *dialer) Dial(network, address string) (net.Conn, error) {
 }
 
 func (d *dialer) read() error {
-	if d.files.CA != "" {
-		text, err := regular.Read(d.files.CA, mostFile)
-		if err != nil {
-			return err
-		}
-		roots := x509.NewCertPool()
-		if !roots.AppendCertsFromPEM(text) {
-			return fmt.Errorf("%s: no certificate in it", d.files.CA)
-		}
-		d.config.RootCAs = roots
-	}
-	if d.files.Cert != "" {
-		cert, err := regular.Read(d.files.Cert, mostFile)
-		if err != nil {
-			return err
-		}
-		key, err := regular.Read(d.files.Key, mostFile)
-		if err != nil {
-			return err
-		}
-		defer wipe(key)
-		own, err := tls.X509KeyPair(cert, key)
-		if err != nil {
-			return fmt.Errorf("%s, %s: %w", d.files.Cert, d.files.Key, err)
-		}
-		d.config.Certificates = []tls.Certificate{own}
-	}
-	return nil
+	return secured.Read(d.config, d.files.CA, d.files.Cert, d.files.Key)
 }

@@ -128,8 +128,8 @@ func startDeployed(t *testing.T, dir string) string {
 	return client.String()
 }
 
-// secured is options of a member with these files.
-func secured(t *testing.T, id byte, url string, f Files) Options {
+// withFiles is options of a member with these files.
+func withFiles(t *testing.T, id byte, url string, f Files) Options {
 	t.Helper()
 	o := options(id, url)
 	o.Name = "svid"
@@ -148,7 +148,7 @@ func TestTheServersOfDeploy(t *testing.T) {
 	ca.write(dir, "server", "spiffe://example.org/nats")
 	own := ca.write(dir, "svidd", "spiffe://example.org/svidd")
 	server := startDeployed(t, dir)
-	a, b := join(t, secured(t, 1, server, own)), join(t, secured(t, 2, server, own))
+	a, b := join(t, withFiles(t, 1, server, own)), join(t, withFiles(t, 2, server, own))
 	awaitHeld(t, b, tell(t, a, 1))
 	if err := b.Put(patient(t), Claims, 1, batch(key(2), b.id)); err != nil {
 		t.Fatal(err)
@@ -159,7 +159,7 @@ func TestTheServersOfDeploy(t *testing.T) {
 	a.Summaries(time.Hour, func() ([]byte, error) { return []byte("of a"), nil }, func([]byte, int) ([][]byte, error) { return [][]byte{lost}, nil })
 	b.Summaries(50*time.Millisecond, func() ([]byte, error) { return []byte("of b"), nil }, func([]byte, int) ([][]byte, error) { return [][]byte{batchOf()}, nil })
 	awaitHeld(t, b, lost)
-	c := join(t, secured(t, 3, server, own))
+	c := join(t, withFiles(t, 3, server, own))
 	if c.Taken() != 3 {
 		t.Errorf("a member that comes anew reads %d values", c.Taken())
 	}
@@ -215,7 +215,7 @@ func TestTheServersOfDeploy(t *testing.T) {
 			t.Errorf("a value that replaces %s is stored", what)
 		}
 	}
-	d := join(t, secured(t, 4, server, own))
+	d := join(t, withFiles(t, 4, server, own))
 	if d.Taken() != 3 {
 		t.Errorf("a member that comes after a liar reads %d values", d.Taken())
 	}

@@ -488,6 +488,25 @@ func TestATokenThatIsWithdrawnAgain(t *testing.T) {
 	}
 }
 
+// A connection that has ended is kept in mind no more: while a server answers by errors, each call has another one.
+func TestConnectionsThatEndedTakeNoMemory(t *testing.T) {
+	t.Parallel()
+	a, err := New(Options{URLs: []string{start(t).URL}, Name: "svid", Terms: claimstest.Usual})
+	if err != nil {
+		t.Fatal(err)
+	}
+	defer a.Close()
+	claimstest.Open(t, a)
+	for n := 0; n < 5; n++ {
+		if _, err := a.call(context.Background(), "SELECT 1 / 0"); err == nil {
+			t.Error("no error")
+		}
+	}
+	if len(a.open) != len(a.idle) {
+		t.Errorf("%d connections are kept in mind, and %d are there", len(a.open), len(a.idle))
+	}
+}
+
 // A look has its answer in time, however much is over: the looks after it remove the rest.
 func TestALookAtAStoreOfWhichMuchIsOver(t *testing.T) {
 	t.Parallel()

@@ -41,6 +41,10 @@ func TestAFewMarksAreKept(t *testing.T) {
 		if longest != latest {
 			t.Errorf("%s: the longest one that is kept stays until %d, and one until %d", name, longest, latest)
 		}
+		m.drop(latest+10, 10)
+		if len(m.all) == 0 || m.all[0].Expires != latest {
+			t.Errorf("%s: the longest one is dropped before the store may remove it", name)
+		}
 		m.drop(last+20, 10)
 		if len(m.all) != 0 {
 			t.Errorf("%s: %d are kept that are over", name, len(m.all))

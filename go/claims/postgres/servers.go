@@ -141,10 +141,9 @@ func (s *servers) primary() (*server, error) {
 			faults = append(faults, fmt.Sprintf("address %d: %v", one.number, one.fault))
 		case !one.role.primary:
 			faults = append(faults, fmt.Sprintf("address %d: %v", one.number, errStandby))
-		case first == nil || first.role == one.role: // (One server may have two addresses.)
-			if first == nil {
-				first = one
-			}
+		case first == nil:
+			first = one
+		case first.role == one.role: // One server may have two addresses.
 		case first.role.system != one.role.system:
 			return nil, fmt.Errorf("addresses %d and %d are primaries of two database clusters: name the servers of one", first.number, one.number)
 		case first.role.line == one.role.line:

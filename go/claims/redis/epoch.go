@@ -254,10 +254,7 @@ func maximum(a, b uint64) uint64 {
 
 // adopt takes a record that was read. It does not where an answer of an earlier run came after the look had begun: nobody has compared what that put.
 func (s *Store) adopt(it *shard, v view) bool {
-	r, ok := readRecord(v.raw)
-	if !ok {
-		return true
-	}
+	r, _ := readRecord(v.raw) // (which due has read)
 	s.mu.Lock()
 	defer s.mu.Unlock()
 	for _, one := range it.claimed {

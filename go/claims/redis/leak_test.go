@@ -115,6 +115,14 @@ func TestABurstLeavesFewConnections(t *testing.T) {
 	if len(s.open) != mostIdle {
 		t.Errorf("%d connections are kept in mind", len(s.open))
 	}
+	c, err := s.connection(limited(t), s.shards[0])
+	if err != nil {
+		t.Fatal(err)
+	}
+	s.leave(c, errReplica) // (so those that wait end, too)
+	if len(s.open) > 0 {
+		t.Errorf("%d connections that ended are kept in mind", len(s.open))
+	}
 }
 
 // A server that is away is asked now and then, and holds up no look at the others.
@@ -140,6 +148,13 @@ func TestAServerThatIsAwayIsAskedNowAndThen(t *testing.T) {
 	}
 	if took := time.Since(from); tried < 1 || tried > 1+int(took/askOthers) {
 		t.Errorf("one that is away was asked %d times in %v: %v", tried, took, faults[1])
+	}
+	from = time.Now()
+	for n, look := 0, pauses(); n < 8; n++ { // (as who waits for a server does)
+		look(limited(t))
+	}
+	if took := time.Since(from); took < 200*time.Millisecond {
+		t.Errorf("between 9 calls to a server that is away are %v in all", took)
 	}
 }
 
@@ -172,6 +187,9 @@ func TestAServerWhoseConnectionsEnd(t *testing.T) {
 	}
 	if asked != 5 {
 		t.Errorf("it was asked %d times in 5 looks: %v", asked, faults[0])
+	}
+	if len(s.open) > 0 {
+		t.Errorf("%d connections that ended are kept in mind", len(s.open))
 	}
 }
 

@@ -97,6 +97,12 @@ func TestAnEntryThatIsRemovedByHand(t *testing.T) {
 	s.do(t, "DEL", keyOf(last))
 	claimstest.State(t, a)
 	ended(t, before, newStore(t, Options{URLs: []string{s.URL}}), a, b)
+	before, last.Expires = claimstest.State(t, a), claimstest.Now()-1 // (a member whose clock is behind may still accept its token)
+	last.Key = claimstest.Key()
+	claimstest.Put(t, a, last)
+	s.do(t, "DEL", keyOf(last))
+	claimstest.State(t, a)
+	ended(t, before, newStore(t, Options{URLs: []string{s.URL}}), a, b)
 }
 
 // A replica that lacks entries comes up as the primary, under the same name.

@@ -2,7 +2,6 @@ package redis
 
 import (
 	"crypto/tls"
-	"crypto/x509"
 	"errors"
 	"fmt"
 	"net"
@@ -12,6 +11,7 @@ import (
 	"strings"
 
 	"svid.example/go/v3/internal/regular"
+	"svid.example/go/v3/internal/secured"
 )
 
 const (
@@ -161,30 +161,5 @@ func (s *server) tls() (*tls.Config, error) {
 		return nil, err
 	}
 	config := &tls.Config{MinVersion: tls.VersionTLS12, ServerName: host}
-	if s.ca != "" {
-		text, err := regular.Read(s.ca, mostFile)
-		if err != nil {
-			return nil, err
-		}
-		config.RootCAs = x509.NewCertPool()
-		if !config.RootCAs.AppendCertsFromPEM(text) {
-			return nil, fmt.Errorf("%s: no certificate in it", s.ca)
-		}
-	}
-	if s.cert != "" {
-		cert, err := regular.Read(s.cert, mostFile)
-		if err != nil {
-			return nil, err
-		}
-		key, err := regular.Read(s.key, mostFile)
-		if err != nil {
-			return nil, err
-		}
-		own, err := tls.X509KeyPair(cert, key)
-		if err != nil {
-			return nil, fmt.Errorf("%s, %s: %w", s.cert, s.key, err)
-		}
-		config.Certificates = []tls.Certificate{own}
-	}
-	return config, nil
+	return config, secured.Read(config, s.ca, s.cert, s.key)
 }

@@ -4,10 +4,15 @@ package secured
 import (
 	"context"
 	"crypto/tls"
+	"crypto/x509"
 	"fmt"
 	"net"
 	"time"
+
+	"svid.example/go/v3/internal/regular"
 )
+
+const mostFile = 1 << 20 // bytes of a file
 
 // Dial connects, and waits at most as long as most for the server to show who it is. What that shows is read before anything is known of it, and
 // by a key of an unknown algorithm or of DSA it lets package crypto/x509 panic (CVE-2024-24783, CVE-2025-58188): that is an error here, and ends no
@@ -37,4 +42,38 @@ func Dial(ctx context.Context, network, address string, config *tls.Config, most
 	defer cancel()
 	client := tls.Client(raw, config)
 	return client, client.HandshakeContext(ctx)
+}
+
+// Read reads files of PEM: the authorities of servers, and the own certificate with its key; "" for none.
+func Read(config *tls.Config, ca, cert, key string) error {
+	if ca != "" {
+		text, err := regular.Read(ca, mostFile)
+		if err != nil {
+			return err
+		}
+		config.RootCAs = x509.NewCertPool()
+		if !config.RootCAs.AppendCertsFromPEM(text) {
+			return fmt.Errorf("%s: no certificate in it", ca)
+		}
+	}
+	if cert == "" {
+		return nil
+	}
+	shown, err := regular.Read(cert, mostFile)
+	if err != nil {
+		return err
+	}
+	secret, err := regular.Read(key, mostFile)
+	if err != nil {
+		return err
+	}
+	own, err := tls.X509KeyPair(shown, secret)
+	for i := range secret {
+		secret[i] = 0
+	}
+	if err != nil {
+		return fmt.Errorf("%s, %s: %w", cert, key, err)
+	}
+	config.Certificates = []tls.Certificate{own}
+	return nil
 }

@@ -102,7 +102,8 @@ test("each test of a store in Go is run", async () => {
     "TestAFewMarksAreKept", "TestAnOldLookDoesNotCount", "TestALookIsAsOldAsItsBeginning", "TestALookEndsWithItsStore", "TestAConnectionThatBeginsEndsWithItsContext",
     "TestALateAnswerAfterASuspension", "TestLooksHavePauses", "TestTheLaterTimelineCounts",
     "TestTwoPrimariesAreNamed", "TestServersThatNobodyLooksAt", "TestEachServerIsLookedAtOnce", "TestAServerThatDoesNotSayWhatItIsLeavesNothing",
-    "TestAContextThatEndsWithItsAnswer", "TestASessionThatCantBeginLeavesNothing", "TestEachCallThatIsUnderWayMayBeTheLast", "TestEachClaimThatWasThereIsKept"];
+    "TestAContextThatEndsWithItsAnswer", "TestASessionThatCantBeginLeavesNothing", "TestEachCallThatIsUnderWayMayBeTheLast", "TestEachClaimThatWasThereIsKept",
+    "TestConnectionsThatEndedTakeNoMemory"];
   await ofGo.hasNoMore(others);
 });
 

@@ -174,6 +174,7 @@ def test_every_test_of_a_store_is_run(binary):
         "TestASessionThatCantBeginLeavesNothing",
         "TestEachCallThatIsUnderWayMayBeTheLast",
         "TestEachClaimThatWasThereIsKept",
+        "TestConnectionsThatEndedTakeNoMemory",
     }
     assert {it for names in TESTS.values() for it in names.split("|")} == {*listed} - others
 

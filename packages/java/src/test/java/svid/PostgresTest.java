@@ -219,6 +219,7 @@ public class PostgresTest {
                 "TestTheLaterTimelineCounts", "TestTwoPrimariesAreNamed", "TestServersThatNobodyLooksAt", "TestEachServerIsLookedAtOnce",
                 "TestAServerThatDoesNotSayWhatItIsLeavesNothing", "TestAContextThatEndsWithItsAnswer",
                 "TestASessionThatCantBeginLeavesNothing", "TestEachCallThatIsUnderWayMayBeTheLast", "TestEachClaimThatWasThereIsKept",
+                "TestConnectionsThatEndedTakeNoMemory",
                 "TestALookIsAsOldAsItsBeginning", "TestALateAnswerAfterASuspension", "TestALookEndsWithItsStore",
                 "TestAConnectionThatBeginsEndsWithItsContext"));
         assertEquals(new TreeSet<>(listed), run);
