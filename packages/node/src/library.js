@@ -172,34 +172,33 @@ export class Library {
       const at = room(TERMS);
       this.#setWords(at, [terms.longest, terms.ahead, terms.step]);
       this.#set(at + 24n, terms.validatorId);
-      const status = this.#call("svid_validator_open_by_lengths", this.#handle, at, ...this.#audiences(own, lend, room), ...lend(bundles));
-      if (status !== OK) throw ofBundles(status, this.#told());
+      this.#reads("svid_validator_open_by_lengths", at, ...this.#audiences(own, lend, room), ...lend(bundles));
     });
   }
 
   /** Replaces the bundles of a validator. Throws BadBundles, and then the old ones stay. */
   renew(given) {
     const bundles = this.#joined(given);
-    this.#within(({ lend }) => {
-      const status = this.#call("svid_validator_bundles", this.#handle, ...lend(bundles));
-      if (status !== OK) throw ofBundles(status, this.#told());
-    });
+    this.#within(({ lend }) => this.#reads("svid_validator_bundles", ...lend(bundles)));
   }
 
   /** Opens bundles. Throws BadBundles. */
   openBundles(given) {
     this.#kind = BUNDLES;
     const bundles = this.#joined(given);
-    this.#within(({ lend }) => {
-      const status = this.#call("svid_bundles_open", this.#handle, ...lend(bundles));
-      if (status !== OK) throw ofBundles(status, this.#told());
-    });
+    this.#within(({ lend }) => this.#reads("svid_bundles_open", ...lend(bundles)));
   }
 
   /** Reads the bundle of a trust domain, to see whether it is one. Throws BadBundles. */
   readBundle(domain, text) {
     this.openBundles([[domain, text]]);
     this.#run("svid_bundles_close", this.#handle);
+  }
+
+  // Makes a call that reads bundles.
+  #reads(name, ...given) {
+    const status = this.#call(name, this.#handle, ...given);
+    if (status !== OK) throw ofBundles(status, this.#told());
   }
 
   // The one text of bundles. Those of several trust domains, each a name and a text, are joined to it. Throws BadBundles.

@@ -75,6 +75,11 @@ await kept[Symbol.asyncDispose]();
 await Validator.open({ audiences: "ledger", bundles: "{}", state: 7 });
 const isKnown = (why: unknown): boolean => why instanceof NotAllowed || (why instanceof Unavailable && why.cause !== undefined);
 guard(bound, { caller: (req: { rawHeaders: string[]; socket: { remoteAddress?: string } }) => req.socket.remoteAddress ?? "" });
+await bound.check("a.b.c", { caller: new Uint8Array(4) });
+guard(bound, { caller: () => new Uint8Array(4), allow: "spiffe://example.org", openPaths: "/healthz" });
+const each: Store = { ...store, putEach: async (claims) => claims.map(() => new Error("its server is away")) };
+await Validator.open({ audiences: new Set(["ledger"]), bundles: { "example.org": new Uint8Array() }, mode: "strict", store: each, validatorId: new Uint8Array(16), ahead: 5, step: 100n });
+await Validator.open({ audiences: "ledger", follow: { sources: { "example.com": { url: "https://example.com/", authorities: "web.pem" } } } });
 // @ts-expect-error (no mode has this name)
 await Validator.open({ audiences: "ledger", bundles: "{}", mode: "twice" });
 // @ts-expect-error (a store has both)

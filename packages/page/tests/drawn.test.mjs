@@ -315,4 +315,18 @@ test("the picture of all rows has the colours of the scheme, also when that chan
   assert.equal(await changed(dark), light);
 });
 
+test("the picture of all rows has a point for each one of the screen, also when that changes", async () => {
+  await drop(...Array.from({ length: 50 }, (_, n) => use(n + 1, 1, -10, 100)));
+  const widths = [];
+  for (const width of [1440, 700, 1440]) {
+    await page.size(width, 900);
+    widths.push(await page.run(async (before) => {
+      const picture = document.getElementById("picture");
+      while (picture.clientWidth === before || picture.width !== picture.clientWidth * devicePixelRatio) await new Promise((resolve) => setTimeout(resolve, 5));
+      return picture.clientWidth;
+    }, widths.at(-1) ?? 0));
+  }
+  assert.equal(widths[0], widths[2]);
+});
+
 test("nothing was complained of", async () => assert.deepEqual(await page.complaints(), []));

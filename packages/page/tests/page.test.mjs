@@ -186,13 +186,20 @@ test("files of both versions are joined, and what changed is told", async () => 
 test("what is saved is the record, and an empty one is not saved", async () => {
   await openFiles(join(EXAMPLES, "shared.messages"));
   await page.run(() => {
-    const { createObjectURL } = URL, { click } = HTMLAnchorElement.prototype;
+    const { createObjectURL, revokeObjectURL } = URL, { click } = HTMLAnchorElement.prototype;
     window.saved = [];
-    URL.createObjectURL = (it) => (window.saved.push(it), createObjectURL(it));
+    window.kept = new Set(); // (what has an address keeps its bytes)
+    URL.createObjectURL = (it) => {
+      const url = createObjectURL(it);
+      window.saved.push(it);
+      window.kept.add(url);
+      return url;
+    };
+    URL.revokeObjectURL = (url) => (window.kept.delete(url), revokeObjectURL(url));
     HTMLAnchorElement.prototype.click = function () {
       window.saved.push(this.download);
     };
-    window.asItWas = () => (Object.assign(URL, { createObjectURL }), Object.assign(HTMLAnchorElement.prototype, { click }));
+    window.asItWas = () => (Object.assign(URL, { createObjectURL, revokeObjectURL }), Object.assign(HTMLAnchorElement.prototype, { click }));
   });
   const isOff = () => page.run(() => ["save", "forget"].map((id) => document.getElementById(id).getAttribute("aria-disabled")));
   const before = await page.text("record-said");
@@ -203,6 +210,7 @@ test("what is saved is the record, and an empty one is not saved", async () => {
     return [name, btoa(String.fromCharCode(...new Uint8Array(await blob.arrayBuffer())))];
   });
   assert.equal(name, "record.messages");
+  assert.equal(await page.run(() => window.kept.size), 0);
   await page.click("forget");
   assert.deepEqual(await isOff(), ["true", "true"]);
   await page.click("save");
