@@ -109,7 +109,8 @@ class Folder:
         """Keeps the ID, before anything is kept that can't be read without it.
 
         A start that failed or was killed may have left a file that has it, and an empty folder
-        itself: no later sync vouches for a name whose sync failed. So the file is made again.
+        itself: no later sync vouches for a name whose sync failed. So the file is made again. Its
+        name lasts with that of the journal which is made next, before anything is written there.
         """
         if is_empty:
             self._sync_above()
@@ -120,7 +121,6 @@ class Folder:
         finally:
             os.close(file)
         self.rename(ID_FILE + UNFINISHED, ID_FILE)
-        self.sync()
 
     def _sync_above(self) -> None:
         try:

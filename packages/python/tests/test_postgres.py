@@ -52,7 +52,8 @@ TESTS = {
     "|TestAStoreMadeAgain|TestADumpThatIsReadInAgain|TestAClockThatIsADayOff|TestASmallStepBack",
     "calls": "TestAClaimThatWaitsWhileTheEpochEnds|TestOneOrder|TestWithdrawalsOfAnotherEpoch"
     "|TestAnEntryThatIsGoneMeanwhile|TestWhatIsOverGoes|TestALookAtAStoreOfWhichMuchIsOver"
-    "|TestATokenThatIsWithdrawnAgain|TestTimesOfTheLibrary|TestNobodyLooks|TestAClaimThatIsNotCommitted",
+    "|TestATokenThatIsWithdrawnAgain|TestTimesOfTheLibrary|TestNobodyLooks"
+    "|TestAClaimThatIsNotCommitted",
     "standbys": "TestFailoverToAStandbyThatLacksClaims|TestFailoverToAStandbyThatHasAll"
     "|TestFailoverToTheWrongStandby|TestACancelledWait",
     "primaries": "TestTwoPrimaries|TestTwoStandbysArePromoted|TestServersOfTwoClusters"
