@@ -144,7 +144,7 @@ func (m *Machine) isHeard(use svid.Use, broker uint64) error {
 		return nil
 	}
 	early := use.At - m.Ahead - broker
-	if early < mostEarly {
+	if early < mostEarly && !m.ending {
 		m.tale.keepLater(telling{use, m.now.Up + time.Duration(early+1)*time.Second})
 	}
 	err := fmt.Errorf("the other sidecars take it only in %d seconds: the record here is %d seconds ahead of the broker's clock: "+

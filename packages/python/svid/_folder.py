@@ -109,8 +109,7 @@ class Folder:
         """Keeps the ID, before anything is kept that can't be read without it.
 
         A start that failed or was killed may have left a file that has it, and an empty folder
-        itself: no later sync vouches for a name whose sync failed. So the file is made again. Its
-        name lasts with that of the journal which is made next, before anything is written there.
+        itself: no later sync vouches for a name whose sync failed. So the file is made again.
         """
         if is_empty:
             self._sync_above()
@@ -121,6 +120,7 @@ class Folder:
         finally:
             os.close(file)
         self.rename(ID_FILE + UNFINISHED, ID_FILE)
+        self.sync()
 
     def _sync_above(self) -> None:
         try:
