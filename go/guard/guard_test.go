@@ -580,6 +580,50 @@ func TestATokenThatComesWhileAGuardCloses(t *testing.T) {
 	<-closed
 }
 
+// A hangingLog is one whose group takes a use, and says nothing of it for long.
+type hangingLog struct {
+	slowLog
+	putting chan struct{}
+}
+
+func (l hangingLog) Join(context.Context, carriers.Options, carriers.Sink) (carriers.Group, error) {
+	return hangingGroup{slowGroup{log: l.slowLog}, l.putting}, nil
+}
+
+type hangingGroup struct {
+	slowGroup
+	putting chan struct{}
+}
+
+func (g hangingGroup) Put(context.Context, carriers.Kind, uint64, []byte) error {
+	close(g.putting)
+	<-g.log.goOn
+	return nil
+}
+
+// While a guard closes, and its group is still to hear of a use, it accepts nothing more, and says so.
+func TestAGuardThatClosesAcceptsNothing(t *testing.T) {
+	slow := hangingLog{slowLog{make(chan struct{}), make(chan struct{})}, make(chan struct{})}
+	o := usual(t)
+	o.Log = slow
+	g := open(t, o)
+	defer close(slow.goOn)
+	await(t, g)
+	if _, err := g.Check(context.Background(), token("told")); err != nil {
+		t.Fatal(err)
+	}
+	<-slow.putting
+	go g.Close()
+	for end := time.Now().Add(patience.Long); g.Ready() != svid.ErrClosed; time.Sleep(time.Millisecond) {
+		if time.Now().After(end) {
+			t.Fatal("it does not say that it is closed")
+		}
+	}
+	if _, err := g.Check(context.Background(), token("late")); err != svid.ErrClosed {
+		t.Errorf("%v", err)
+	}
+}
+
 // POST /reload of a service's own admin socket calls what it was given, and says that no option changed: a list, as where some did.
 func TestAServiceReloads(t *testing.T) {
 	o := usual(t)
