@@ -1168,6 +1168,15 @@ def test_a_new_folder_whose_first_starts_end_anywhere(tmp_path, disk, monkeypatc
         assert at > 10
 
 
+def test_the_name_of_the_id_is_forced_before_a_journal_is_made(tmp_path, disk):
+    """As include/svid.h says: no journal may be there without its ID."""
+    calls = []
+    disk(lambda number, name: calls.append(name))
+    svid.Journal(tmp_path / "state").close()
+    at = calls.index("rename")
+    assert calls[at - 1 : at + 2] == ["fdatasync", "rename", "fsync"]
+
+
 def test_the_folder_above_is_synced_while_nothing_is_kept(tmp_path, monkeypatch):
     real, synced, why = os.fsync, [], 0
 
