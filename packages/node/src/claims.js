@@ -63,7 +63,6 @@ export class Claims {
   /** Puts nothing more, and gives up the calls that are under way. */
   close() {
     this.#ending.abort();
-    clearTimeout(this.#timer);
     this.#announce();
   }
 

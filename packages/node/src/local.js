@@ -98,7 +98,6 @@ export class LocalStore {
   #add(entry) {
     const name = nameOf(entry.key), is = this.#entries.get(name);
     if (is && is.until > entry.at) return is;
-    this.#entries.delete(name); // (the new one comes last)
     this.#entries.set(name, entry);
     return entry;
   }

@@ -509,10 +509,10 @@ test("a server whose answer came over a suspension is asked whether it is still 
 test("what an old primary answers after a suspension does not count", (t) =>
   withServer((old) =>
     withServer(async (next) => {
-      const connected = redis.createClient, hour = 3_600_000, key = Buffer.from(claim(2).key);
+      const connected = redis.createClient, hour = 3_600_000, [one, two] = [claim(1), claim(2)]; // (by the clock of the servers, which goes on as before)
       const calls = {
-        put: async (member) => (await member.put([claim(1)], end()))[0].reason,
-        withdraw: (member) => member.withdraw(key, claim(2).expires, end()).catch((why) => why.reason),
+        put: async (member) => (await member.put([one], end()))[0].reason,
+        withdraw: (member) => member.withdraw(Buffer.from(two.key), two.expires, end()).catch((why) => why.reason),
         withdrawals: (member) => member.withdrawals("", end()).catch((why) => why.reason),
       };
       let wall = Date.now(), answered = () => {};
@@ -531,7 +531,7 @@ test("what an old primary answers after a suspension does not count", (t) =>
         answered = () => {};
         await next.told("REPLICAOF", "127.0.0.1", "1");
         await looked(member);
-        await until(async () => (await member.put([claim(1)], end()))[0].owner);
+        await until(async () => (await member.put([one], end()))[0].owner);
       };
       for (const [name, call] of Object.entries(calls)) {
         await begun();

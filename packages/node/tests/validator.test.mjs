@@ -481,6 +481,15 @@ test("a token may live for an hour, unless the caller says otherwise", async () 
   }
 });
 
+test("of the acceptances that may prove to be others' too, the last ones alone are kept", async () => {
+  const { Twice } = await imported("src/twice.js"), keyOf = (n) => new Uint8Array(Uint32Array.of(n).buffer), most = 65_536;
+  const library = { parts: () => [], take() {}, uses: (it) => it, messageOf: ({ key }) => key, report: (bytes) => `\ntwice 1\n${hex(bytes.subarray(0, 4))}` };
+  const twice = new Twice(library, new Uint8Array(16)), isKnown = (n) => twice.take(0n, [{ key: keyOf(n) }]).length === 1;
+  assert.equal(isKnown(0), false);
+  for (let n = 0; n <= 2 * most; n++) twice.add({ key: keyOf(n), message: keyOf(n) });
+  assert.deepEqual([0, most - 1, most, 2 * most].map(isKnown), [false, false, true, true]);
+});
+
 test("longest bounds how long a token may live", async () => {
   for (const kind of [Validator, Bundles]) {
     const it = await kind.open({ ...terms, longest: 60 }), time = now();
