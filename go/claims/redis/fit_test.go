@@ -513,6 +513,8 @@ func TestOptions(t *testing.T) {
 		"no server is named":             {Name: "x"},
 		"on 1 to 64 servers":             {URLs: []string{"redis://h"}, Name: "x", Replicas: 65},
 		"a part of the margin":           {URLs: []string{"redis://h"}, Name: "x", Terms: claims.Terms{Margin: 1, Back: 2}},
+		"at most 1099511627776 s":        {URLs: []string{"redis://h"}, Name: "x", Terms: claims.Terms{Lasts: mostTime + 1}},
+		"must be at most 109951162777":   {URLs: []string{"redis://h"}, Name: "x", Terms: claims.Terms{Margin: mostTime + 1}},
 		"compare for at most":            {URLs: []string{"redis://h"}, Name: "x", Wait: time.Hour},
 		"all addresses are those of Sen": {URLs: []string{"redis://h", "redis+sentinel://h?service=x"}, Name: "x"},
 		"address 2: one before it leads": {URLs: []string{"redis://h/1", "redis://h/2"}, Name: "x"},

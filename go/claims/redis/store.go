@@ -39,6 +39,7 @@ const (
 	askOthers  = 5 * time.Second // between two tries to reach a server that is not there
 	turnWait   = time.Second     // for which a claim tries at first to reach a server, and to compare with it
 	shardCount = 16              // of a Cluster
+	mostTime   = 1 << 40         // seconds: greater ones, and sums of them, have no room in numbers that all members can read
 	mostKnown  = 64              // entries that each look asks for: as many calls of a member are under way together at most
 )
 
@@ -137,6 +138,9 @@ func New(o Options) (*Store, error) {
 	}
 	if o.Replicas < 0 || o.Replicas > mostReplicas {
 		return nil, fmt.Errorf("an entry can be on 1 to %d servers", mostReplicas)
+	}
+	if o.Terms.Lasts > mostTime || o.Terms.Margin > mostTime {
+		return nil, fmt.Errorf("the times must be at most %d s, which the servers can count with", uint64(mostTime))
 	}
 	if o.Terms.Back > o.Terms.Margin {
 		return nil, errors.New("the step back of the store's clock is a part of the margin, and can't be more")

@@ -27,6 +27,7 @@ DEFAULT_AHEAD = 30
 DEFAULT_WAIT = 2.0
 CELL = 33
 _MOST_WAIT = 86_400.0  # (calls of the system take some weeks at the most)
+_MOST_LASTS = 1 << 52  # (servers count in numbers of 53 bits, and add a time)
 _LONGEST_ERROR = 1024
 _LOG = logging.getLogger("svid")
 _WITHDRAWAL = struct.Struct(">32sQ")
@@ -71,6 +72,8 @@ class GroupStore(abc.ABC):
         if not servers or replicas < 1 or not 0 < wait < math.inf:
             raise ValueError("give a server, at least 1 of replicas, and a wait of some seconds")
         self._lasts, margin, self._back = terms
+        if self._lasts >= _MOST_LASTS:
+            raise ValueError("longest is too great for a store: with twice ahead it is below 2**52")
         self._margin = margin + self._back
         self._replicas, self._wait = replicas, min(wait, _MOST_WAIT)
         self._process = os.getpid()

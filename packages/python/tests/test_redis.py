@@ -413,6 +413,12 @@ def test_a_store_has_the_terms_of_a_validator_by_default(kind):
         assert own[name].default == theirs[name].default
 
 
+def test_a_longest_that_servers_can_not_count_with():
+    """A member with it would write what no member can read."""
+    with pytest.raises(ValueError, match="below 2"):
+        RedisStore("redis://h", longest=2**52 - 60, ahead=30)
+
+
 def unwatched(*servers):
     """A store that looks at its servers in calls alone."""
     store = RedisStore.__new__(RedisStore)
