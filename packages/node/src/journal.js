@@ -228,7 +228,7 @@ export class Journal {
     this.#pause = performance.now() + PAUSE;
     await this.#makeCalls();
     this.#wants = false;
-    this.#pause = 0;
+    this.#older = this.#pause = 0;
   }
 
   // Does that beside what is appended.
@@ -292,11 +292,11 @@ export class Journal {
   #answer(call, why) {
     return this.#alone(async () => {
       if (!why && call === SYNC_FOLDER && this.#new) await this.#mark(); // (the journal is closed)
-      const numbers = this.#numbers, before = numbers.newest();
+      const numbers = this.#numbers, before = numbers.newest(), end = Number(numbers.end());
       numbers.answer(!why);
       if (numbers.isEnded()) this.#end(why);
       if (numbers.newest() === before) return;
-      if (this.#file) this.#older = 0;
+      this.#older += end;
       await this.#file?.close(); // (all of it is on the disk)
       this.#file = this.#new;
       this.#new = undefined;

@@ -480,6 +480,25 @@ test("a snapshot that fails is not tried again at each request", async (t) => {
   await journal.close();
 });
 
+test("a snapshot that failed is due again a minute later: the journals before it count too", async (t) => {
+  const journal = await begun(state, { small: 1000 }), real = performance.now.bind(performance);
+  let count = 0, later = 0;
+  t.mock.method(performance, "now", () => real() + later);
+  disturbed((name, _, [path]) => {
+    if (name !== "open" || basename(path) !== "snapshot.new") return;
+    count += 1;
+    if (count === 1) throw failed("ENOSPC");
+  });
+  for (let it = 0; !count; it++) await journal.keep(use(it % 30));
+  await journal.keep(use(30));
+  later = 61_000;
+  await journal.keep(use(31));
+  await until(async () => count === 2 && (await readdir(state)).filter((it) => it.startsWith("journal")).length === 1);
+  await journal.keep(use(32));
+  await journal.close();
+  assert.equal(count, 2);
+});
+
 test("a mark stands after a burst, and at the end", async () => {
   const journal = await begun(state), sizes = async () => (await readFile(join(state, "journal.2"))).toString("latin1").replace(/\0+$/, "").length;
   await journal.keep(use(1));

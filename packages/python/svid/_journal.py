@@ -215,7 +215,7 @@ class _Keeper:
             self._numbers.begin()
             self._pause = time.monotonic() + _PAUSE
             self._make_calls(parts)
-            self._wants, self._pause = False, 0.0
+            self._wants, self._older, self._pause = False, 0, 0.0
 
     def snapshot_soon(self, parts: _Parts) -> None:
         self._stand()
@@ -334,13 +334,12 @@ class _Keeper:
         with self._writing:
             if why is None and call == lib.CALL_SYNC_FOLDER and self._next >= 0:
                 self._mark()  # the journal is closed
-            before = self._numbers.newest
+            before, end = self._numbers.newest, self._numbers.end
             self._numbers.answer(why is None)
             if self._numbers.ended:
                 self._end(why)
             if self._numbers.newest != before:
-                if self._file >= 0:
-                    self._older = 0
+                self._older += end
                 done, self._file, self._next = self._file, self._next, -1
                 _close(done)  # (all of it is on the disk)
                 self._room, self._marked = 0, True

@@ -554,6 +554,26 @@ def test_a_snapshot_is_of_all_journals_before_it(tmp_path, monkeypatch):
             assert not journal.wants_snapshot
 
 
+def test_a_snapshot_that_failed_is_due_again(tmp_path, monkeypatch):
+    """After a pause: the journals before it count too, else a disk with little room fills up."""
+    monkeypatch.setattr(_journal, "_SMALL", 10 * FRAME)
+
+    def fails():
+        raise MemoryError
+
+    with contextlib.closing(svid.Journal(tmp_path)) as journal:
+        journal.snapshot(lambda: [use(1).message])
+        append(journal, *range(12))
+        with pytest.raises(MemoryError):
+            journal.snapshot(fails)
+        append(journal, 12)
+        assert not journal.wants_snapshot
+        journal._keeper._pause = 0.0
+        assert journal.wants_snapshot
+        journal.snapshot(lambda: [use(1).message])
+        assert not journal.wants_snapshot
+
+
 def test_starts_do_not_fill_the_folder(tmp_path):
     for number in range(20):
         with validator(state=tmp_path) as checks:
