@@ -219,9 +219,8 @@ public class PostgresTest {
                 "TestTheLaterTimelineCounts", "TestTwoPrimariesAreNamed", "TestServersThatNobodyLooksAt", "TestEachServerIsLookedAtOnce",
                 "TestAServerThatDoesNotSayWhatItIsLeavesNothing", "TestAContextThatEndsWithItsAnswer",
                 "TestASessionThatCantBeginLeavesNothing", "TestEachCallThatIsUnderWayMayBeTheLast", "TestEachClaimThatWasThereIsKept",
-                "TestConnectionsThatEndedTakeNoMemory",
-                "TestALookIsAsOldAsItsBeginning", "TestALateAnswerAfterASuspension", "TestALookEndsWithItsStore",
-                "TestAConnectionThatBeginsEndsWithItsContext"));
+                "TestConnectionsThatEndedTakeNoMemory", "TestALookIsAsOldAsItsBeginning", "TestALateAnswerAfterASuspension",
+                "TestALookEndsWithItsStore", "TestAConnectionThatBeginsEndsWithItsContext"));
         assertEquals(new TreeSet<>(listed), run);
     }
 
