@@ -292,7 +292,7 @@ func TestWhyAStoreIsNotReached(t *testing.T) {
 	}
 }
 
-// A store that is well takes seconds to open, since the group's members compare what they know. Nobody says that it is not reached.
+// A healthy store takes seconds to open, while the members of the group compare what they know. Nobody logs that it can't be reached.
 func TestAStoreThatTakesItsTime(t *testing.T) {
 	t.Parallel()
 	_, url := stores["Redis"](t)

@@ -57,7 +57,7 @@ func TestTheMessageOfACall(t *testing.T) {
 	}
 }
 
-// A call that was broken off behind its message is none: nobody waits for the answer.
+// A call that breaks off after its message is an error: nobody waits for the answer.
 func TestACallThatIsBrokenOff(t *testing.T) {
 	call := io.MultiReader(bytes.NewReader(Frame([]byte("one"))), iotest.ErrReader(errors.New("the stream was reset")))
 	if got, fault := ReadOne(call, 3); fault != ErrNotWhole {
