@@ -11,7 +11,7 @@ import pytest
 from lives import WARM
 from making import PATIENCE
 
-LIVES = int(os.environ.get("SVID_TEST_LIVES") or 40)
+LIVES = int(os.environ.get("SVID_TEST_LIVES") or 70)
 FOLDER = "/dev/shm"  # (a disk would be forced ten times in each life)
 
 

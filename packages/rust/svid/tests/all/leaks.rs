@@ -1,4 +1,4 @@
-//! What hundreds of lives of guards leave: no thread, no descriptor, and no memory. (This is the one test of its process.)
+//! What a thousand lives of guards leave: no thread, no descriptor, and no memory. (This is the one test of its process.)
 #![cfg(feature = "testing")]
 
 use std::fs;
@@ -9,8 +9,8 @@ use svid::testing::{Clock, Issuer, MemoryStore, Wrong};
 use svid::{Caller, Error, Guard, Journal, LogMember, LogStart, Mode, OpenSsl, Refusal, Said, Sources};
 
 /// So many lives, and how many of them come before the first count.
-const LIVES: (usize, usize) = (400, 100);
-/// How many bytes more there may be after all lives: less than one allocation of each fifth one.
+const LIVES: (usize, usize) = (1000, 100);
+/// How many bytes more there may be after all lives: less than one allocation of each twentieth one.
 const MOST: usize = 1 << 10;
 
 /// `struct mallinfo2` of the C library's malloc, from which Rust, OpenSSL and libsvid have their memory.
