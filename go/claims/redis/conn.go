@@ -24,7 +24,8 @@ var errReplica = errors.New("it is a replica, or does not say that it is a prima
 // A wire lets the deadlines alone that redigo sets for each answer: those of a call count.
 type wire struct{ net.Conn }
 
-func (wire) SetReadDeadline(time.Time) error { return nil }
+func (wire) SetReadDeadline(time.Time) error  { return nil }
+func (wire) SetWriteDeadline(time.Time) error { return nil }
 
 // A conn is a connection, for one call at a time. Close may come at any time.
 type conn struct {
